@@ -1,0 +1,5 @@
+-- Newton's iteration, the cases of `sqrt`, the ways through the other functions, and the starred values.
+mod Newton
+mod RootCases
+mod Ways
+mod Starred

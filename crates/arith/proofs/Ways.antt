@@ -1,0 +1,208 @@
+-- The code's expressions are the definitions: one law for each way through a function, over plain variables.
+use lib.Ieee as Ieee
+use lib.Ieee.{Float, nan, inf, fin, binary64, ofBits, round, neg, fits, up, down}
+use mathlib.Core.Path.{_≡_, refl, sym, ap, _∙_, subst}
+use mathlib.Core.Bool.{Bool, true, false, cond, not, _&&_, _||_, Bool·beq, true≢false}
+use lib.IntN.{ℤ, pos, negsuc}
+use lib.Dec.{T, ltb, eqb, ltb→lt, lt→ltb, eqb→eq, lit<}
+use lib.Pow.{pow-pos}
+use lib.Ieee.Fits.{up-pos}
+use lib.Ieee.Bits.{is-true}
+use native.Mathlib.Nat.{not-suc-le-zero, not-le-of-lt, zero-mul, mul-one, one-mul, pow-succ', mul-le-mul-left, mul-pos, zero-lt-suc, lt-of-lt-of-le, le-add-right}
+use Rattle.arith.proofs.RootCases.{no}
+use Rattle.arith.specs.RealLaws.{finite-is, not-zero, and-left, zero-left, zero-is}
+use Rattle.arith.specs.FlowLaws.{not-yes, not-no, cond-yes, cond-no}
+use Prim.Native.Nat.{ℕ, zero, suc, _+_, _*_, _^_, _≤_, _<_}
+use Rattle.arith.specs.Real.{_⊕_, _⊖_, _⊗_, _⊘_, F, ratio, isFinite, absOf}
+use Rattle.arith.specs.Root.{sqrt}
+use Rattle.arith.specs.Hypot.{hypotOf, scaledRoot}
+use Rattle.arith.specs.Angle.{PI, TAU, factorial, sineSum, cosineSum, halfTurn, doubled, turnOf, sinCosOf, halfTangent, arcSum, octant, quadrant, facing, angleOf, atan2Of, remTauOf}
+use Rattle.arith.specs.declared.angle.Turn.{Turn}
+use Rattle.arith.specs.declared.angle.SinCos.{SinCos}
+use Rattle.arith.specs.declared.angle.SinCos.the-variants as Sines
+use Rattle.arith.specs.declared.angle.Angle.{Angle}
+use Rattle.arith.specs.declared.angle.Angle.the-variants as Angles
+
+-- ---- hypot
+pub scaled-zero : (a b : Float) → Ieee.eq a (F 0) ≡ true → F 0 ≡ scaledRoot a b
+unfolding ofBits round scaledRoot
+scaled-zero a b h = cond-yes _ _ h
+
+pub scaled-else : (a b : Float) {s : Float} → Ieee.eq a (F 0) ≡ false → s ≡ sqrt binary64 (F 0x3ff0_0000_0000_0000 ⊕ b ⊘ a ⊗ (b ⊘ a)) → a ⊗ s ≡ scaledRoot a b
+unfolding ofBits round scaledRoot
+scaled-else a b h e = ap (λ (s : Float). a ⊗ s) e ∙ cond-no _ _ h
+
+-- ---- sine and cosine
+pub half-turn-is : (x : Float) {s c : Float} → s ≡ sineSum x → c ≡ cosineSum x → record { s = s; c = c } ≡ halfTurn x
+unfolding halfTurn
+half-turn-is x {c = c} e f = ap (λ (s : Float). record { s = s; c = c }) e ∙ ap (λ (c : Float). record { s = sineSum x; c = c }) f
+
+pub turn-none : (x : Float) → halfTurn x ≡ turnOf 0 x
+unfolding turnOf
+turn-none x = refl
+
+pub turn-small : (k : ℕ) (x : Float) → Ieee.le x (F 0x3fe0_0000_0000_0000) ≡ true → halfTurn x ≡ turnOf (suc k) x
+unfolding ofBits round turnOf
+turn-small k x h = cond-yes _ _ h
+
+pub turn-large : (k : ℕ) (x : Float) {t : Turn} → Ieee.le x (F 0x3fe0_0000_0000_0000) ≡ false → t ≡ turnOf k (x ⊗ F 0x3fe0_0000_0000_0000) → doubled t ≡ turnOf (suc k) x
+unfolding ofBits round turnOf
+turn-large k x h e = ap doubled e ∙ cond-no _ _ h
+
+pub sines-low : (h : Float) → Ieee.lt h (F 0) ≡ true → Sines.Refused ≡ sinCosOf h
+unfolding ofBits round sinCosOf
+sines-low h p = cond-yes _ _ p
+
+pub sines-in : (h : Float) {t : Turn} → Ieee.lt h (F 0) ≡ false → Ieee.le h (F 0x4010_0000_0000_0000) ≡ true → t ≡ turnOf 3 h → Sines.Value t ≡ sinCosOf h
+unfolding ofBits round sinCosOf
+sines-in h p q e = ap Sines.Value e ∙ cond-yes _ _ q ∙ cond-no _ _ p
+
+pub sines-high : (h : Float) → Ieee.lt h (F 0) ≡ false → Ieee.le h (F 0x4010_0000_0000_0000) ≡ false → Sines.Refused ≡ sinCosOf h
+unfolding ofBits round sinCosOf
+sines-high h p q = cond-no _ _ q ∙ cond-no _ _ p
+
+-- ---- magnitude and finiteness
+no-below : (a d : ℕ) → ltb a (0 * d) ≡ true → ⊥
+no-below a d h = not-suc-le-zero (rw zero-mul at (ltb→lt a (0 * d) (subst T (sym h) tt)))
+
+pub abs-below : (x : Float) → Ieee.lt x (F 0) ≡ true → neg x ≡ absOf x
+unfolding ofBits Ieee.lt neg absOf
+abs-below nan h = no h
+abs-below (inf true) h = refl
+abs-below (inf false) h = no h
+abs-below (fin true m e) h = refl
+abs-below (fin false m e) h = absurd (no-below (m * up e * 1) (down e) h)
+
+two-le : (k : ℕ) → 2 ^ suc k ≡ 1 → ⊥
+two-le k h = not-le-of-lt (lit< tt) (subst (λ (x : ℕ). 2 ≤ x) (sym (pow-succ' 2 k) ∙ h) (mul-le-mul-left 2 (pow-pos k)))
+
+plain-zero : (e : ℤ) → up e * down e ≡ 1 → pos 0 ≡ e
+plain-zero (pos zero) h = refl
+plain-zero (pos (suc k)) h = absurd (two-le k (sym (mul-one (2 ^ suc k)) ∙ h))
+plain-zero (negsuc k) h = absurd (two-le k (sym (one-mul (2 ^ suc k)) ∙ h))
+
+abs-zero-at : (x : Float) → T (fits binary64 x) → Ieee.eq x (fin false 0 (pos 0)) ≡ true → fin false 0 (pos 0) ≡ absOf x
+unfolding fits Ieee.eq absOf
+abs-zero-at nan f h = no h
+abs-zero-at (inf s) f h = no h
+abs-zero-at (fin s zero e) f h = ap (λ (d : ℤ). fin false 0 d) (plain-zero e (eqb→eq (up e * down e) 1 f))
+abs-zero-at (fin s (suc m) e) f h =
+    absurd (not-zero m (up e) (up-pos e) (eqb→eq (suc m * up e * 1) (0 * 1 * down e) (and-left (eqb (suc m * up e * 1) (0 * 1 * down e)) (Bool·beq s false || eqb (suc m * up e * 1) 0) h) ∙ zero-mul (down e)))
+
+pub abs-zero : (x : Float) → T (fits binary64 x) → Ieee.eq x (F 0) ≡ true → F 0 ≡ absOf x
+abs-zero x f h = zero-is ∙ abs-zero-at x f (ap (Ieee.eq x) (sym zero-is) ∙ h)
+
+below-zero : (m : ℕ) (e : ℤ) → Ieee.lt (fin true (suc m) e) (fin false 0 (pos 0)) ≡ true
+unfolding Ieee.lt
+below-zero m e =
+    is-true (ltb 0 (suc m * up e * 1 + 0 * 1 * down e)) (lt→ltb 0 (suc m * up e * 1 + 0 * 1 * down e)
+    (lt-of-lt-of-le (mul-pos (mul-pos (zero-lt-suc m) (up-pos e)) (zero-lt-suc 0)) (le-add-right (suc m * up e * 1) (0 * 1 * down e))))
+
+abs-above-at : (x : Float) → Ieee.lt x (fin false 0 (pos 0)) ≡ false → Ieee.eq x (fin false 0 (pos 0)) ≡ false → x ≡ absOf x
+unfolding absOf
+abs-above-at nan h k = refl
+abs-above-at (inf true) h k = absurd (true≢false (unfold Ieee.lt in h))
+abs-above-at (inf false) h k = refl
+abs-above-at (fin false m e) h k = refl
+abs-above-at (fin true zero e) h k = absurd (true≢false (sym (zero-left e true) ∙ k))
+abs-above-at (fin true (suc m) e) h k = absurd (true≢false (sym (below-zero m e) ∙ h))
+
+pub abs-above : (x : Float) → Ieee.lt x (F 0) ≡ false → Ieee.eq x (F 0) ≡ false → x ≡ absOf x
+abs-above x h k = abs-above-at x (ap (Ieee.lt x) (sym zero-is) ∙ h) (ap (Ieee.eq x) (sym zero-is) ∙ k)
+
+pub finite-yes : (x : Float) {big : Float} → big ≡ inf false → Ieee.lt (neg big) x ≡ true → Ieee.lt x big ≡ isFinite x
+finite-yes x {big} e h = ap (λ (b : Bool). b && Ieee.lt x big) (sym h) ∙ ap (λ (b : Float). Ieee.lt (neg b) x && Ieee.lt x b) e ∙ finite-is x
+
+pub finite-no : (x : Float) {big : Float} → big ≡ inf false → Ieee.lt (neg big) x ≡ false → false ≡ isFinite x
+finite-no x {big} e h = ap (λ (b : Bool). b && Ieee.lt x big) (sym h) ∙ ap (λ (b : Float). Ieee.lt (neg b) x && Ieee.lt x b) e ∙ finite-is x
+
+-- ---- hypot, by the tests on its arguments
+pub hypot-first : (x y : Float) {a : Bool} → a ≡ isFinite x → not a ≡ true → inf false ≡ hypotOf x y
+unfolding hypotOf
+hypot-first x y e h = ap (λ (b : Bool). cond (b && isFinite y) (cond (Ieee.lt (absOf x) (absOf y)) (scaledRoot (absOf y) (absOf x)) (scaledRoot (absOf x) (absOf y))) (inf false)) (sym (not-yes _ h) ∙ e)
+
+pub hypot-second : (x y : Float) {a b : Bool} → a ≡ isFinite x → not a ≡ false → b ≡ isFinite y → not b ≡ true → inf false ≡ hypotOf x y
+unfolding hypotOf
+hypot-second x y e h f g = cond-no _ _ (ap (λ (b : Bool). b && isFinite y) (sym e ∙ not-no _ h) ∙ sym f ∙ not-yes _ g)
+
+module _ (x y : Float) {a b : Bool} {p q : Float} (e : a ≡ isFinite x) (h : not a ≡ false) (f : b ≡ isFinite y) (g : not b ≡ false) (i : p ≡ absOf x) (j : q ≡ absOf y) where
+  both : isFinite x && isFinite y ≡ true
+  both = ap (λ (b : Bool). b && isFinite y) (sym e ∙ not-no _ h) ∙ sym f ∙ not-no _ g
+
+  pub hypot-less : {r : Float} → Ieee.lt p q ≡ true → r ≡ scaledRoot q p → r ≡ hypotOf x y
+  unfolding hypotOf
+  hypot-less t k = k ∙ cond-yes _ _ t ∙ ap (λ (p : Float). cond (Ieee.lt p q) (scaledRoot q p) (scaledRoot p q)) i ∙ ap (λ (q : Float). cond (Ieee.lt (absOf x) q) (scaledRoot q (absOf x)) (scaledRoot (absOf x) q)) j ∙ cond-yes _ _ both
+
+  pub hypot-more : {r : Float} → Ieee.lt p q ≡ false → r ≡ scaledRoot p q → r ≡ hypotOf x y
+  unfolding hypotOf
+  hypot-more t k = k ∙ cond-no _ _ t ∙ ap (λ (p : Float). cond (Ieee.lt p q) (scaledRoot q p) (scaledRoot p q)) i ∙ ap (λ (q : Float). cond (Ieee.lt (absOf x) q) (scaledRoot q (absOf x)) (scaledRoot (absOf x) q)) j ∙ cond-yes _ _ both
+
+-- ---- arc tangent
+pub half-tangent-is : (q : Float) {s : Float} → s ≡ sqrt binary64 (F 0x3ff0_0000_0000_0000 ⊕ q ⊗ q) → q ⊘ (F 0x3ff0_0000_0000_0000 ⊕ s) ≡ halfTangent q
+unfolding ofBits round halfTangent
+half-tangent-is q e = ap (λ (s : Float). q ⊘ (F 0x3ff0_0000_0000_0000 ⊕ s)) e
+
+pub octant-is : (q : Float) {a b r : Float} → a ≡ halfTangent q → b ≡ halfTangent a → r ≡ arcSum b → r ⊗ F 0x4010_0000_0000_0000 ≡ octant q
+unfolding ofBits round octant
+octant-is q e f g = ap (λ (s : Float). s ⊗ F 0x4010_0000_0000_0000) (g ∙ ap arcSum (f ∙ ap halfTangent e))
+
+pub quadrant-steep : (y x : Float) {r : Float} → Ieee.lt x y ≡ true → r ≡ octant (x ⊘ y) → F 0x3ff9_21fb_5444_2d18 ⊖ r ≡ quadrant y x
+unfolding ofBits round Ieee.div quadrant
+quadrant-steep y x h e = ap (λ (r : Float). F 0x3ff9_21fb_5444_2d18 ⊖ r) e ∙ cond-yes _ _ h
+
+pub quadrant-flat : (y x : Float) {r : Float} → Ieee.lt x y ≡ false → r ≡ octant (y ⊘ x) → r ≡ quadrant y x
+unfolding quadrant
+quadrant-flat y x h e = e ∙ cond-no _ _ h
+
+pub facing-left : (v x : Float) → Ieee.lt x (F 0) ≡ true → PI ⊖ v ≡ facing v x
+unfolding ofBits round facing
+facing-left v x h = cond-yes _ _ h
+
+pub facing-right : (v x : Float) → Ieee.lt x (F 0) ≡ false → v ≡ facing v x
+unfolding ofBits round facing
+facing-right v x h = cond-no _ _ h
+
+module _ (y x : Float) {a b v w : Float} (e : a ≡ absOf y) (f : b ≡ absOf x) (g : v ≡ quadrant a b) (h : w ≡ facing v x) where
+  around : w ≡ facing (quadrant (absOf y) (absOf x)) x
+  around = h ∙ ap (λ (v : Float). facing v x) (g ∙ ap (λ (a : Float). quadrant a b) e ∙ ap (λ (b : Float). quadrant (absOf y) b) f)
+
+  pub angle-below : Ieee.lt y (F 0) ≡ true → neg w ≡ angleOf y x
+  unfolding ofBits round angleOf
+  angle-below t = ap neg around ∙ cond-yes _ _ t
+
+  pub angle-above : Ieee.lt y (F 0) ≡ false → w ≡ angleOf y x
+  unfolding ofBits round angleOf
+  angle-above t = around ∙ cond-no _ _ t
+
+pub atan-first : (y x : Float) {a : Bool} → a ≡ isFinite y → not a ≡ true → Angles.Refused ≡ atan2Of y x
+unfolding atan2Of
+atan-first y x e h = cond-no _ _ (ap (λ (b : Bool). b && isFinite x) (sym e ∙ not-yes _ h))
+
+pub atan-second : (y x : Float) {a b : Bool} → a ≡ isFinite y → not a ≡ false → b ≡ isFinite x → not b ≡ true → Angles.Refused ≡ atan2Of y x
+unfolding atan2Of
+atan-second y x e h f g = cond-no _ _ (ap (λ (b : Bool). b && isFinite x) (sym e ∙ not-no _ h) ∙ sym f ∙ not-yes _ g)
+
+module _ (y x : Float) {a b : Bool} (e : a ≡ isFinite y) (h : not a ≡ false) (f : b ≡ isFinite x) (g : not b ≡ false) where
+  finite : isFinite y && isFinite x ≡ true
+  finite = ap (λ (b : Bool). b && isFinite x) (sym e ∙ not-no _ h) ∙ sym f ∙ not-no _ g
+
+  pub atan-zero : Ieee.eq x (F 0) ≡ true → Ieee.eq y (F 0) ≡ true → Angles.Value (F 0) ≡ atan2Of y x
+  unfolding ofBits round atan2Of
+  atan-zero i j = ap Angles.Value (cond-yes _ _ (ap (λ (b : Bool). b && Ieee.eq y (F 0)) i ∙ j)) ∙ cond-yes _ _ finite
+
+  pub atan-axis : {r : Float} → Ieee.eq x (F 0) ≡ true → Ieee.eq y (F 0) ≡ false → r ≡ angleOf y x → Angles.Value r ≡ atan2Of y x
+  unfolding ofBits round atan2Of
+  atan-axis i j k = ap Angles.Value (k ∙ cond-no _ _ (ap (λ (b : Bool). b && Ieee.eq y (F 0)) i ∙ j)) ∙ cond-yes _ _ finite
+
+  pub atan-else : {r : Float} → Ieee.eq x (F 0) ≡ false → r ≡ angleOf y x → Angles.Value r ≡ atan2Of y x
+  unfolding ofBits round atan2Of
+  atan-else i k = ap Angles.Value (k ∙ cond-no _ _ (ap (λ (b : Bool). b && Ieee.eq y (F 0)) i)) ∙ cond-yes _ _ finite
+
+-- ---- remainder
+pub rem-below : (x : Float) → Ieee.lt (Ieee.rem binary64 x TAU) (F 0) ≡ true → Ieee.rem binary64 x TAU ⊕ TAU ≡ remTauOf x
+unfolding ofBits round remTauOf
+rem-below x h = cond-yes _ _ h
+
+pub rem-above : (x : Float) → Ieee.lt (Ieee.rem binary64 x TAU) (F 0) ≡ false → Ieee.rem binary64 x TAU ≡ remTauOf x
+unfolding ofBits round remTauOf
+rem-above x h = cond-no _ _ h

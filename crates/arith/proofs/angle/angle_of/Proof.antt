@@ -1,0 +1,28 @@
+-- `angle::angle_of` meets its contract.
+use Rattle.arith.proofs.Ways.{angle-below, angle-above}
+use borrow.Author.Needs.{needs}
+use Rattle.arith.proofs.angle.angle_of.Statement.{statement}
+use Rattle.arith.proofs.angle.angle_of.Tie as tie
+
+abs-requires : tie.Need-abs-requires
+abs-requires c κs = search needs
+
+abs-requires-2 : tie.Need-abs-requires-2
+abs-requires-2 c κs = search needs
+
+quadrant-requires : tie.Need-quadrant-requires
+quadrant-requires c κs = search needs
+
+facing-requires : tie.Need-facing-requires
+facing-requires c κs = search needs
+
+returns : tie.Need-returns
+returns c = angle-below _ _ (c .before .before .before .before .abs .ensures) (c .before .before .before .abs2 .ensures) (c .before .before .quadrant .ensures) (c .before .facing .ensures) (c .if1 .taken)
+
+returns-2 : tie.Need-returns-2
+returns-2 c = angle-above _ _ (c .before .before .before .before .abs .ensures) (c .before .before .before .abs2 .ensures) (c .before .before .quadrant .ensures) (c .before .facing .ensures) (c .if1 .left)
+
+pub angle-of-spec : {M : Type 1} → statement M
+angle-of-spec =
+    tie.close
+    (tie.spec abs-requires abs-requires-2 quadrant-requires facing-requires returns returns-2)

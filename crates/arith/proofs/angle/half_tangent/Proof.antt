@@ -1,0 +1,14 @@
+-- `angle::half_tangent` meets its contract.
+use Rattle.arith.proofs.Ways.{half-tangent-is}
+use borrow.Author.Needs.{needs}
+use Rattle.arith.proofs.angle.half_tangent.Statement.{statement}
+use Rattle.arith.proofs.angle.half_tangent.Tie as tie
+
+sqrt-requires : tie.Need-sqrt-requires
+sqrt-requires c κs = search needs
+
+returns : tie.Need-returns
+returns c = half-tangent-is _ (c .sqrt .ensures)
+
+pub half-tangent-spec : {M : Type 1} → statement M
+half-tangent-spec = tie.close (tie.spec sqrt-requires returns)

@@ -1,0 +1,13 @@
+-- `number::max` meets its contract.
+use Rattle.arith.specs.FlowLaws.{cond-yes, cond-no}
+use Rattle.arith.proofs.number.max.Statement.{statement}
+use Rattle.arith.proofs.number.max.Tie as tie
+
+returns : tie.Need-returns
+returns c = cond-yes _ _ (c .if1 .taken)
+
+returns-2 : tie.Need-returns-2
+returns-2 c = cond-no _ _ (c .if1 .left)
+
+pub max-spec : {M : Type 1} → statement M
+max-spec = tie.close (tie.spec returns returns-2)

@@ -1,0 +1,79 @@
+-- `root::root_bits` meets its contract, by `Bits.antt`. Assumes nothing.
+use mathlib.Core.Path.{_≡_, sym, ap, _∙_}
+use Prim.Native.Nat.{ℕ, _-_, _*_, _/_, _%_, _≤_, _<_}
+use native.Mathlib.Nat.{lt-of-lt-of-le, le-trans, mod-lt}
+use native.Mathlib.Omega.{arith}
+use lib.Count.{leadingZeros}
+use lib.Dec.{lit<, lit≤}
+use lib.Ieee.{binary64}
+use Rattle.arith.specs.Root.{roundRoot}
+use Rattle.arith.specs.Laws.RootBits.{Shifted, shifted, sqrt-low, sqrt-high}
+use borrow.Author.Needs.{needs}
+use Rattle.arith.proofs.root.root_bits.Statement.{statement}
+use Rattle.arith.proofs.root.root_bits.Tie as tie
+
+up : (c : tie.Then1) → Shifted (c .before .args .b % 4503599627370496) (leadingZeros 64 (c .before .args .b % 4503599627370496))
+up c = shifted (c .before .args .b % 4503599627370496) (digits-pos (c .before .args .b) (c .before .pre .0) (c .if1 .taken)) (mod-lt (c .before .args .b) (lit< tt))
+  where
+    digits-pos : (b : ℕ) → 0 < b → b / 4503599627370496 ≡ 0 → 0 < b % 4503599627370496
+    digits-pos b p e = omega arith
+
+small : (z : ℕ) → z ≤ 63 → z - 11 < 64
+small z h = omega arith
+
+exponents : (z : ℕ) → z ≤ 63 → (52 ≤ 1085 - z) × (1085 - z < 4000)
+exponents z h = (omega arith, omega arith)
+
+sub-join : tie.Need-sub-join
+sub-join c = up c .z-lo
+
+cast-join : tie.Need-cast-join
+cast-join c = record { fits = lt-of-lt-of-le (small _ (up c .z-hi)) (lit≤ tt) }
+
+shl-join : tie.Need-shl-join
+shl-join c = small _ (up c .z-hi)
+
+sub-join-2 : tie.Need-sub-join-2
+sub-join-2 c = le-trans (up c .z-hi) (lit≤ tt)
+
+cast-join-2 : tie.Need-cast-join-2
+cast-join-2 c = search needs
+
+join-requires : tie.Need-join-requires
+join-requires c κs = (up c .lo, up c .hi, exponents _ (up c .z-hi) .0, exponents _ (up c .z-hi) .1)
+
+add-join : tie.Need-add-join
+add-join c = search needs
+
+add-join-2 : tie.Need-add-join-2
+add-join-2 c = search needs
+
+join-requires-2 : tie.Need-join-requires-2
+join-requires-2 c κs = search needs
+
+returns : tie.Need-returns
+returns c =
+    let at-start = c .before .before in
+    let b = at-start .args .b in
+    (c .join .ensures .0, c .join .ensures .1 ∙ ap (λ (x : ℕ). roundRoot binary64 x) (up (c .before) .same) ∙ sym (sqrt-low b (at-start .pre .0) (at-start .pre .1) (c .before .if1 .taken)))
+
+returns-2 : tie.Need-returns-2
+returns-2 c =
+    let at-start = c .before .before in
+    (c .join2 .ensures .0, c .join2 .ensures .1 ∙ sym (sqrt-high (at-start .args .b) (at-start .pre .1) (c .before .if1 .left)))
+
+pub root-bits-spec : {M : Type 1} → statement M
+root-bits-spec =
+    tie.close
+    (tie.spec
+    sub-join
+    cast-join
+    shl-join
+    sub-join-2
+    cast-join-2
+    join-requires
+    add-join
+    add-join-2
+    join-requires-2
+    returns
+    returns-2)

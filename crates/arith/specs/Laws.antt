@@ -1,0 +1,24 @@
+-- Laws of the definitions, proved, which this crate's proofs and other crates' cite.
+pub mod Constants
+pub mod ExactSums
+pub mod RootHalves
+pub mod RootLaws
+pub mod RootBits
+pub mod RootUnits
+pub mod Spacing
+pub mod RootNearest
+pub mod RatioNearest
+pub mod RootError
+pub mod Magnitude
+pub mod HypotError
+pub mod SineError
+pub mod AtanTests
+pub mod AtanSums
+pub mod AtanDouble
+pub mod AtanHalf
+pub mod AtanArc
+pub mod AtanTurn
+pub mod AtanOctant
+pub mod AtanSeen
+pub mod AtanAimed
+pub mod AtanNear

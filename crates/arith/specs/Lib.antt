@@ -1,0 +1,10 @@
+-- Definitions that a reader must believe: Real, Root, Hypot, Angle, ExactSums and Flow. The others are laws of them.
+pub mod Real
+pub mod Root
+pub mod Hypot
+pub mod Angle
+pub mod ExactSums
+pub mod Flow
+pub mod FlowLaws
+pub mod RealLaws
+pub mod Laws

@@ -1,0 +1,50 @@
+-- Laws of `Real`: finiteness and magnitude by comparison, as src/number.rt has them.
+use lib.Ieee as Ieee
+use lib.Ieee.{Float, nan, inf, fin, binary64, ofBits, up, down, eq}
+use mathlib.Core.Path.{_≡_, refl, sym, ap, _∙_, subst}
+use mathlib.Core.Bool.{Bool, true, false, cond, not, _&&_, _||_, Bool·beq, true≢false}
+use Prim.Native.Nat.{ℕ, zero, suc, _*_, _<_}
+use native.Mathlib.Nat.{zero-mul, mul-one, mul-pos, zero-lt-suc, lt-irrefl}
+use lib.IntN.{ℤ, pos}
+use lib.Dec.{T, eqb, eqb→eq, not-T}
+use lib.Ieee.Fits.{up-pos, and-l}
+use lib.Ieee.Bits.{is-false}
+use Rattle.arith.specs.Real.{F, isFinite, absOf}
+
+-- -infinity < x < infinity
+pub finite-is : (x : Float) → Ieee.lt (Ieee.neg (inf false)) x && Ieee.lt x (inf false) ≡ isFinite x
+unfolding Ieee.lt Ieee.neg isFinite
+finite-is nan = refl
+finite-is (inf true) = refl
+finite-is (inf false) = refl
+finite-is (fin s m e) = refl
+
+-- ---- comparison with 0
+pub zero-is : ofBits binary64 0 ≡ fin false 0 (pos 0)
+unfolding ofBits
+zero-is = refl
+
+pub not-zero : (m u : ℕ) → 0 < u → suc m * u * 1 ≡ 0 → ⊥
+not-zero m u h e = lt-irrefl 0 (subst (λ (x : ℕ). 0 < x) (sym (mul-one (suc m * u)) ∙ e) (mul-pos (zero-lt-suc m) h))
+
+pub and-left : (a b : Bool) → a && b ≡ true → T a
+and-left true b h = tt
+and-left false b h = absurd (true≢false (sym h))
+
+pub zero-left : (e : ℤ) (s : Bool) → eq (fin s 0 e) (fin false 0 (pos 0)) ≡ true
+unfolding eq
+zero-left e s = go (0 * up e * 1) (0 * 1 * down e) (ap (λ (x : ℕ). x * 1) (zero-mul (up e))) (zero-mul (down e))
+  where
+    or-true : (b : Bool) → (b || true) ≡ true
+    or-true true = refl
+    or-true false = refl
+
+    go : (a b : ℕ) → a ≡ 0 → b ≡ 0 → (eqb a b && (Bool·beq s false || eqb a 0)) ≡ true
+    go a b p q = ap (λ (x : ℕ). eqb x b && (Bool·beq s false || eqb x 0)) p ∙ ap (λ (x : ℕ). eqb 0 x && (Bool·beq s false || true)) q ∙ or-true (Bool·beq s false)
+
+pub not-zero-left : (m : ℕ) (e : ℤ) (s : Bool) → eq (fin s (suc m) e) (fin false 0 (pos 0)) ≡ false
+unfolding eq
+not-zero-left m e s =
+    let a = eqb (suc m * up e * 1) (0 * 1 * down e) in
+    let b = Bool·beq s false || eqb (suc m * up e * 1) 0 in
+    is-false (a && b) (not-T (a && b) (λ t. not-zero m (up e) (up-pos e) (eqb→eq (suc m * up e * 1) (0 * 1 * down e) (and-l a b t) ∙ zero-mul (down e))))

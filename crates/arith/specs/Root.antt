@@ -1,0 +1,43 @@
+-- IEEE 754's squareRoot, in the manner of `lib.Ieee`. Definitions only; what they mean is proved in `Laws/` (`RootNearest`: nearest, no tie).
+-- `root n` is the largest r with r * r ≤ n (`root-is`). `sqrt f x` is the value of the format f that is nearest to the square root of x, a tie to the even one:
+-- NaN and what is below zero give `nan`, and ±0 and +infinity give themselves. Assumes nothing.
+use Prim.Native.Nat.{ℕ, zero, suc, _+_, _-_, _*_, _/_, _^_, _<_, _≤_, compare}
+use mathlib.Core.Bool.{Bool, true, false, cond}
+use lib.Dec.{leb}
+use lib.Ieee.{Float, nan, inf, fin, Format, prec, low, up, down, size, units, nearest}
+
+-- r with its last binary digit raised where the square still is at most n
+abbrev pub raise : ℕ → ℕ → ℕ
+raise n r = cond (leb ((r + 1) * (r + 1)) n) (r + 1) r
+
+-- The whole square root of an n of at most d digits to the base 4, digit by digit.
+unfoldable pub rootIn : ℕ → ℕ → ℕ
+rootIn zero n = 0
+rootIn (suc d) n = let r = 2 * rootIn d (n / 4) in raise n r
+
+unfoldable pub root : ℕ → ℕ
+unfolding rootIn size
+root n = rootIn (size n) n
+
+-- v is a number in units of the square of the format's smallest value, so its square root is in units of the smallest value.
+-- Of the root's whole part the format keeps the `prec` leading digits and drops k. The result is a multiple of 2 ^ k units: q, or the next one up, by how the
+-- root compares with the middle between the two, (2 * q + 1) * 2 ^ k / 2. Both sides of that comparison are squared.
+unfoldable pub roundRoot : Format → ℕ → Float
+unfolding root size units
+roundRoot f v =
+    let k = size (root v) - prec f in
+    let u = 2 ^ k * 2 ^ k in
+    let q = root (v / u) in
+    units f false (nearest q (compare (4 * v) ((2 * q + 1) * (2 * q + 1) * u))) k
+
+-- A value that fits is a whole number of the format's smallest value 1 / 2 ^ low, so the division is exact.
+unfoldable pub sqrt : Format → Float → Float
+unfolding roundRoot
+sqrt f nan = nan
+sqrt f (inf s) = cond s nan (inf false)
+sqrt f (fin s zero e) = fin s zero e
+sqrt f (fin s (suc m) e) = cond s nan (roundRoot f (suc m * up e * 2 ^ low f / down e * 2 ^ low f))
+
+-- r is the whole number nearest to the square root of n: (2 * r - 1)² < 4 * n < (2 * r + 1)², in whole numbers. There is no tie.
+abbrev pub NearRoot : ℕ → ℕ → Type 0
+NearRoot n r = (r * r < n + r) × (n ≤ r * r + r)

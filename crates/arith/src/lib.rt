@@ -1,0 +1,4 @@
+// The archive's arithmetic: one fixed formula for each function, so that every rerun gives the same bits.
+pub mod angle;
+pub mod number;
+pub mod root;

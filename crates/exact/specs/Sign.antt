@@ -1,0 +1,77 @@
+-- A product of values that are not negative is not negative, and |x|.
+use mathlib.Core.Path.{_≡_, refl, sym, ap, ap₂, _∙_, subst}
+use mathlib.Core.Bool.{Bool, true, false, not, cond}
+use mathlib.Core.Quot.{Quot·sound}
+use Prim.Native.Nat.{ℕ, zero, suc, _+_, _-_, _*_, _/_, _^_, _≤_, _<_}
+use native.Mathlib.Nat.{mul-pos, zero-lt-suc, le-of-mul-le-mul-right, zero-mul, mul-zero}
+use native.Mathlib.Omega.{arith}
+use lib.IntN.{ℤ, pos, negsuc}
+use lib.Dec.{T, ltb, lit<}
+use lib.Pow.{pow-pos}
+use lib.Ieee.{Float, nan, inf, fin, Format, binary64, prec, emax, low, up, down, unlike, odd, units, round, neg, mul}
+use lib.Ieee.Fits.{up-pos, down-pos, round-is}
+use lib.Ieee.Exact.{HasValue}
+use lib.Ieee.Order.{drop, kept}
+use lib.Ieee.Scale.{finite, grid}
+use Rattle.exact.specs.Rat.{ℚ, Fr, mk, qn, whole, negq, leq, _≤q_, ≤-mk, mk-≤, ≤q-refl}
+use Rattle.exact.specs.Abs.{0≤}
+use Rattle.exact.specs.Grid.{Near, kept-near}
+use Rattle.exact.specs.Val.{val, sg, sgF, has→val, round-has}
+
+pub sg-nn : (a c : ℕ) (C : 0 < c) → 0≤ (sg false a c C)
+sg-nn a c C = ≤-mk (whole 0 0) (sgF false a c C) (omega arith)
+
+odd-nn : (d q k l : ℕ) → 0≤ (val (odd d false q k l))
+unfolding odd
+odd-nn d zero k l = sg-nn (0 * 2 ^ 0) 1 (down-pos (pos 0))
+odd-nn d (suc q) k l = sg-nn _ _ _
+
+units-nn : (q k : ℕ) → 0≤ (val (units binary64 false q k))
+unfolding units
+units-nn q k = go (ltb (q * 2 ^ k) (2 ^ 2098))
+  where
+    go : (b : Bool) → 0≤ (val (cond b (odd 54 false q k 1074) (inf false)))
+    go true = odd-nn 54 q k 1074
+    go false = ≤q-refl (qn 0)
+
+round-nn : (num den : ℕ) → 0≤ (val (round binary64 false num den))
+round-nn num den = subst (λ z. 0≤ (val z)) (sym (round-is binary64 false num den)) (units-nn (kept 53 (num * 2 ^ 1074) den) (drop 53 (num * 2 ^ 1074) den))
+
+-- 0 rounds to 0, of either sign
+grid-zero : (den : ℕ) → 0 < den → grid binary64 0 den ≡ 0
+grid-zero den D = go (2 ^ 52) (grid binary64 0 den) (kept-near 53 (0 * 2 ^ 1074) den (zero-lt-suc 52) D) (pow-pos 52)
+  where
+    go : (h g : ℕ) → Near h 0 den g → 0 < h → g ≡ 0
+    go h zero x H = refl
+    go h (suc g) x H = absurd (no (h * den) (g * den * h) (x .0) (mul-pos H D))
+      where
+        no : (a b : ℕ) → suc g * den * (h * 2) ≤ 0 * (h * 2) + (0 + h * den) → 0 < h * den → ⊥
+        no a b p q = omega arith
+
+round-zero : (s : Bool) (den : ℕ) → 0 < den → val (round binary64 s 0 den) ≡ qn 0
+round-zero s den D =
+    has→val (round binary64 s 0 den) s 0 (2 ^ 1074) (pow-pos 1074) (subst (λ (g : ℕ). HasValue (round binary64 s 0 den) s g (2 ^ 1074)) (grid-zero den D) (round-has s 0 den (subst (λ (g : ℕ). g < 2 ^ 2098) (sym (grid-zero den D)) (pow-pos 2098)))) .1
+    ∙ both s
+  where
+    both : (s : Bool) → sg s 0 (2 ^ 1074) (pow-pos 1074) ≡ qn 0
+    both false = Quot·sound refl
+    both true = Quot·sound refl
+
+zero-of : (a c : ℕ) (C : 0 < c) → 0≤ (sg true a c C) → a ≡ 0
+zero-of a c C h = let k = mk-≤ (whole 0 0) (sgF true a c C) h in omega arith
+
+pub mul-nn : (x y : Float) → T (finite x) → T (finite y) → 0≤ (val x) → 0≤ (val y) → 0≤ (val (mul binary64 x y))
+unfolding mul
+mul-nn nan y p q h k = absurd p
+mul-nn (inf s) y p q h k = absurd p
+mul-nn (fin s m e) nan p q h k = absurd q
+mul-nn (fin s m e) (inf t) p q h k = absurd q
+mul-nn (fin false m e) (fin false n d) p q h k = round-nn (m * up e * (n * up d)) (down e * down d)
+mul-nn (fin true m e) (fin t n d) p q h k = at-zero (unlike true t) (m * up e) (n * up d) (down e * down d) (mul-pos (down-pos e) (down-pos d)) (zero-of (m * up e) (down e) (down-pos e) h)
+  where
+    at-zero : (s : Bool) (a b c : ℕ) → 0 < c → a ≡ 0 → 0≤ (val (round binary64 s (a * b) c))
+    at-zero s a b c C z = subst (λ (v : ℕ). 0≤ (val (round binary64 s v c))) (sym (ap (λ (v : ℕ). v * b) z ∙ zero-mul b)) (subst 0≤ (sym (round-zero s c C)) (≤q-refl (qn 0)))
+mul-nn (fin false m e) (fin true n d) p q h k = at-zero true (m * up e) (n * up d) (down e * down d) (mul-pos (down-pos e) (down-pos d)) (zero-of (n * up d) (down d) (down-pos d) k)
+  where
+    at-zero : (s : Bool) (a b c : ℕ) → 0 < c → b ≡ 0 → 0≤ (val (round binary64 s (a * b) c))
+    at-zero s a b c C z = subst (λ (v : ℕ). 0≤ (val (round binary64 s v c))) (sym (ap (λ (v : ℕ). a * v) z ∙ mul-zero a)) (subst 0≤ (sym (round-zero s c C)) (≤q-refl (qn 0)))

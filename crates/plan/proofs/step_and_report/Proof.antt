@@ -1,0 +1,70 @@
+-- `step_and_report`: the counted records are lent to the step and to the report.
+use mathlib.Core.Path.{_≡_}
+use lib.ListN.{length}
+use Rattle.plan.proofs.Parts.{part-within, part-length, back-within, back-length}
+use borrow.Author.Needs.{needs}
+use Rattle.plan.proofs.step_and_report.Statement.{statement}
+use Rattle.plan.proofs.step_and_report.Tie as tie
+
+-- the array in the plan
+long : (c : tie.Start) → length (c .args .plan .bodies) ≡ 416
+long c = search needs
+
+mul-used : tie.Need-mul-used
+mul-used c = search needs
+
+array-borrow-prefix-bodies : tie.Need-array-borrow-prefix-bodies
+array-borrow-prefix-bodies c =
+    let start = c .before .before .before .before .before in
+    part-within (start .args .plan .bodies) (start .args .plan .«body_count») (long start) (start .pre)
+
+slice-aggregate-solve : tie.Need-slice-aggregate-solve
+slice-aggregate-solve c =
+    let start = c .before .before .before .before .before .before in
+    part-length (start .args .plan .bodies) (start .args .plan .«body_count») (long start) (start .pre)
+
+solve-requires : tie.Need-solve-requires
+solve-requires c κs = search needs
+
+number-requires : tie.Need-number-requires
+number-requires c κs = search needs
+
+array-share-prefix-bodies : tie.Need-array-share-prefix-bodies
+array-share-prefix-bodies c =
+    let at-solve = c .before .before .before .before in
+    let start = at-solve .before .before .before .before .before .before .before .before in
+    back-within (start .args .plan .bodies) (start .args .plan .«body_count») (long start) (start .pre) (at-solve .solve .last .0) (at-solve .solve .kept .0)
+
+slice-aggregate-report : tie.Need-slice-aggregate-report
+slice-aggregate-report c =
+    let at-solve = c .before .before .before .before .before in
+    let start = at-solve .before .before .before .before .before .before .before .before in
+    back-length (start .args .plan .bodies) (start .args .plan .«body_count») (long start) (start .pre) (at-solve .solve .last .0) (at-solve .solve .kept .0)
+
+report-requires : tie.Need-report-requires
+report-requires c κs = search needs
+
+same-length : tie.Need-same-length
+same-length c = search needs
+
+same-length-2 : tie.Need-same-length-2
+same-length-2 c = search needs
+
+returns : tie.Need-returns
+returns c = search needs
+
+pub step-and-report-spec : {M : Type 1} → statement M
+step-and-report-spec =
+    tie.close
+    (tie.spec
+    mul-used
+    array-borrow-prefix-bodies
+    slice-aggregate-solve
+    solve-requires
+    number-requires
+    array-share-prefix-bodies
+    slice-aggregate-report
+    report-requires
+    same-length
+    same-length-2
+    returns)

@@ -1,0 +1,5 @@
+pub mod File
+pub mod FileLaws
+pub mod FirstBytes
+pub mod Text
+pub mod TextLaws

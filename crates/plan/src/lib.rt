@@ -1,0 +1,52 @@
+// A plan file read, stepped and reported.
+pub mod reader;
+pub mod report;
+
+ghost use Prim.Native.Nat.{_≤_};
+ghost use Rattle.io.specs.Counts.{Counts};
+use reader::Plan;
+
+// Room enough for every answer: the first line, and sixteen bodies.
+pub const ROOM: usize = 3938;
+
+// Puts the answer to a plan file at the head of `out`, and answers its length. Where `out` is shorter than `ROOM` nothing
+// is done, and the answer is 0.
+pub fn pose(file: &[u8], scratch: &mut [f64], out: &mut [u8]) -> usize
+    ensures { λ r. ⌜ Counts r (now (out .exit)) ⌝ }
+{
+    if out.len() < ROOM {
+        return 0;
+    }
+    let reading = reader::read(file, reader::empty());
+    let outcome = reading.outcome;
+    let number = reader::number(outcome);
+    if number == 0 {
+        return step_and_report(reading.plan, scratch, out);
+    }
+    report::report(number, 0, 0, &[], out)
+}
+
+fn step_and_report(plan: Plan, scratch: &mut [f64], out: &mut [u8]) -> usize
+    requires { ⌜ plan .«body_count» ≤ 16 ⌝ }
+    ensures { λ r. ⌜ Counts r (now (out .exit)) ⌝ }
+{
+    let mut bodies = plan.bodies;
+    let joints = plan.joints;
+    let used = 26 * plan.body_count;
+    let answer = step::solve(
+        &mut bodies[..used],
+        joints,
+        plan.joint_count,
+        plan.dt,
+        scratch,
+    );
+    let outcome = answer.outcome;
+    let number = step::number(outcome);
+    report::report(
+        number,
+        answer.nonlinear,
+        answer.linear,
+        &bodies[..used],
+        out,
+    )
+}

@@ -1,0 +1,164 @@
+-- Rows appended one behind the other: what stands in the slice then is the definitions' list.
+use Prim.Native.Nat.{ℕ, _+_, _*_, _-_, _≤_, _<_}
+use mathlib.Core.Path.{_≡_, refl, sym, _∙_, ap, subst}
+use mathlib.Core.Bool.{Bool, true, false, cond, not}
+use mathlib.Core.List.{List, [], _∷_, _++_, append-assoc, append-nil}
+use native.Mathlib.Omega.{arith}
+use lib.Ieee as Ieee
+use lib.Ieee.{Float}
+use lib.ListN.{length}
+use Rattle.arith.specs.Real.{F, ratio}
+use Rattle.arith.specs.Flow.{Turn, go, stop, _>>=_, tab, returnIf}
+use Rattle.arith.specs.FlowLaws.{then-go, then-stop}
+use Rattle.rows.specs.declared.geometry.Joint.{Joint}
+use Rattle.rows.specs.declared.geometry.Kind.{Kind}
+use Rattle.rows.specs.declared.geometry.Kind.the-variants.{ConeTwist}
+use Rattle.rows.specs.declared.geometry.EqualityRow.{EqualityRow}
+use Rattle.rows.specs.declared.geometry.RowAnswer.{RowAnswer}
+use Rattle.rows.specs.declared.geometry.RowAnswer.the-variants as Row
+use Rattle.rows.specs.declared.geometry.Written.{Written}
+use Rattle.rows.specs.declared.geometry.Written.the-variants as Written
+use Rattle.rows.specs.Fault.{Fault, nonConvergent, arithmeticOverflow, Result}
+use Rattle.rows.specs.Geometry.{rowIf, oneIf, rowCount}
+use Rattle.rows.proofs.Constants.{zero-is}
+use Rattle.rows.specs.View.{rowAt, rowsAt, Out, Kept}
+use Rattle.rows.specs.Answer.{writtenAs}
+use Rattle.rows.specs.Append.{rowAs, countOf, appended, There, Appends, Adds, followedBy}
+use Rattle.rows.specs.Region.{kept-refl, kept-then, kept-more, kept-row, tab-ext, tab-more}
+
+-- ---- one answer
+pub append-value : {i n : ℕ} {s t : List Float} {answer : RowAnswer} {row : EqualityRow} → answer ≡ Row.Value row
+    → (Kept (λ k. Out (i + 14 * n) 14 k) s t) × (rowAt t (i + 14 * n) (row .a) (row .b) ≡ row)
+    → Appends i (Written.Rows n) answer s t (Written.Rows (n + 1))
+unfolding There
+append-value {i} {n} {s} {t} e p =
+    subst (λ (x : RowAnswer). Appends i (Written.Rows n) x s t (Written.Rows (n + 1))) (sym e) (record { kept = p .0; there = p .1; is = refl })
+
+module _ {i n : ℕ} {s : List Float} {answer : RowAnswer} where
+  pub append-none : {r : Written} (x : RowAnswer) → There i s (Written.Rows n) x → answer ≡ x → r ≡ appended (Written.Rows n) x → Appends i (Written.Rows n) answer s s r
+  append-none {r} x h e q = subst (λ (x : RowAnswer). Appends i (Written.Rows n) x s s r) (sym e) (record { kept = kept-refl _ s; there = h; is = q })
+
+pub append-rows : {i n : ℕ} {s t : List Float} {answer : RowAnswer} {w r : Written} → w ≡ Written.Rows n → Appends i (Written.Rows n) answer s t r → Appends i w answer s t r
+append-rows {i} {n} {s} {t} {answer} {w} {r} e p = subst (λ (x : Written). Appends i x answer s t r) (sym e) p
+
+pub append-nonconvergent : {i : ℕ} {s : List Float} {answer : RowAnswer} {w : Written} → w ≡ Written.NonConvergent → Appends i w answer s s Written.NonConvergent
+unfolding There
+append-nonconvergent {i} {s} {answer} e =
+    subst (λ (x : Written). Appends i x answer s s Written.NonConvergent) (sym e) (record { kept = kept-refl _ s; there = tt; is = refl })
+
+pub append-overflow : {i : ℕ} {s : List Float} {answer : RowAnswer} {w : Written} → w ≡ Written.ArithmeticOverflow → Appends i w answer s s Written.ArithmeticOverflow
+unfolding There
+append-overflow {i} {s} {answer} e =
+    subst (λ (x : Written). Appends i x answer s s Written.ArithmeticOverflow) (sym e) (record { kept = kept-refl _ s; there = tt; is = refl })
+
+pub count-rows : {w : Written} {n : ℕ} → w ≡ Written.Rows n → countOf w ≡ n
+count-rows e = ap countOf e
+
+appended-most : (w : Written) (answer : RowAnswer) → countOf (appended w answer) ≤ countOf w + 1
+appended-most (Written.Rows n) (Row.Value row) = omega arith
+appended-most (Written.Rows n) Row.Free = omega arith
+appended-most (Written.Rows n) Row.NonConvergent = omega arith
+appended-most (Written.Rows n) Row.ArithmeticOverflow = omega arith
+appended-most Written.NonConvergent answer = omega arith
+appended-most Written.ArithmeticOverflow answer = omega arith
+
+pub appends-most : {i : ℕ} {s t : List Float} {w r : Written} {answer : RowAnswer} → Appends i w answer s t r → countOf r ≤ countOf w + 1
+appends-most {w = w} {r = r} {answer = answer} e = subst (λ (x : Written). countOf x ≤ countOf w + 1) (sym (e .is)) (appended-most w answer)
+
+-- ---- the bodies of a row
+-- a row that d gives is between a and b
+pub record Mine (a b : ℕ) (d : Result EqualityRow) : Type 0 where
+  pub between : (row : EqualityRow) → go row ≡ d → (row .a ≡ a) × (row .b ≡ b)
+
+abbrev given : EqualityRow → Result EqualityRow
+given row = go row
+
+a-is : (x row : EqualityRow) → given x ≡ given row → x .a ≡ row .a
+a-is x row e = cc
+
+b-is : (x row : EqualityRow) → given x ≡ given row → x .b ≡ row .b
+b-is x row e = cc
+
+pub mine-go : {a b : ℕ} (row : EqualityRow) → row .a ≡ a → row .b ≡ b → Mine a b (go row)
+mine-go row ea eb = record { between = λ x e. (a-is x row e ∙ ea, b-is x row e ∙ eb) }
+
+pub mine-stop : {a b : ℕ} (f : Fault) → Mine a b (stop f)
+mine-stop f = record { between = λ x e. let z : _≡_ {A = ℕ} 0 1 = cc in absurd (omega arith) }
+
+pub mine-then : {A : Type 0} {a b : ℕ} (m : Result A) (f : A → Result EqualityRow) → ((x : A) → Mine a b (f x)) → Mine a b (m >>= f)
+unfolding _>>=_
+mine-then (go x) f h = h x
+mine-then (stop e) f h = mine-stop e
+
+-- an answer with that row
+mine-row : {a b : ℕ} (row : EqualityRow) (locked : Bool) (D : Result EqualityRow) → Mine a b D → go (row ∷ []) ≡ rowIf locked D → (row .a ≡ a) × (row .b ≡ b)
+unfolding _>>=_
+mine-row row true (go x) m e = m .between row (cc)
+mine-row row true (stop f) m e = let z : _≡_ {A = ℕ} 0 1 = cc in absurd (omega arith)
+mine-row row false D m e = let z : _≡_ {A = ℕ} 0 1 = cc in absurd (omega arith)
+
+-- ---- one row more
+row-there : (t : List Float) (p a b : ℕ) {row : EqualityRow} → rowAt t p (row .a) (row .b) ≡ row → (row .a ≡ a) × (row .b ≡ b) → rowAt t p a b ≡ row
+row-there t p a b {row} e m = ap (λ (x : ℕ). rowAt t p x b) (sym (m .0)) ∙ ap (λ (y : ℕ). rowAt t p (row .a) y) (sym (m .1)) ∙ e
+
+module _ (a b i : ℕ) (t u : List Float) (locked : Bool) (D : Result EqualityRow) (mine : Mine a b D) where
+  same-rows : (n : ℕ) → Kept (λ k. Out (i + 14 * n) 14 k) t u → (j : ℕ) → j < n → rowAt u (i + 14 * j) a b ≡ rowAt t (i + 14 * j) a b
+  same-rows n k j q = kept-row k (i + 14 * j) a b (λ m x y. omega arith)
+
+  more : (w : Written) (answer : RowAnswer) {d : Result (List EqualityRow)} → Kept (λ k. Out (i + 14 * countOf w) 14 k) t u → There i u w answer
+      → writtenAs w t i a b ≡ d → rowAs answer ≡ rowIf locked D → writtenAs (appended w answer) u i a b ≡ followedBy d (rowIf locked D)
+  unfolding There
+  more (Written.Rows n) (Row.Value row) k h e l =
+      ap go (tab-more n (same-rows n k) (row-there u (i + 14 * n) a b h (mine-row row locked D mine l))) ∙ then-go _ l ∙ then-go _ e
+  more (Written.Rows n) Row.Free k h e l =
+      ap go (tab-ext n (same-rows n k) ∙ sym (append-nil _)) ∙ then-go _ l ∙ then-go _ e
+  more (Written.Rows n) Row.NonConvergent k h e l = then-stop _ l ∙ then-go _ e
+  more (Written.Rows n) Row.ArithmeticOverflow k h e l = then-stop _ l ∙ then-go _ e
+  more Written.NonConvergent answer k h e l = then-stop _ e
+  more Written.ArithmeticOverflow answer k h e l = then-stop _ e
+
+-- nothing yet
+pub adds-none : (a b i k : ℕ) (s : List Float) → Adds a b i k s s (Written.Rows 0) (go [])
+unfolding tab
+adds-none a b i k s = record { kept = kept-refl _ s; within = omega arith; is = refl }
+
+-- an answer more
+pub adds-more : {a b i k : ℕ} {s t u : List Float} {w r : Written} {answer : RowAnswer} {d : Result (List EqualityRow)} (locked : Bool) (D : Result EqualityRow) → k ≤ 5
+    → Adds a b i k s t w d → Appends i w answer t u r → rowAs answer ≡ rowIf locked D → Mine a b D → Adds a b i (k + 1) s u r (followedBy d (rowIf locked D))
+adds-more {a} {b} {i} {k} {s} {t} {u} {w} {r} {answer} {d} locked D h p q l m = record {
+  kept = kept-then (p .kept) (q .kept) (λ j x. out j x);
+  within = within (p .within) (appends-most q);
+  is = ap (λ (x : Written). writtenAs x u i a b) (q .is) ∙ more a b i t u locked D m w answer (q .kept) (q .there) (p .is) l;
+}
+  where
+    out : (j : ℕ) → Out i 84 j → Out (i + 14 * countOf w) 14 j
+    out j x =
+        let m : countOf w ≤ 5 = omega (arith, p .within) in
+        omega arith
+
+    within : countOf w ≤ k → countOf r ≤ countOf w + 1 → countOf r ≤ k + 1
+    within m l = omega arith
+
+pub adds-as : {a b i k k' : ℕ} {s t : List Float} {r : Written} {d d' : Result (List EqualityRow)} → k ≤ k' → d ≡ d' → Adds a b i k s t r d → Adds a b i k' s t r d'
+adds-as h e p = record { kept = p .kept; within = omega (arith, p .within); is = p .is ∙ e }
+
+-- ---- counts
+pub one-yes : {b : Bool} → b ≡ true → 1 ≡ oneIf b
+unfolding oneIf
+one-yes e = ap oneIf (sym e)
+
+pub one-no : {b : Bool} → b ≡ false → 0 ≡ oneIf b
+unfolding oneIf
+one-no e = ap oneIf (sym e)
+
+pub one-most : {n : ℕ} (b : Bool) → n ≡ oneIf b → n ≤ 1
+unfolding oneIf
+one-most true e = omega arith
+one-most false e = omega arith
+
+pub count-cone : {kind : Kind} {x y lower upper : Float} {m n o : ℕ} → kind ≡ ConeTwist x y lower upper
+    → m ≡ oneIf (Ieee.eq x (F 0)) → n ≡ oneIf (Ieee.eq y (F 0)) → o ≡ oneIf (Ieee.eq lower upper) → 3 + m + n + o ≡ rowCount kind
+count-cone {x = x} {y = y} {m = m} {n = n} {o = o} e a b d =
+    let u : m ≡ oneIf (Ieee.eq x (ratio 0 1)) = a ∙ ap (λ (z : Float). oneIf (Ieee.eq x z)) zero-is in
+    let v : n ≡ oneIf (Ieee.eq y (ratio 0 1)) = b ∙ ap (λ (z : Float). oneIf (Ieee.eq y z)) zero-is in
+    omega arith ∙ sym (ap rowCount e)

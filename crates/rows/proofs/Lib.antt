@@ -1,0 +1,6 @@
+pub mod Constants
+pub mod PlaceLaws
+pub mod AppendLaws
+pub mod BodyLaws
+pub mod RowLaws
+pub mod WriteLaws

@@ -1,0 +1,45 @@
+use borrow.Author.Needs.{needs}
+use mathlib.Core.Path.{_≡_, refl, sym, _∙_, ap}
+use Rattle.rows.proofs.BodyLaws.{anchor-1, anchor-2}
+use Rattle.rows.specs.AnswerLaws.{some-go, none-stop}
+use Rattle.rows.specs.Fault.{arithmeticOverflow}
+use borrow.Author.Needs.{needs}
+use Rattle.rows.proofs.body.MomentumBody.anchor.Statement.{statement}
+use Rattle.rows.proofs.body.MomentumBody.anchor.Tie as tie
+
+sub-requires : tie.Need-sub-requires
+sub-requires c κs = search needs
+
+rotate-vector-requires : tie.Need-rotate-vector-requires
+rotate-vector-requires c κs = search needs
+
+enum-known-arm : tie.Need-enum-known-arm
+enum-known-arm c = search needs
+
+add-requires : tie.Need-add-requires
+add-requires c κs = search needs
+
+finite-requires : tie.Need-finite-requires
+finite-requires c κs = search needs
+
+enum-told : tie.Need-enum-told
+enum-told c = search needs
+
+returns : tie.Need-returns
+returns c = anchor-2 _ _ (c .before .before .before .before .before .before .sub .ensures) (some-go arithmeticOverflow (c .before .before .before .before .before .rotate-vector .ensures) (c .before .before .before .arm .given .1)) (c .before .add .ensures) (c .finite .ensures)
+
+returns-2 : tie.Need-returns-2
+returns-2 c = anchor-1 _ _ (c .before .before .before .sub .ensures) (none-stop arithmeticOverflow (c .before .before .rotate-vector .ensures) (c .enum-told .given .1))
+
+pub anchor-spec : {M : Type 1} → statement M
+anchor-spec =
+    tie.close
+    (tie.spec
+    sub-requires
+    rotate-vector-requires
+    enum-known-arm
+    add-requires
+    finite-requires
+    enum-told
+    returns
+    returns-2)

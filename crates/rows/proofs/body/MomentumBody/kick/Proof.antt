@@ -1,0 +1,67 @@
+use borrow.Author.Needs.{needs}
+use mathlib.Core.Path.{_≡_, refl, sym, _∙_, ap}
+use Rattle.rows.proofs.BodyLaws.{lost, kick-1, kick-2, kick-3}
+use Rattle.rows.specs.Answer.{answerOf}
+use Rattle.rows.specs.AnswerLaws.{vector-go, vector-stop}
+use borrow.Author.Needs.{needs}
+use Rattle.rows.proofs.body.MomentumBody.kick.Statement.{statement}
+use Rattle.rows.proofs.body.MomentumBody.kick.Tie as tie
+
+add-requires : tie.Need-add-requires
+add-requires c κs = search needs
+
+finite-requires : tie.Need-finite-requires
+finite-requires c κs = search needs
+
+enum-known-momentum : tie.Need-enum-known-momentum
+enum-known-momentum c = search needs
+
+enum-told : tie.Need-enum-told
+enum-told c = search needs
+
+overflow-requires : tie.Need-overflow-requires
+overflow-requires c κs = search needs
+
+returns : tie.Need-returns
+unfolding answerOf
+returns c = lost (c .overflow .ensures) refl (kick-1 _ _ _ (c .before .before .before .before .add .ensures) (vector-stop (c .before .before .before .finite .ensures) (c .before .enum-told .given .1)))
+
+add-requires-2 : tie.Need-add-requires-2
+add-requires-2 c κs = search needs
+
+finite-requires-2 : tie.Need-finite-requires-2
+finite-requires-2 c κs = search needs
+
+enum-known-spin : tie.Need-enum-known-spin
+enum-known-spin c = search needs
+
+enum-told-2 : tie.Need-enum-told-2
+enum-told-2 c = search needs
+
+overflow-requires-2 : tie.Need-overflow-requires-2
+overflow-requires-2 c κs = search needs
+
+returns-2 : tie.Need-returns-2
+returns-2 c = lost (c .overflow2 .ensures) refl (kick-2 _ _ _ (c .before .before .before .before .before .before .before .before .before .add .ensures) (vector-go (c .before .before .before .before .before .before .before .before .finite .ensures) (c .before .before .before .before .before .before .momentum .given .1)) (c .before .before .before .before .add2 .ensures) (vector-stop (c .before .before .before .finite2 .ensures) (c .before .enum-told2 .given .1)))
+
+returns-3 : tie.Need-returns-3
+unfolding answerOf
+returns-3 c = ap (answerOf _) (kick-3 _ _ _ (c .before .before .before .before .before .before .before .before .before .add .ensures) (vector-go (c .before .before .before .before .before .before .before .before .finite .ensures) (c .before .before .before .before .before .before .momentum .given .1)) (c .before .before .before .before .add2 .ensures) (vector-go (c .before .before .before .finite2 .ensures) (c .before .spin .given .1)))
+
+pub kick-spec : {M : Type 1} → statement M
+kick-spec =
+    tie.close
+    (tie.spec
+    add-requires
+    finite-requires
+    enum-known-momentum
+    enum-told
+    overflow-requires
+    returns
+    add-requires-2
+    finite-requires-2
+    enum-known-spin
+    enum-told-2
+    overflow-requires-2
+    returns-2
+    returns-3)

@@ -1,0 +1,67 @@
+use borrow.Author.Needs.{needs}
+use mathlib.Core.Path.{_≡_, refl, sym, _∙_, ap}
+use Rattle.rows.proofs.BodyLaws.{pass-as}
+use native.Mathlib.Omega.{arith}
+use Prim.Native.Nat.{ℕ, _≤_, _-_}
+use Rattle.arith.specs.Flow.{go, loop}
+use Rattle.arith.specs.FlowLaws.{loop-none, loop-more, loop-stop, loop-end}
+use Rattle.rows.specs.Body.{passOf}
+use Rattle.rows.proofs.body.MomentumBody.passes.Statement.{statement}
+use Rattle.rows.proofs.body.MomentumBody.passes.Tie as tie
+
+abbrev Inv-loop : tie.InvT-loop
+Inv-loop self dt omega₀ k₀ omega k = (k ≤ 32) × (go omega ≡ loop k (λ (j : ℕ). passOf self dt) omega₀)
+
+abbrev μ-loop : tie.MeasureT-loop
+μ-loop self dt omega₀ k₀ omega k = 32 - k
+
+loop-holds : tie.Need-loop-holds Inv-loop μ-loop
+loop-holds c = (omega arith, loop-none _ _)
+
+pass-requires : tie.Need-pass-requires Inv-loop μ-loop
+pass-requires c κs = search needs
+
+enum-known-next : tie.Need-enum-known-next Inv-loop μ-loop
+enum-known-next c = search needs
+
+enum-known-rotation : tie.Need-enum-known-rotation Inv-loop μ-loop
+enum-known-rotation c = search needs
+
+returns : tie.Need-returns Inv-loop μ-loop
+returns c = loop-stop _ _ 32 (c .before .before .before .before .loop-test .taken) (c .before .before .before .before .before .loop .inv .1) (pass-as (c .before .before .before .pass .ensures) (c .before .rotation .given .1))
+
+enum-told : tie.Need-enum-told Inv-loop μ-loop
+enum-told c = search needs
+
+returns-2 : tie.Need-returns-2 Inv-loop μ-loop
+returns-2 c = loop-stop _ _ 32 (c .before .before .before .loop-test .taken) (c .before .before .before .before .loop .inv .1) (pass-as (c .before .before .pass .ensures) (c .enum-told .given .1))
+
+add-k : tie.Need-add-k Inv-loop μ-loop
+add-k c = omega arith
+
+loop-less : tie.Need-loop-less Inv-loop μ-loop
+loop-less c = omega arith
+
+loop-again : tie.Need-loop-again Inv-loop μ-loop
+loop-again c = (omega arith, loop-more _ _ (c .before .before .before .before .before .loop .inv .1) (pass-as (c .before .before .before .pass .ensures) (c .before .next .given .1)))
+
+returns-3 : tie.Need-returns-3 Inv-loop μ-loop
+returns-3 c = loop-end _ _ (c .before .loop .inv .0) (c .loop-test .left) (c .before .loop .inv .1)
+
+pub passes-spec : {M : Type 1} → statement M
+passes-spec =
+    tie.close
+    (tie.spec
+    Inv-loop
+    μ-loop
+    loop-holds
+    pass-requires
+    enum-known-next
+    enum-known-rotation
+    returns
+    enum-told
+    returns-2
+    add-k
+    loop-less
+    loop-again
+    returns-3)

@@ -1,0 +1,17 @@
+use borrow.Author.Needs.{needs}
+use mathlib.Core.Path.{_≡_, refl, sym, _∙_, ap}
+use Rattle.rows.proofs.BodyLaws.{both-yes, both-no}
+use Rattle.rows.proofs.body.same_vec3.Statement.{statement}
+use Rattle.rows.proofs.body.same_vec3.Tie as tie
+
+returns : tie.Need-returns
+returns c = both-yes (sym (both-yes (c .before .before .before .before .before .if1 .taken) (sym (c .before .before .if2 .taken)))) refl
+
+returns-2 : tie.Need-returns-2
+returns-2 c = both-no _ (sym (both-yes (c .before .before .before .if1 .taken) (sym (c .if2 .left))))
+
+returns-3 : tie.Need-returns-3
+returns-3 c = both-no _ (sym (both-no _ (c .if1 .left)))
+
+pub same-vec3-spec : {M : Type 1} → statement M
+same-vec3-spec = tie.close (tie.spec returns returns-2 returns-3)

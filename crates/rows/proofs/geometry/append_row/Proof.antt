@@ -1,0 +1,67 @@
+use Rattle.rows.proofs.AppendLaws.{append-none, append-value}
+use Rattle.rows.specs.Append.{There}
+use mathlib.Core.Path.{refl}
+use Rattle.rows.specs.declared.geometry.RowAnswer.the-variants as Row
+use borrow.Author.Needs.{needs}
+use Rattle.rows.proofs.geometry.append_row.Statement.{statement}
+use Rattle.rows.proofs.geometry.append_row.Tie as tie
+
+enum-known-answer : tie.Need-enum-known-answer
+enum-known-answer c = search needs
+
+mul-store : tie.Need-mul-store
+mul-store c = search needs
+
+add-store : tie.Need-add-store
+add-store c = search needs
+
+store-requires : tie.Need-store-requires
+store-requires c κs = search needs
+
+add-t10 : tie.Need-add-t10
+add-t10 c = search needs
+
+enum-told : tie.Need-enum-told
+enum-told c = search needs
+
+enum-told-2 : tie.Need-enum-told-2
+enum-told-2 c = search needs
+
+enum-told-3 : tie.Need-enum-told-3
+enum-told-3 c = search needs
+
+same-length : tie.Need-same-length
+same-length c = search needs
+
+returns : tie.Need-returns
+returns c = append-value (c .before .before .before .before .before .answer .given .1) (c .before .before .store .ensures)
+
+returns-2 : tie.Need-returns-2
+unfolding There
+returns-2 c = append-none Row.Free tt (c .enum-told .given .1) refl
+
+returns-3 : tie.Need-returns-3
+unfolding There
+returns-3 c = append-none Row.NonConvergent tt (c .enum-told2 .given .1) refl
+
+returns-4 : tie.Need-returns-4
+unfolding There
+returns-4 c = append-none Row.ArithmeticOverflow tt (c .enum-told3 .given .1) refl
+
+pub append-row-spec : {M : Type 1} → statement M
+append-row-spec =
+    tie.close
+    (tie.spec
+    enum-known-answer
+    mul-store
+    add-store
+    store-requires
+    add-t10
+    enum-told
+    enum-told-2
+    enum-told-3
+    same-length
+    returns
+    returns-2
+    returns-3
+    returns-4)

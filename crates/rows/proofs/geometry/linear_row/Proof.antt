@@ -1,0 +1,87 @@
+use Rattle.rows.proofs.RowLaws.{linear-1, linear-2, linear-3, linear-4, single, single-stop}
+use Rattle.rows.specs.AnswerLaws.{none-stop, some-go, vector-go, vector-stop}
+use Rattle.rows.specs.Fault.{arithmeticOverflow}
+use borrow.Author.Needs.{needs}
+use Rattle.rows.proofs.geometry.linear_row.Statement.{statement}
+use Rattle.rows.proofs.geometry.linear_row.Tie as tie
+
+rotate-vector-requires : tie.Need-rotate-vector-requires
+rotate-vector-requires c κs = search needs
+
+enum-known-axis : tie.Need-enum-known-axis
+enum-known-axis c = search needs
+
+enum-told : tie.Need-enum-told
+enum-told c = search needs
+
+returns : tie.Need-returns
+returns c = single-stop _ (linear-1 _ _ _ (none-stop arithmeticOverflow (c .before .before .rotate-vector .ensures) (c .enum-told .given .1)))
+
+cross-requires : tie.Need-cross-requires
+cross-requires c κs = search needs
+
+cross-requires-2 : tie.Need-cross-requires-2
+cross-requires-2 c κs = search needs
+
+sub-requires : tie.Need-sub-requires
+sub-requires c κs = search needs
+
+finite-requires : tie.Need-finite-requires
+finite-requires c κs = search needs
+
+enum-known-angular-a : tie.Need-enum-known-angular-a
+enum-known-angular-a c = search needs
+
+enum-told-2 : tie.Need-enum-told-2
+enum-told-2 c = search needs
+
+returns-2 : tie.Need-returns-2
+returns-2 c = single-stop _ (linear-2 _ _ _ (some-go arithmeticOverflow (c .before .before .before .before .before .before .before .before .before .rotate-vector .ensures) (c .before .before .before .before .before .before .before .axis .given .1)) (c .before .before .before .before .before .cross .ensures) (c .before .before .before .before .cross2 .ensures) (c .before .before .before .sub .ensures) (vector-stop (c .before .before .finite .ensures) (c .enum-told2 .given .1)))
+
+cross-requires-3 : tie.Need-cross-requires-3
+cross-requires-3 c κs = search needs
+
+finite-requires-2 : tie.Need-finite-requires-2
+finite-requires-2 c κs = search needs
+
+enum-known-angular-b : tie.Need-enum-known-angular-b
+enum-known-angular-b c = search needs
+
+enum-told-3 : tie.Need-enum-told-3
+enum-told-3 c = search needs
+
+returns-3 : tie.Need-returns-3
+returns-3 c = single-stop _ (linear-3 _ _ _ (some-go arithmeticOverflow (c .before .before .before .before .before .before .before .before .before .before .before .before .before .before .rotate-vector .ensures) (c .before .before .before .before .before .before .before .before .before .before .before .before .axis .given .1)) (c .before .before .before .before .before .before .before .before .before .before .cross .ensures) (c .before .before .before .before .before .before .before .before .before .cross2 .ensures) (c .before .before .before .before .before .before .before .before .sub .ensures) (vector-go (c .before .before .before .before .before .before .before .finite .ensures) (c .before .before .before .before .before .angular-a .given .1)) (c .before .before .before .cross3 .ensures) (vector-stop (c .before .before .finite2 .ensures) (c .enum-told3 .given .1)))
+
+neg-requires : tie.Need-neg-requires
+neg-requires c κs = search needs
+
+dot-requires : tie.Need-dot-requires
+dot-requires c κs = search needs
+
+returns-4 : tie.Need-returns-4
+returns-4 c = single _ (linear-4 _ _ _ (some-go arithmeticOverflow (c .before .before .before .before .before .before .before .before .before .before .before .before .before .before .before .before .before .rotate-vector .ensures) (c .before .before .before .before .before .before .before .before .before .before .before .before .before .before .before .axis .given .1)) (c .before .before .before .before .before .before .before .before .before .before .before .before .before .cross .ensures) (c .before .before .before .before .before .before .before .before .before .before .before .before .cross2 .ensures) (c .before .before .before .before .before .before .before .before .before .before .before .sub .ensures) (vector-go (c .before .before .before .before .before .before .before .before .before .before .finite .ensures) (c .before .before .before .before .before .before .before .before .angular-a .given .1)) (c .before .before .before .before .before .before .cross3 .ensures) (vector-go (c .before .before .before .before .before .finite2 .ensures) (c .before .before .before .angular-b .given .1)) (c .before .before .before .before .before .before .before .before .before .before .before .before .before .before .before .before .before .before .pre) (c .before .neg .ensures) (c .dot .ensures))
+
+pub linear-row-spec : {M : Type 1} → statement M
+linear-row-spec =
+    tie.close
+    (tie.spec
+    rotate-vector-requires
+    enum-known-axis
+    enum-told
+    returns
+    cross-requires
+    cross-requires-2
+    sub-requires
+    finite-requires
+    enum-known-angular-a
+    enum-told-2
+    returns-2
+    cross-requires-3
+    finite-requires-2
+    enum-known-angular-b
+    enum-told-3
+    returns-3
+    neg-requires
+    dot-requires
+    returns-4)

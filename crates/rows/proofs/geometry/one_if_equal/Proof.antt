@@ -1,0 +1,13 @@
+use Rattle.rows.proofs.AppendLaws.{one-no, one-yes}
+use borrow.Author.Needs.{needs}
+use Rattle.rows.proofs.geometry.one_if_equal.Statement.{statement}
+use Rattle.rows.proofs.geometry.one_if_equal.Tie as tie
+
+returns : tie.Need-returns
+returns c = one-yes (c .if1 .taken)
+
+returns-2 : tie.Need-returns-2
+returns-2 c = one-no (c .if1 .left)
+
+pub one-if-equal-spec : {M : Type 1} → statement M
+one-if-equal-spec = tie.close (tie.spec returns returns-2)

@@ -1,0 +1,51 @@
+use Rattle.rows.proofs.RowLaws.{relative-1, relative-2, relative-3}
+use Rattle.rows.specs.AnswerLaws.{quat-go, quat-stop}
+use Rattle.rows.specs.Fault.{arithmeticOverflow}
+use borrow.Author.Needs.{needs}
+use Rattle.rows.proofs.geometry.relative_of.Statement.{statement}
+use Rattle.rows.proofs.geometry.relative_of.Tie as tie
+
+conjugate-requires : tie.Need-conjugate-requires
+conjugate-requires c κs = search needs
+
+product-requires : tie.Need-product-requires
+product-requires c κs = search needs
+
+try-normalize-requires : tie.Need-try-normalize-requires
+try-normalize-requires c κs = search needs
+
+enum-known-q : tie.Need-enum-known-q
+enum-known-q c = search needs
+
+enum-told : tie.Need-enum-told
+enum-told c = search needs
+
+returns : tie.Need-returns
+returns c = relative-1 _ _ _ (c .before .before .before .before .conjugate .ensures) (c .before .before .before .product .ensures) (quat-stop arithmeticOverflow (c .before .before .try-normalize .ensures) (c .enum-told .given .1))
+
+half-turned-requires : tie.Need-half-turned-requires
+half-turned-requires c κs = search needs
+
+returns-2 : tie.Need-returns-2
+returns-2 c = relative-2 _ _ _ (c .before .before .before .before .before .before .before .before .before .conjugate .ensures) (c .before .before .before .before .before .before .before .before .product .ensures) (quat-go arithmeticOverflow (c .before .before .before .before .before .before .before .try-normalize .ensures) (c .before .before .before .before .before .q .given .1)) (c .before .half-turned .ensures) (c .if1 .taken)
+
+sqrt-requires : tie.Need-sqrt-requires
+sqrt-requires c κs = search needs
+
+returns-3 : tie.Need-returns-3
+returns-3 c = relative-3 _ _ _ (c .before .before .before .before .before .before .before .before .before .before .conjugate .ensures) (c .before .before .before .before .before .before .before .before .before .product .ensures) (quat-go arithmeticOverflow (c .before .before .before .before .before .before .before .before .try-normalize .ensures) (c .before .before .before .before .before .before .q .given .1)) (c .before .before .half-turned .ensures) (c .before .if1 .left) (c .sqrt .ensures)
+
+pub relative-of-spec : {M : Type 1} → statement M
+relative-of-spec =
+    tie.close
+    (tie.spec
+    conjugate-requires
+    product-requires
+    try-normalize-requires
+    enum-known-q
+    enum-told
+    returns
+    half-turned-requires
+    returns-2
+    sqrt-requires
+    returns-3)

@@ -1,0 +1,13 @@
+use Rattle.rows.proofs.RowLaws.{swing-y-is}
+use borrow.Author.Needs.{needs}
+use Rattle.rows.proofs.geometry.swing_y.Statement.{statement}
+use Rattle.rows.proofs.geometry.swing_y.Tie as tie
+
+new-requires : tie.Need-new-requires
+new-requires c κs = search needs
+
+returns : tie.Need-returns
+returns c = swing-y-is _ (c .new .ensures)
+
+pub swing-y-spec : {M : Type 1} → statement M
+swing-y-spec = tie.close (tie.spec new-requires returns)

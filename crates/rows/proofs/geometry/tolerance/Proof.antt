@@ -1,0 +1,51 @@
+use Rattle.rows.proofs.RowLaws.{tolerance-1, tolerance-2, tolerance-3}
+use Rattle.rows.specs.AnswerLaws.{number-go, number-stop}
+use Rattle.rows.specs.Fault.{arithmeticOverflow}
+use borrow.Author.Needs.{needs}
+use Rattle.rows.proofs.geometry.tolerance.Statement.{statement}
+use Rattle.rows.proofs.geometry.tolerance.Tie as tie
+
+checked-length-requires : tie.Need-checked-length-requires
+checked-length-requires c κs = search needs
+
+enum-known-la : tie.Need-enum-known-la
+enum-known-la c = search needs
+
+enum-told : tie.Need-enum-told
+enum-told c = search needs
+
+returns : tie.Need-returns
+returns c = tolerance-1 _ _ (number-stop arithmeticOverflow (c .before .before .checked-length .ensures) (c .enum-told .given .1))
+
+checked-length-requires-2 : tie.Need-checked-length-requires-2
+checked-length-requires-2 c κs = search needs
+
+enum-known-lb : tie.Need-enum-known-lb
+enum-known-lb c = search needs
+
+enum-told-2 : tie.Need-enum-told-2
+enum-told-2 c = search needs
+
+returns-2 : tie.Need-returns-2
+returns-2 c = tolerance-2 _ _ (number-go arithmeticOverflow (c .before .before .before .before .before .before .checked-length .ensures) (c .before .before .before .before .la .given .1)) (number-stop arithmeticOverflow (c .before .before .checked-length2 .ensures) (c .enum-told2 .given .1))
+
+max-requires : tie.Need-max-requires
+max-requires c κs = search needs
+
+returns-3 : tie.Need-returns-3
+returns-3 c = tolerance-3 _ _ (number-go arithmeticOverflow (c .before .before .before .before .before .before .before .before .checked-length .ensures) (c .before .before .before .before .before .before .la .given .1)) (number-go arithmeticOverflow (c .before .before .before .before .checked-length2 .ensures) (c .before .before .lb .given .1)) (c .max .ensures)
+
+pub tolerance-spec : {M : Type 1} → statement M
+tolerance-spec =
+    tie.close
+    (tie.spec
+    checked-length-requires
+    enum-known-la
+    enum-told
+    returns
+    checked-length-requires-2
+    enum-known-lb
+    enum-told-2
+    returns-2
+    max-requires
+    returns-3)

@@ -1,0 +1,16 @@
+use Rattle.rows.proofs.RowLaws.{row-free, row-locked}
+use borrow.Author.Needs.{needs}
+use Rattle.rows.proofs.geometry.twist_row_if.Statement.{statement}
+use Rattle.rows.proofs.geometry.twist_row_if.Tie as tie
+
+twist-row-requires : tie.Need-twist-row-requires
+twist-row-requires c κs = search needs
+
+returns : tie.Need-returns
+returns c = row-locked _ (c .before .if1 .taken) (c .twist-row .ensures)
+
+returns-2 : tie.Need-returns-2
+returns-2 c = row-free _ (c .if1 .left)
+
+pub twist-row-if-spec : {M : Type 1} → statement M
+twist-row-if-spec = tie.close (tie.spec twist-row-requires returns returns-2)

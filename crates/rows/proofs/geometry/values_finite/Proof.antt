@@ -1,0 +1,72 @@
+use Prim.Native.Nat.{_-_, _≤_, ℕ}
+use Rattle.arith.specs.Flow.{loop}
+use Rattle.rows.proofs.WriteLaws.{finite-all, finite-more, finite-none, finite-stop}
+use Rattle.rows.specs.Geometry.{finiteValues}
+use Rattle.rows.specs.View.{rowsAt}
+use denote.Ref.{now}
+use mathlib.Core.Bool.{true}
+use mathlib.Core.Path.{_≡_}
+use native.Mathlib.Omega.{arith}
+use Rattle.rows.proofs.geometry.values_finite.Statement.{statement}
+use Rattle.rows.proofs.geometry.values_finite.Tie as tie
+
+abbrev Inv-loop : tie.InvT-loop
+Inv-loop s at count k₀ k = (k ≤ count) × ((a b : ℕ) → true ≡ finiteValues (rowsAt s at a b k))
+
+abbrev μ-loop : tie.MeasureT-loop
+μ-loop s at count k₀ k = count - k
+
+loop-holds : tie.Need-loop-holds Inv-loop μ-loop
+loop-holds c = (omega arith, finite-none (now (c .before .args .s)) (c .before .args .at))
+
+mul-is-finite : tie.Need-mul-is-finite Inv-loop μ-loop
+mul-is-finite c = omega arith
+
+add-is-finite : tie.Need-add-is-finite Inv-loop μ-loop
+add-is-finite c = omega arith
+
+add-is-finite-2 : tie.Need-add-is-finite-2 Inv-loop μ-loop
+add-is-finite-2 c = omega arith
+
+mul-is-finite-2 : tie.Need-mul-is-finite-2 Inv-loop μ-loop
+mul-is-finite-2 c = omega arith
+
+shared-slice-read-is-finite : tie.Need-shared-slice-read-is-finite Inv-loop μ-loop
+shared-slice-read-is-finite c = omega arith
+
+is-finite-requires : tie.Need-is-finite-requires Inv-loop μ-loop
+is-finite-requires c κs = omega arith
+
+returns : tie.Need-returns Inv-loop μ-loop
+returns c = finite-stop (now (c .before .before .before .before .before .before .args .s)) (c .before .before .before .before .before .before .args .at) _ _ (c .before .before .before .loop-test .taken) (c .before .is-finite .ensures) (c .if1 .taken)
+
+add-k : tie.Need-add-k Inv-loop μ-loop
+add-k c = omega arith
+
+loop-less : tie.Need-loop-less Inv-loop μ-loop
+loop-less c = omega arith
+
+loop-again : tie.Need-loop-again Inv-loop μ-loop
+loop-again c = (omega arith, finite-more (now (c .before .before .before .before .before .before .args .s)) (c .before .before .before .before .before .before .args .at) (c .before .before .before .before .loop .k) (c .before .before .before .before .loop .inv .1) (c .before .is-finite .ensures) (c .if1 .left))
+
+returns-2 : tie.Need-returns-2 Inv-loop μ-loop
+returns-2 c = finite-all (now (c .before .before .before .args .s)) (c .before .before .before .args .at) (c .before .loop .inv .0) (c .loop-test .left) (c .before .loop .inv .1)
+
+pub values-finite-spec : {M : Type 1} → statement M
+values-finite-spec =
+    tie.close
+    (tie.spec
+    Inv-loop
+    μ-loop
+    loop-holds
+    mul-is-finite
+    add-is-finite
+    add-is-finite-2
+    mul-is-finite-2
+    shared-slice-read-is-finite
+    is-finite-requires
+    returns
+    add-k
+    loop-less
+    loop-again
+    returns-2)

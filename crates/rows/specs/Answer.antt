@@ -1,0 +1,62 @@
+-- The code's answers as the definitions' results.
+use Prim.Native.Nat.{ℕ}
+use mathlib.Core.Path.{_≡_}
+use mathlib.Core.List.{List, [], _∷_}
+use lib.Ieee.{Float}
+use Rattle.arith.specs.Flow.{Turn, go, stop}
+use Rattle.rows.specs.declared.body.Finish.{Finish}
+use Rattle.rows.specs.declared.body.Finish.the-variants as Ends
+use Rattle.rows.specs.declared.body.Pass.{Pass}
+use Rattle.rows.specs.declared.body.Pass.the-variants as Passes
+use Rattle.vectors.specs.declared.vector.Vec3.{Vec3}
+use Rattle.vectors.specs.declared.quaternion.Quat.{Quat}
+use Rattle.rows.specs.declared.body.BodyState.{BodyState}
+use Rattle.rows.specs.declared.body.MomentumBody.{MomentumBody}
+use Rattle.rows.specs.declared.body.BodyAnswer.{BodyAnswer}
+use Rattle.rows.specs.declared.body.StateAnswer.{StateAnswer}
+use Rattle.rows.specs.declared.body.StateAnswer.the-variants as State
+use Rattle.rows.specs.declared.geometry.Kind.{Kind}
+use Rattle.rows.specs.declared.geometry.Joint.{Joint}
+use Rattle.rows.specs.declared.geometry.EqualityRow.{EqualityRow}
+use Rattle.rows.specs.declared.geometry.Written.{Written}
+use Rattle.rows.specs.declared.geometry.Written.the-variants as Written
+use Rattle.rows.specs.Fault.{Fault, nonConvergent, arithmeticOverflow, Result}
+use Rattle.rows.specs.Geometry.{rowCount, writeEqualityRows}
+use Rattle.rows.specs.View.{rowsAt, Out, Kept}
+
+-- what a call that was to move a body hands back: beside a fault, the body `old`
+unfoldable pub answerOf : MomentumBody → Result MomentumBody → BodyAnswer
+answerOf old (go body) = record { outcome = Ends.Done; body = body }
+answerOf old (stop nonConvergent) = record { outcome = Ends.NonConvergent; body = old }
+answerOf old (stop arithmeticOverflow) = record { outcome = Ends.ArithmeticOverflow; body = old }
+
+-- and back: beside `Done` the body itself
+abbrev pub finishAs : Finish → MomentumBody → Result MomentumBody
+finishAs Ends.Done body = go body
+finishAs Ends.NonConvergent body = stop nonConvergent
+finishAs Ends.ArithmeticOverflow body = stop arithmeticOverflow
+
+abbrev pub bodyAs : BodyAnswer → Result MomentumBody
+bodyAs r = finishAs (r .outcome) (r .body)
+
+-- a pass of drift: the next omega, or how its loop is left
+abbrev pub passAs : Pass → Turn Vec3 (Result Quat)
+passAs (Passes.Next omega) = go omega
+passAs (Passes.Settled rotation) = stop (go rotation)
+passAs Passes.ArithmeticOverflow = stop (stop arithmeticOverflow)
+
+abbrev pub stateAs : StateAnswer → Result BodyState
+stateAs (State.Value state) = go state
+stateAs State.ArithmeticOverflow = stop arithmeticOverflow
+
+-- the rows that s holds at i after a write
+abbrev pub writtenAs : Written → List Float → ℕ → ℕ → ℕ → Result (List EqualityRow)
+writtenAs (Written.Rows n) s i a b = go (rowsAt s i a b n)
+writtenAs Written.NonConvergent s i a b = stop nonConvergent
+writtenAs Written.ArithmeticOverflow s i a b = stop arithmeticOverflow
+
+-- how the rows of a joint are written at i: s becomes t, but for the 84 doubles at i
+pub record Writes (joint : Joint) (a b : MomentumBody) (i : ℕ) (s t : List Float) (r : Written) : Type 0 where
+  pub kept : Kept (λ k. Out i 84 k) s t
+  pub count : (n : ℕ) → r ≡ Written.Rows n → n ≡ rowCount (joint .kind)
+  pub is : writtenAs r t i (joint .«body_a») (joint .«body_b») ≡ writeEqualityRows joint a b

@@ -1,0 +1,116 @@
+-- Laws of places, for this crate and those above: lists by index, and the views that a write keeps.
+use Prim.Native.Nat.{ℕ, zero, suc, _+_, _*_, _-_, _≤_, _<_, min}
+use mathlib.Core.Path.{_≡_, refl, sym, _∙_, ap}
+use mathlib.Core.Bool.{Bool, true, false}
+use mathlib.Core.List.{List, [], _∷_, _++_}
+use native.Mathlib.Numerals.{add-one}
+use native.Mathlib.Omega.{arith}
+use native.Mathlib.Decide.{ℕ-discrete}
+use lib.Ieee as Ieee
+use lib.Ieee.{Float, nan}
+use lib.ListN.{length, getD, set, length-set, length-append, List·getD-append}
+use lib.Seq.{ext-getD, getD-set-same, getD-set-other, getD-at}
+use Rattle.arith.specs.Real.{ratio}
+use Rattle.arith.specs.Flow.{tab}
+use Rattle.vectors.specs.declared.vector.Vec3.{Vec3}
+use Rattle.rows.specs.declared.geometry.Kind.{Kind}
+use Rattle.rows.specs.declared.geometry.Kind.the-variants.{Ball, Hinge, Cylindrical, Planar, Distance, ConeTwist}
+use Rattle.rows.specs.Geometry.{oneIf, rowCount}
+use Rattle.rows.specs.View.{at, vec3At, rowAt, rowsAt, Out, Kept}
+
+module _ {A : Type 0} where
+  pub tab-length : (n : ℕ) (f : ℕ → A) → length (tab n f) ≡ n
+  unfolding tab
+  tab-length zero f = refl
+  tab-length (suc k) f = length-append (tab k f) (f k ∷ []) ∙ ap (λ (m : ℕ). m + 1) (tab-length k f) ∙ add-one k
+
+  pub tab-ext : (n : ℕ) {f g : ℕ → A} → ((k : ℕ) → k < n → f k ≡ g k) → tab n f ≡ tab n g
+  unfolding tab
+  tab-ext zero h = refl
+  tab-ext (suc n) {f} {g} h =
+      let e : tab n f ≡ tab n g = tab-ext n (λ k l. h k (omega arith)) in
+      let x : f n ≡ g n = h n (omega arith) in
+      cc
+
+  pub tab-at : (n : ℕ) (f : ℕ → A) (d : A) (k : ℕ) → k < n → getD (tab n f) k d ≡ f k
+  unfolding tab
+  tab-at zero f d k h = absurd (omega arith)
+  tab-at (suc n) f d k h = step (ℕ-discrete k n) (tab-at n f d k)
+    where
+      step : Dec (k ≡ n) → (k < n → getD (tab n f) k d ≡ f k) → getD (tab n f ++ (f n ∷ [])) k d ≡ f k
+      step (yes e) ih = rw e (getD-at (tab n f) (f n) [] d n (tab-length n f))
+      step (no q) ih =
+          let l : k < n = omega arith in
+          List·getD-append (tab n f) (f n ∷ []) d k (rw tab-length l) ∙ ih l
+
+  -- a list by its elements
+  pub is-tab : (n : ℕ) (f : ℕ → A) (d : A) (l : List A) → length l ≡ n → ((k : ℕ) → k < n → getD l k d ≡ f k) → l ≡ tab n f
+  is-tab n f d l e h = ext-getD d l (tab n f) (e ∙ sym (tab-length n f)) (λ k q. h k (omega arith) ∙ sym (tab-at n f d k (omega arith)))
+
+  pub tab-set : (n : ℕ) (f g : ℕ → A) (d : A) (i : ℕ) → i < n → ((k : ℕ) → k < n → ¬ (k ≡ i) → g k ≡ f k) → set (tab n f) i (g i) ≡ tab n g
+  tab-set n f g d i h q = is-tab n g d _ (length-set (tab n f) i (g i) ∙ tab-length n f) λ k l. step k l (ℕ-discrete k i)
+    where
+      step : (k : ℕ) → k < n → Dec (k ≡ i) → getD (set (tab n f) i (g i)) k d ≡ g k
+      step k l (yes e) = rw e (getD-set-same (tab n f) i (g i) d (rw tab-length h))
+      step k l (no r) = getD-set-other (tab n f) i k (g i) d r ∙ tab-at n f d k l ∙ sym (q k l r)
+
+  -- one more, where the code has `k + 1`
+  pub tab-more : (k : ℕ) {f g : ℕ → A} {x : A} → ((i : ℕ) → i < k → g i ≡ f i) → g k ≡ x → tab (k + 1) g ≡ tab k f ++ (x ∷ [])
+  unfolding tab
+  tab-more k {f} {g} {x} h e =
+      let l : tab k g ≡ tab k f = tab-ext k h in
+      rw (add-one k) (cc)
+
+-- A write of one double.
+pub kept-set : (s : List Float) (i : ℕ) (v : Float) → Kept (λ k. Out i 1 k) s (set s i v)
+kept-set s i v = record { size = length-set s i v; same = λ k h. getD-set-other s i k v nan (λ e. omega arith) }
+
+pub kept-refl : (P : ℕ → Type 0) (s : List Float) → Kept P s s
+kept-refl P s = record { size = refl; same = λ i h. refl }
+
+pub kept-then : {P Q : ℕ → Type 0} {s t u : List Float} → Kept P s t → Kept Q t u → ((i : ℕ) → P i → Q i) → Kept P s u
+kept-then a b w = record { size = b .size ∙ a .size; same = λ i h. b .same i (w i h) ∙ a .same i h }
+
+pub kept-more : {P Q : ℕ → Type 0} {s t : List Float} → Kept Q s t → ((i : ℕ) → P i → Q i) → Kept P s t
+kept-more b w = record { size = b .size; same = λ i h. b .same i (w i h) }
+
+-- every place of the n doubles at off
+abbrev pub Over : (ℕ → Type 0) → ℕ → ℕ → Type 0
+Over P off n = (i : ℕ) → off ≤ i → i < off + n → P i
+
+module _ {P : ℕ → Type 0} {s t : List Float} (kept : Kept P s t) where
+  pub kept-vec3 : (i : ℕ) → Over P i 3 → vec3At t i ≡ vec3At s i
+  kept-vec3 i w = λ j. record {
+    x = kept .same i (w i (omega arith) (omega arith)) j;
+    y = kept .same (i + 1) (w (i + 1) (omega arith) (omega arith)) j;
+    z = kept .same (i + 2) (w (i + 2) (omega arith) (omega arith)) j;
+  }
+
+  pub kept-row : (i a b : ℕ) → Over P i 14 → rowAt t i a b ≡ rowAt s i a b
+  kept-row i a b w = λ j. record {
+    a = a;
+    b = b;
+    «linear_a» = kept-vec3 i (λ k h l. w k h (omega arith)) j;
+    «angular_a» = kept-vec3 (i + 3) (λ k h l. w k (omega arith) (omega arith)) j;
+    «linear_b» = kept-vec3 (i + 6) (λ k h l. w k (omega arith) (omega arith)) j;
+    «angular_b» = kept-vec3 (i + 9) (λ k h l. w k (omega arith) (omega arith)) j;
+    value = kept .same (i + 12) (w (i + 12) (omega arith) (omega arith)) j;
+    tolerance = kept .same (i + 13) (w (i + 13) (omega arith) (omega arith)) j;
+  }
+
+  pub kept-rows : (i a b n : ℕ) → Over P i (14 * n) → rowsAt t i a b n ≡ rowsAt s i a b n
+  kept-rows i a b n w = tab-ext n λ k h. kept-row (i + 14 * k) a b (λ m p q. w m (omega arith) (omega arith))
+
+-- No joint has more than six rows.
+one-most : (b : Bool) → oneIf b ≤ 1
+unfolding oneIf
+one-most true = omega arith
+one-most false = omega arith
+
+pub count-most : (kind : Kind) → rowCount kind ≤ 6
+count-most Ball = omega arith
+count-most Hinge = omega arith
+count-most Cylindrical = omega arith
+count-most Planar = omega arith
+count-most (Distance length) = omega arith
+count-most (ConeTwist x y lower upper) = omega (arith, one-most (Ieee.eq x (ratio 0 1)), one-most (Ieee.eq y (ratio 0 1)), one-most (Ieee.eq lower upper))

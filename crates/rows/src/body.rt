@@ -1,0 +1,375 @@
+// A body with its momenta, as the solver moves it (body.rs).
+use vectors::matrix::Mat3;
+use vectors::quaternion::OptionQuat;
+use vectors::quaternion::Quat;
+use vectors::vector::OptionF64;
+use vectors::vector::OptionVec3;
+use vectors::vector::Vec3;
+ghost use mathlib.Core.Path.{_≡_};
+ghost use mathlib.Core.Bool.{_&&_};
+ghost use Rattle.arith.specs.Flow.{stop, loop};
+ghost use Rattle.rows.specs.Fault.{arithmeticOverflow, vectorOr, tryFinite};
+ghost use Rattle.rows.specs.Body.{worldCenterOfMassOf, newOf, standing, inverseAngularMassOf, omegaOf, kickOf, anchorOf, placedAt, passOf, integrate, driftOf, originOf, stateOf, sameVec3, sameQuat};
+ghost use Rattle.rows.specs.Answer.{answerOf, passAs, stateAs};
+
+const MAX_ITERATIONS: usize = 32;
+
+// How a solver's call ended: as hoped, or with the Rust's `CollisionError` of that name.
+pub enum Finish {
+    Done,
+    NonConvergent,
+    ArithmeticOverflow,
+}
+
+// The record of a body: what a plan gives, and what a step reads.
+pub struct RigidBody {
+    pub origin: Vec3,
+    pub rotation: Quat,
+    pub linear_velocity: Vec3,
+    pub angular_velocity: Vec3,
+    pub mass: f64,
+    pub center_of_mass: Vec3,
+    pub inertia: Mat3,
+}
+
+// The numbers of a record that a step changes.
+pub struct BodyState {
+    pub origin: Vec3,
+    pub rotation: Quat,
+    pub linear_velocity: Vec3,
+    pub angular_velocity: Vec3,
+}
+
+pub enum StateAnswer {
+    Value(BodyState),
+    ArithmeticOverflow,
+}
+
+pub struct MomentumBody {
+    pub center: Vec3,
+    pub rotation: Quat,
+    pub momentum: Vec3,
+    pub spin: Vec3,
+    pub mass: f64,
+    pub center_of_mass: Vec3,
+    pub inverse_inertia: Mat3,
+}
+
+// The body holds a matrix, so the outcome stands beside it. Where it is not `Done` the body is the one at entry.
+pub struct BodyAnswer {
+    pub outcome: Finish,
+    pub body: MomentumBody,
+}
+
+// What one pass of a drift finds: the next angular velocity, or the rotation at the end of the step.
+pub enum Pass {
+    Next(Vec3),
+    Settled(Quat),
+    ArithmeticOverflow,
+}
+
+// The vector, if it is finite.
+pub fn finite(value: Vec3) -> OptionVec3
+    ensures { λ r. ⌜ vectorOr arithmeticOverflow r ≡ tryFinite value ⌝ }
+{
+    if value.is_finite() {
+        return OptionVec3::Some(value);
+    }
+    OptionVec3::None
+}
+
+// Origin plus rotated local centre.
+pub fn world_center_of_mass(origin: Vec3, rotation: Quat, center_of_mass: Vec3) -> OptionVec3
+    ensures { λ r. ⌜ vectorOr arithmeticOverflow r ≡ worldCenterOfMassOf origin rotation «center_of_mass» ⌝ }
+{
+    match rotation.rotate_vector(center_of_mass) {
+        OptionVec3::Some(turned) => finite(turned.add(origin)),
+        OptionVec3::None => OptionVec3::None,
+    }
+}
+
+// The record's own numbers, which stand beside a failure.
+fn standing(body: RigidBody, inverse_inertia: Mat3) -> MomentumBody
+    ensures { λ r. ⌜ r ≡ standing body «inverse_inertia» ⌝ }
+{
+    let center = body.origin;
+    let rotation = body.rotation;
+    let momentum = body.linear_velocity;
+    let spin = body.angular_velocity;
+    let center_of_mass = body.center_of_mass;
+    MomentumBody {
+        center,
+        rotation,
+        momentum,
+        spin,
+        mass: body.mass,
+        center_of_mass,
+        inverse_inertia,
+    }
+}
+
+impl MomentumBody {
+    // The body of a record. The inverse of its inertia was found before any body is made.
+    pub fn new(body: RigidBody, inverse_inertia: Mat3) -> BodyAnswer
+        ensures { λ r. ⌜ r ≡ answerOf (standing body «inverse_inertia») (newOf body «inverse_inertia») ⌝ }
+    {
+        let rotation = body.rotation;
+        let inertia = body.inertia;
+        let OptionVec3::Some(local) = rotation.conjugate().rotate_vector(body.angular_velocity)
+        else {
+            return standing(body, inverse_inertia).overflow();
+        };
+        let OptionVec3::Some(spin) = rotation.rotate_vector(inertia.apply(local)) else {
+            return standing(body, inverse_inertia).overflow();
+        };
+        let OptionVec3::Some(momentum) = finite(body.linear_velocity.scale(body.mass)) else {
+            return standing(body, inverse_inertia).overflow();
+        };
+        let OptionVec3::Some(center) = world_center_of_mass(
+            body.origin,
+            rotation,
+            body.center_of_mass,
+        ) else {
+            return standing(body, inverse_inertia).overflow();
+        };
+        let center_of_mass = body.center_of_mass;
+        BodyAnswer {
+            outcome: Finish::Done,
+            body: MomentumBody {
+                center,
+                rotation,
+                momentum,
+                spin,
+                mass: body.mass,
+                center_of_mass,
+                inverse_inertia,
+            },
+        }
+    }
+
+    pub fn inverse_angular_mass(self, spin: Vec3) -> OptionVec3
+        ensures { λ r. ⌜ vectorOr arithmeticOverflow r ≡ inverseAngularMassOf self spin ⌝ }
+    {
+        let inverse = self.inverse_inertia;
+        match self.rotation.conjugate().rotate_vector(spin) {
+            OptionVec3::Some(local) => self.rotation.rotate_vector(inverse.apply(local)),
+            OptionVec3::None => OptionVec3::None,
+        }
+    }
+
+    pub fn omega(self) -> OptionVec3
+        ensures { λ r. ⌜ vectorOr arithmeticOverflow r ≡ omegaOf self ⌝ }
+    {
+        self.inverse_angular_mass(self.spin)
+    }
+
+    pub fn kick(self, linear: Vec3, angular: Vec3) -> BodyAnswer
+        ensures { λ r. ⌜ r ≡ answerOf self (kickOf self linear angular) ⌝ }
+    {
+        let OptionVec3::Some(momentum) = finite(self.momentum.add(linear)) else {
+            return self.overflow();
+        };
+        let OptionVec3::Some(spin) = finite(self.spin.add(angular)) else {
+            return self.overflow();
+        };
+        let mut body = self;
+        body.momentum = momentum;
+        body.spin = spin;
+        BodyAnswer {
+            outcome: Finish::Done,
+            body,
+        }
+    }
+
+    fn overflow(self) -> BodyAnswer
+        ensures { λ r. ⌜ r ≡ answerOf self (stop arithmeticOverflow) ⌝ }
+    {
+        BodyAnswer {
+            outcome: Finish::ArithmeticOverflow,
+            body: self,
+        }
+    }
+
+    pub fn anchor(self, local: Vec3) -> OptionVec3
+        ensures { λ r. ⌜ vectorOr arithmeticOverflow r ≡ anchorOf self local ⌝ }
+    {
+        match self.rotation.rotate_vector(local.sub(self.center_of_mass)) {
+            OptionVec3::Some(arm) => finite(self.center.add(arm)),
+            OptionVec3::None => OptionVec3::None,
+        }
+    }
+
+    fn turned(self, rotation: Quat) -> MomentumBody
+        ensures { λ r. ⌜ r ≡ placedAt self (self .center) rotation ⌝ }
+    {
+        let mut body = self;
+        body.rotation = rotation;
+        body
+    }
+
+    // One pass of the search for the half-step angular velocity, from the rotation at entry.
+    fn pass(self, omega: Vec3, dt: f64) -> Pass
+        ensures { λ r. ⌜ passAs r ≡ passOf self dt omega ⌝ }
+    {
+        let OptionQuat::Some(half) = self.rotation
+            .integrate_world_angular_velocity(omega, dt * 0.5)
+        else {
+            return Pass::ArithmeticOverflow;
+        };
+        let OptionVec3::Some(next) = self.turned(half).omega() else {
+            return Pass::ArithmeticOverflow;
+        };
+        let OptionF64::Some(residual) = next.sub(omega).checked_length() else {
+            return Pass::ArithmeticOverflow;
+        };
+        let OptionF64::Some(size) = next.checked_length() else {
+            return Pass::ArithmeticOverflow;
+        };
+        if residual <= 1.0e-14 * (1.0 + size) {
+            return self.settled(next, dt);
+        }
+        Pass::Next(next)
+    }
+
+    fn settled(self, omega: Vec3, dt: f64) -> Pass
+        ensures { λ r. ⌜ passAs r ≡ stop (integrate (self .rotation) omega dt) ⌝ }
+    {
+        match self.rotation.integrate_world_angular_velocity(omega, dt) {
+            OptionQuat::Some(rotation) => Pass::Settled(rotation),
+            OptionQuat::None => Pass::ArithmeticOverflow,
+        }
+    }
+
+    // Implicit rotational midpoint with constant world spin momentum: at most 32 passes.
+    fn passes(self, start: Vec3, dt: f64) -> Pass
+        ensures { λ r. ⌜ passAs r ≡ loop 32 (λ k. passOf self dt) start ⌝ }
+    {
+        let mut omega = start;
+        for k in 0..MAX_ITERATIONS {
+            match self.pass(omega, dt) {
+                Pass::Next(next) => {
+                    omega = next;
+                }
+                Pass::Settled(rotation) => {
+                    return Pass::Settled(rotation);
+                }
+                Pass::ArithmeticOverflow => {
+                    return Pass::ArithmeticOverflow;
+                }
+            }
+        }
+        Pass::Next(omega)
+    }
+
+    pub fn drift(self, dt: f64) -> BodyAnswer
+        ensures { λ r. ⌜ r ≡ answerOf self (driftOf self dt) ⌝ }
+    {
+        let OptionVec3::Some(center) = finite(self.center.add(self.momentum.scale(dt / self.mass)))
+        else {
+            return self.overflow();
+        };
+        let OptionVec3::Some(omega) = self.omega() else {
+            return self.overflow();
+        };
+        match self.passes(omega, dt) {
+            Pass::Settled(rotation) => {
+                let mut body = self.turned(rotation);
+                body.center = center;
+                BodyAnswer {
+                    outcome: Finish::Done,
+                    body,
+                }
+            }
+            Pass::Next(_) => BodyAnswer {
+                outcome: Finish::NonConvergent,
+                body: self,
+            },
+            Pass::ArithmeticOverflow => self.overflow(),
+        }
+    }
+
+    // The origin of the body, where `Transform::new` and `set_transform` take it.
+    fn origin(self) -> OptionVec3
+        ensures { λ r. ⌜ vectorOr arithmeticOverflow r ≡ originOf self ⌝ }
+    {
+        let OptionVec3::Some(turned) = self.rotation.rotate_vector(self.center_of_mass) else {
+            return OptionVec3::None;
+        };
+        let OptionVec3::Some(origin) = finite(self.center.sub(turned)) else {
+            return OptionVec3::None;
+        };
+        if !self.rotation.is_normalized() {
+            return OptionVec3::None;
+        }
+        match world_center_of_mass(origin, self.rotation, self.center_of_mass) {
+            OptionVec3::Some(_) => OptionVec3::Some(origin),
+            OptionVec3::None => OptionVec3::None,
+        }
+    }
+
+    // The state that the body hands back. The transform keeps its old bits where the new one compares equal.
+    pub fn state(self, old: BodyState) -> StateAnswer
+        ensures { λ r. ⌜ stateAs r ≡ stateOf self old ⌝ }
+    {
+        let OptionVec3::Some(origin) = self.origin() else {
+            return StateAnswer::ArithmeticOverflow;
+        };
+        let OptionVec3::Some(linear) = finite(self.momentum.div(self.mass)) else {
+            return StateAnswer::ArithmeticOverflow;
+        };
+        let OptionVec3::Some(angular) = self.omega() else {
+            return StateAnswer::ArithmeticOverflow;
+        };
+        let rotation = self.rotation;
+        let old_origin = old.origin;
+        let old_rotation = old.rotation;
+        if same_transform(origin, rotation, old_origin, old_rotation) {
+            return StateAnswer::Value(BodyState {
+                origin: old_origin,
+                rotation: old_rotation,
+                linear_velocity: linear,
+                angular_velocity: angular,
+            });
+        }
+        StateAnswer::Value(BodyState {
+            origin,
+            rotation,
+            linear_velocity: linear,
+            angular_velocity: angular,
+        })
+    }
+}
+
+// Whether all seven numbers of two transforms compare equal.
+fn same_transform(origin: Vec3, rotation: Quat, old_origin: Vec3, old_rotation: Quat) -> bool
+    ensures { λ r. ⌜ r ≡ (sameVec3 origin «old_origin» && sameQuat rotation «old_rotation») ⌝ }
+{
+    if same_vec3(origin, old_origin) {
+        return same_quat(rotation, old_rotation);
+    }
+    false
+}
+
+fn same_vec3(a: Vec3, b: Vec3) -> bool
+    ensures { λ r. ⌜ r ≡ sameVec3 a b ⌝ }
+{
+    if a.x == b.x {
+        if a.y == b.y {
+            return a.z == b.z;
+        }
+    }
+    false
+}
+
+fn same_quat(a: Quat, b: Quat) -> bool
+    ensures { λ r. ⌜ r ≡ sameQuat a b ⌝ }
+{
+    if a.x == b.x {
+        if a.y == b.y {
+            if a.z == b.z {
+                return a.w == b.w;
+            }
+        }
+    }
+    false
+}

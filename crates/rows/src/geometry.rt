@@ -1,0 +1,727 @@
+// Joints and their equality rows (geometry.rs). A row lies in the lent slice as 14 doubles: the two linear and angular
+// parts of a, those of b, value and tolerance. The bodies that it joins are kept beside the slice.
+use crate::body::MomentumBody;
+use crate::body::finite;
+use arith::angle::Angle;
+use arith::angle::PI;
+use arith::angle::atan2;
+use arith::angle::rem_tau;
+use arith::number::abs;
+use arith::number::is_finite;
+use arith::number::max;
+use arith::root::sqrt;
+use vectors::quaternion::OptionQuat;
+use vectors::quaternion::Quat;
+use vectors::vector::OptionF64;
+use vectors::vector::OptionVec3;
+use vectors::vector::Vec3;
+ghost use mathlib.Core.Path.{_≡_};
+ghost use mathlib.Core.Bool.{true};
+ghost use mathlib.Core.List.{List};
+ghost use Prim.Native.Nat.{ℕ, _+_, _*_, _≤_};
+ghost use lib.ListN.{length};
+ghost use lib.Ieee as Ieee;
+ghost use lib.Ieee.{Float};
+ghost use Rattle.arith.specs.Real.{ratio};
+ghost use Rattle.arith.specs.Flow.{go};
+ghost use Rattle.rows.specs.Fault.{Result, arithmeticOverflow, numberOr};
+ghost use Rattle.rows.specs.Geometry.{turning, endsOf, toleranceOf, distanceRow, linearRow, rowIf, linearAxes, linearRows, anyLocked, halfTurned, relativeOf, swingX, swingY, localOf, gradientRow, swingRow, twistRow, coneRows, alignedOf, alignRow, alignRows, angularRows, finiteValues, frameRows, rowCount, oneIf};
+ghost use Rattle.rows.specs.View.{vec3At, rowAt, rowsAt, Out, Kept};
+ghost use Rattle.rows.specs.Answer.{Writes};
+ghost use Rattle.rows.specs.Append.{endsAs, axisAs, relativeAs, rowAs, Stored2, countOf, Appends, Adds, followedBy};
+
+pub const MAX_EQUALITY_ROWS: usize = 6;
+// The doubles of a row.
+pub const ROW: usize = 14;
+
+const EPSILON: f64 = 2.220446049250313e-16;
+
+// A connector frame in a body's local coordinates.
+pub struct JointFrame {
+    pub local_anchor: Vec3,
+    pub local_rotation: Quat,
+}
+
+pub enum Kind {
+    Ball,
+    Hinge,
+    Cylindrical,
+    Planar,
+    Distance(f64),
+    ConeTwist {
+        swing_x: f64,
+        swing_y: f64,
+        twist_lower: f64,
+        twist_upper: f64,
+    },
+}
+
+pub struct Joint {
+    pub body_a: usize,
+    pub body_b: usize,
+    pub frame_a: JointFrame,
+    pub frame_b: JointFrame,
+    pub kind: Kind,
+}
+
+pub struct EqualityRow {
+    pub a: usize,
+    pub b: usize,
+    pub linear_a: Vec3,
+    pub angular_a: Vec3,
+    pub linear_b: Vec3,
+    pub angular_b: Vec3,
+    pub value: f64,
+    pub tolerance: f64,
+}
+
+// A row, or none where its axis is free, or why there is no answer.
+pub enum RowAnswer {
+    Value(EqualityRow),
+    Free,
+    NonConvergent,
+    ArithmeticOverflow,
+}
+
+// How many rows were written, or why not.
+pub enum Written {
+    Rows(usize),
+    NonConvergent,
+    ArithmeticOverflow,
+}
+
+// Both anchors, what leads from a's to b's, the arms from the centres to them, and both frames.
+pub struct Ends {
+    pub pa: Vec3,
+    pub pb: Vec3,
+    pub delta: Vec3,
+    pub arm_a: Vec3,
+    pub arm_b: Vec3,
+    pub frame_a: Quat,
+    pub frame_b: Quat,
+}
+
+pub enum EndsAnswer {
+    Value(Ends),
+    ArithmeticOverflow,
+}
+
+// Which axes of frame a a kind locks the anchors' difference along.
+pub struct Linear {
+    pub x: bool,
+    pub y: bool,
+    pub z: bool,
+}
+
+// The numbers of a cone twist.
+pub struct Cone {
+    pub swing_x: f64,
+    pub swing_y: f64,
+    pub twist_lower: f64,
+    pub twist_upper: f64,
+}
+
+// The rotation of frame b seen from frame a, with the square and the root of w * w + z * z.
+pub struct Relative {
+    pub rotation: Quat,
+    pub norm_squared: f64,
+    pub norm: f64,
+}
+
+pub enum RelativeAnswer {
+    Value(Relative),
+    NonConvergent,
+    ArithmeticOverflow,
+}
+
+// What differs between the two swing rows.
+pub struct Swing {
+    pub numerator: f64,
+    pub gradient: Vec3,
+    pub scalar: f64,
+}
+
+// The Z axis of frame b, where frame a's leads the same way.
+pub enum AxisAnswer {
+    Value(Vec3),
+    NonConvergent,
+    ArithmeticOverflow,
+}
+
+fn load3(s: &[f64], at: usize) -> Vec3
+    requires { ⌜ at + 3 ≤ length (now s) ⌝ }
+    ensures { λ r. ⌜ r ≡ vec3At (now (s .entry)) at ⌝ }
+{
+    Vec3 {
+        x: s[at],
+        y: s[at + 1],
+        z: s[at + 2],
+    }
+}
+
+fn store3(s: &mut [f64], at: usize, v: Vec3)
+    requires { ⌜ at + 3 ≤ length (now s) ⌝ }
+    ensures { λ _. ⌜ (Kept (λ k. Out at 3 k) (now (s .entry)) (now (s .exit))) × (vec3At (now (s .exit)) at ≡ v) ⌝ }
+{
+    s[at] = v.x;
+    s[at + 1] = v.y;
+    s[at + 2] = v.z;
+}
+
+fn store2(s: &mut [f64], at: usize, value: f64, tolerance: f64)
+    requires { ⌜ at + 2 ≤ length (now s) ⌝ }
+    ensures { λ _. ⌜ Stored2 at value tolerance (now (s .entry)) (now (s .exit)) ⌝ }
+{
+    s[at] = value;
+    s[at + 1] = tolerance;
+}
+
+impl EqualityRow {
+    pub fn store(self, s: &mut [f64], at: usize)
+        requires { ⌜ at + 14 ≤ length (now s) ⌝ }
+        ensures { λ _. ⌜ (Kept (λ k. Out at 14 k) (now (s .entry)) (now (s .exit))) × (rowAt (now (s .exit)) at (self .a) (self .b) ≡ self) ⌝ }
+    {
+        store3(s, at, self.linear_a);
+        store3(s, at + 3, self.angular_a);
+        store3(s, at + 6, self.linear_b);
+        store3(s, at + 9, self.angular_b);
+        store2(s, at + 12, self.value, self.tolerance);
+    }
+
+    pub fn load(s: &[f64], at: usize, a: usize, b: usize) -> EqualityRow
+        requires { ⌜ at + 14 ≤ length (now s) ⌝ }
+        ensures { λ r. ⌜ r ≡ rowAt (now (s .entry)) at a b ⌝ }
+    {
+        EqualityRow {
+            a,
+            b,
+            linear_a: load3(s, at),
+            angular_a: load3(s, at + 3),
+            linear_b: load3(s, at + 6),
+            angular_b: load3(s, at + 9),
+            value: s[at + 12],
+            tolerance: s[at + 13],
+        }
+    }
+
+    // A row that turns only, with the smallest tolerance.
+    fn turning(joint: Joint, angular_a: Vec3, angular_b: Vec3, value: f64) -> EqualityRow
+        ensures { λ r. ⌜ r ≡ turning joint «angular_a» «angular_b» value ⌝ }
+    {
+        EqualityRow {
+            a: joint.body_a,
+            b: joint.body_b,
+            linear_a: Vec3::ZERO,
+            angular_a,
+            linear_b: Vec3::ZERO,
+            angular_b,
+            value,
+            tolerance: 1.0e-13,
+        }
+    }
+}
+
+fn ends_of(joint: Joint, a: MomentumBody, b: MomentumBody) -> EndsAnswer
+    ensures { λ r. ⌜ endsAs r ≡ endsOf joint a b ⌝ }
+{
+    let frame_a = joint.frame_a;
+    let frame_b = joint.frame_b;
+    let OptionVec3::Some(pa) = a.anchor(frame_a.local_anchor) else {
+        return EndsAnswer::ArithmeticOverflow;
+    };
+    let OptionVec3::Some(pb) = b.anchor(frame_b.local_anchor) else {
+        return EndsAnswer::ArithmeticOverflow;
+    };
+    let OptionVec3::Some(delta) = finite(pb.sub(pa)) else {
+        return EndsAnswer::ArithmeticOverflow;
+    };
+    EndsAnswer::Value(Ends {
+        pa,
+        pb,
+        delta,
+        arm_a: pa.sub(a.center),
+        arm_b: pb.sub(b.center),
+        frame_a: a.rotation.product(frame_a.local_rotation),
+        frame_b: b.rotation.product(frame_b.local_rotation),
+    })
+}
+
+// 32 epsilon times the anchors' lengths, at least 1e-13.
+fn tolerance(pa: Vec3, pb: Vec3) -> OptionF64
+    ensures { λ r. ⌜ numberOr arithmeticOverflow r ≡ toleranceOf pa pb ⌝ }
+{
+    let OptionF64::Some(la) = pa.checked_length() else {
+        return OptionF64::None;
+    };
+    let OptionF64::Some(lb) = pb.checked_length() else {
+        return OptionF64::None;
+    };
+    OptionF64::Some(max(32.0 * EPSILON * (la + lb), 1.0e-13))
+}
+
+fn distance_row(joint: Joint, e: Ends, length: f64) -> RowAnswer
+    ensures { λ r. ⌜ rowAs r ≡ rowIf true (distanceRow joint e length) ⌝ }
+{
+    let OptionF64::Some(distance) = e.delta.checked_length() else {
+        return RowAnswer::ArithmeticOverflow;
+    };
+    let OptionVec3::Some(axis) = e.delta.try_normalize() else {
+        return RowAnswer::NonConvergent;
+    };
+    let OptionF64::Some(tolerance) = tolerance(e.pa, e.pb) else {
+        return RowAnswer::ArithmeticOverflow;
+    };
+    RowAnswer::Value(EqualityRow {
+        a: joint.body_a,
+        b: joint.body_b,
+        linear_a: axis.neg(),
+        angular_a: e.arm_a.cross(axis).neg(),
+        linear_b: axis,
+        angular_b: e.arm_b.cross(axis),
+        value: distance - length,
+        tolerance,
+    })
+}
+
+// The anchors' difference along an axis of frame a.
+fn linear_row(joint: Joint, e: Ends, local_axis: Vec3, tolerance: f64) -> RowAnswer
+    requires { ⌜ go tolerance ≡ toleranceOf (e .pa) (e .pb) ⌝ }
+    ensures { λ r. ⌜ rowAs r ≡ rowIf true (linearRow joint e «local_axis») ⌝ }
+{
+    let OptionVec3::Some(axis) = e.frame_a.rotate_vector(local_axis) else {
+        return RowAnswer::ArithmeticOverflow;
+    };
+    let OptionVec3::Some(angular_a) = finite(axis.cross(e.delta).sub(e.arm_a.cross(axis))) else {
+        return RowAnswer::ArithmeticOverflow;
+    };
+    let OptionVec3::Some(angular_b) = finite(e.arm_b.cross(axis)) else {
+        return RowAnswer::ArithmeticOverflow;
+    };
+    RowAnswer::Value(EqualityRow {
+        a: joint.body_a,
+        b: joint.body_b,
+        linear_a: axis.neg(),
+        angular_a,
+        linear_b: axis,
+        angular_b,
+        value: e.delta.dot(axis),
+        tolerance,
+    })
+}
+
+fn linear_row_if(locked: bool, joint: Joint, e: Ends, local_axis: Vec3, tolerance: f64) -> RowAnswer
+    requires { ⌜ go tolerance ≡ toleranceOf (e .pa) (e .pb) ⌝ }
+    ensures { λ r. ⌜ rowAs r ≡ rowIf locked (linearRow joint e «local_axis») ⌝ }
+{
+    if locked {
+        return linear_row(joint, e, local_axis, tolerance);
+    }
+    RowAnswer::Free
+}
+
+// The Z axis of frame b. The aligning kinds refuse where the Z axes lead apart.
+fn aligned(frame_a: Quat, frame_b: Quat) -> AxisAnswer
+    ensures { λ r. ⌜ axisAs r ≡ alignedOf «frame_a» «frame_b» ⌝ }
+{
+    let OptionVec3::Some(z) = frame_b.rotate_vector(Vec3::Z) else {
+        return AxisAnswer::ArithmeticOverflow;
+    };
+    let OptionVec3::Some(za) = frame_a.rotate_vector(Vec3::Z) else {
+        return AxisAnswer::ArithmeticOverflow;
+    };
+    if za.dot(z) <= 1.0e-10 {
+        return AxisAnswer::NonConvergent;
+    }
+    AxisAnswer::Value(z)
+}
+
+// The Z axis of frame b across an axis of frame a.
+fn align_row(joint: Joint, frame_a: Quat, local_axis: Vec3, z: Vec3) -> RowAnswer
+    ensures { λ r. ⌜ rowAs r ≡ rowIf true (alignRow joint «frame_a» «local_axis» z) ⌝ }
+{
+    let OptionVec3::Some(axis) = frame_a.rotate_vector(local_axis) else {
+        return RowAnswer::ArithmeticOverflow;
+    };
+    let OptionVec3::Some(gradient) = finite(axis.cross(z)) else {
+        return RowAnswer::ArithmeticOverflow;
+    };
+    RowAnswer::Value(EqualityRow::turning(joint, gradient, gradient.neg(), axis.dot(z)))
+}
+
+// swing = relative * conjugate(normalize(relative.zw)).
+fn swing_x(q: Quat) -> Swing
+    ensures { λ r. ⌜ r ≡ swingX q ⌝ }
+{
+    Swing {
+        numerator: q.w * q.x - q.z * q.y,
+        gradient: Vec3::new(q.w, -q.z, -q.y),
+        scalar: q.x,
+    }
+}
+
+fn swing_y(q: Quat) -> Swing
+    ensures { λ r. ⌜ r ≡ swingY q ⌝ }
+{
+    Swing {
+        numerator: q.w * q.y + q.z * q.x,
+        gradient: Vec3::new(q.z, q.w, q.x),
+        scalar: q.y,
+    }
+}
+
+// A gradient in the relative rotation as an angular velocity of frame a.
+fn local_gradient(q: Quat, gradient: Vec3, scalar: f64) -> Vec3
+    ensures { λ r. ⌜ r ≡ localOf q gradient scalar ⌝ }
+{
+    let vector = Vec3::new(q.x, q.y, q.z);
+    gradient
+        .scale(q.w)
+        .add(vector.cross(gradient))
+        .sub(vector.scale(scalar))
+        .scale(0.5)
+}
+
+// A row along a gradient in the relative rotation.
+fn gradient_row(
+    joint: Joint,
+    frame_a: Quat,
+    q: Quat,
+    gradient: Vec3,
+    scalar: f64,
+    value: f64,
+) -> RowAnswer
+    ensures { λ r. ⌜ rowAs r ≡ rowIf true (gradientRow joint «frame_a» q gradient scalar value) ⌝ }
+{
+    match frame_a.rotate_vector(local_gradient(q, gradient, scalar)) {
+        OptionVec3::Some(angular) => {
+            RowAnswer::Value(EqualityRow::turning(joint, angular.neg(), angular, value))
+        }
+        OptionVec3::None => RowAnswer::ArithmeticOverflow,
+    }
+}
+
+fn swing_row(joint: Joint, frame_a: Quat, r: Relative, swing: Swing) -> RowAnswer
+    ensures { λ out. ⌜ rowAs out ≡ rowIf true (swingRow joint «frame_a» r swing) ⌝ }
+{
+    let q = r.rotation;
+    let value = 2.0 * swing.numerator / r.norm;
+    let cubed = r.norm_squared * r.norm;
+    let gradient = swing
+        .gradient
+        .scale(2.0 / r.norm)
+        .sub(Vec3::Z.scale(2.0 * swing.numerator * q.z / cubed));
+    let scalar = 2.0 * swing.scalar / r.norm - 2.0 * swing.numerator * q.w / cubed;
+    gradient_row(joint, frame_a, q, gradient, scalar, value)
+}
+
+fn swing_row_if(limit: f64, joint: Joint, frame_a: Quat, r: Relative, swing: Swing) -> RowAnswer
+    ensures { λ out. ⌜ rowAs out ≡ rowIf (Ieee.eq limit (ratio 0 1)) (swingRow joint «frame_a» r swing) ⌝ }
+{
+    if limit == 0.0 {
+        return swing_row(joint, frame_a, r, swing);
+    }
+    RowAnswer::Free
+}
+
+fn twist_row(joint: Joint, frame_a: Quat, r: Relative, lower: f64) -> RowAnswer
+    ensures { λ out. ⌜ rowAs out ≡ rowIf true (twistRow joint «frame_a» r lower) ⌝ }
+{
+    let q = r.rotation;
+    let Angle::Value(half) = atan2(q.z, q.w) else {
+        return RowAnswer::ArithmeticOverflow;
+    };
+    let value = rem_tau(2.0 * half - lower + PI) - PI;
+    if abs(value) >= PI - 1.0e-10 {
+        return RowAnswer::NonConvergent;
+    }
+    let gradient = Vec3::Z.scale(2.0 * q.w / r.norm_squared);
+    let scalar = -2.0 * q.z / r.norm_squared;
+    gradient_row(joint, frame_a, q, gradient, scalar, value)
+}
+
+fn twist_row_if(joint: Joint, frame_a: Quat, r: Relative, cone: Cone) -> RowAnswer
+    ensures { λ out. ⌜ rowAs out ≡ rowIf (Ieee.eq (cone .«twist_lower») (cone .«twist_upper»)) (twistRow joint «frame_a» r (cone .«twist_lower»)) ⌝ }
+{
+    if cone.twist_lower == cone.twist_upper {
+        return twist_row(joint, frame_a, r, cone.twist_lower);
+    }
+    RowAnswer::Free
+}
+
+fn any_locked(cone: Cone) -> bool
+    ensures { λ r. ⌜ r ≡ anyLocked cone ⌝ }
+{
+    if cone.swing_x == 0.0 {
+        return true;
+    }
+    if cone.swing_y == 0.0 {
+        return true;
+    }
+    cone.twist_lower == cone.twist_upper
+}
+
+// A half turn has no twist, so nothing may be locked there.
+fn half_turned(cone: Cone, norm_squared: f64) -> bool
+    ensures { λ r. ⌜ r ≡ halfTurned cone «norm_squared» ⌝ }
+{
+    if norm_squared <= (64.0 * EPSILON) * (64.0 * EPSILON) {
+        return any_locked(cone);
+    }
+    false
+}
+
+fn relative_of(cone: Cone, frame_a: Quat, frame_b: Quat) -> RelativeAnswer
+    ensures { λ r. ⌜ relativeAs r ≡ relativeOf cone «frame_a» «frame_b» ⌝ }
+{
+    let OptionQuat::Some(q) = frame_a.conjugate().product(frame_b).try_normalize() else {
+        return RelativeAnswer::ArithmeticOverflow;
+    };
+    let norm_squared = q.w * q.w + q.z * q.z;
+    if half_turned(cone, norm_squared) {
+        return RelativeAnswer::NonConvergent;
+    }
+    RelativeAnswer::Value(Relative {
+        rotation: q,
+        norm_squared,
+        norm: sqrt(norm_squared),
+    })
+}
+
+fn linear_axes(kind: Kind) -> Linear
+    ensures { λ r. ⌜ r ≡ linearAxes kind ⌝ }
+{
+    let all = Linear {
+        x: true,
+        y: true,
+        z: true,
+    };
+    match kind {
+        Kind::Ball => all,
+        Kind::Hinge => all,
+        Kind::Cylindrical => Linear {
+            x: true,
+            y: true,
+            z: false,
+        },
+        Kind::Planar => Linear {
+            x: false,
+            y: false,
+            z: true,
+        },
+        Kind::Distance(_) => all,
+        Kind::ConeTwist {
+            swing_x: _,
+            swing_y: _,
+            twist_lower: _,
+            twist_upper: _,
+        } => all,
+    }
+}
+
+fn append_row(s: &mut [f64], at: usize, n: usize, answer: RowAnswer) -> Written
+    requires { ⌜ at + 14 * n + 14 ≤ length (now s) ⌝ }
+    ensures { λ r. ⌜ Appends at (Written.Rows n) answer (now (s .entry)) (now (s .exit)) r ⌝ }
+{
+    match answer {
+        RowAnswer::Value(row) => {
+            row.store(s, at + ROW * n);
+            Written::Rows(n + 1)
+        }
+        RowAnswer::Free => Written::Rows(n),
+        RowAnswer::NonConvergent => Written::NonConvergent,
+        RowAnswer::ArithmeticOverflow => Written::ArithmeticOverflow,
+    }
+}
+
+// The answer's row behind those written. The first failure stands.
+fn append(s: &mut [f64], at: usize, written: Written, answer: RowAnswer) -> Written
+    requires { ⌜ at + 14 * countOf written + 14 ≤ length (now s) ⌝ }
+    ensures { λ r. ⌜ Appends at written answer (now (s .entry)) (now (s .exit)) r ⌝ }
+{
+    match written {
+        Written::Rows(n) => append_row(s, at, n, answer),
+        Written::NonConvergent => Written::NonConvergent,
+        Written::ArithmeticOverflow => Written::ArithmeticOverflow,
+    }
+}
+
+fn write_linear(s: &mut [f64], at: usize, joint: Joint, e: Ends, tolerance: f64) -> Written
+    requires { ⌜ (at + 84 ≤ length (now s)) × (go tolerance ≡ toleranceOf (e .pa) (e .pb)) ⌝ }
+    ensures { λ r. ⌜ Adds (joint .«body_a») (joint .«body_b») at 3 (now (s .entry)) (now (s .exit)) r (linearRows joint e) ⌝ }
+{
+    let kind = joint.kind;
+    let locked = linear_axes(kind);
+    let x = linear_row_if(locked.x, joint, e, Vec3::X, tolerance);
+    let one = append(s, at, Written::Rows(0), x);
+    let y = linear_row_if(locked.y, joint, e, Vec3::Y, tolerance);
+    let two = append(s, at, one, y);
+    let z = linear_row_if(locked.z, joint, e, Vec3::Z, tolerance);
+    append(s, at, two, z)
+}
+
+fn write_align(s: &mut [f64], at: usize, written: Written, joint: Joint, e: Ends) -> Written
+    requires { ⌜ (at + 84 ≤ length (now s)) × (countOf written ≤ 3) ⌝ }
+    ensures { λ r. ⌜ ((start : List Float) (d : Result (List EqualityRow)) → Adds (joint .«body_a») (joint .«body_b») at 3 start (now (s .entry)) written d → Adds (joint .«body_a») (joint .«body_b») at 6 start (now (s .exit)) r (followedBy d (alignRows joint e))) ⌝ }
+{
+    match aligned(e.frame_a, e.frame_b) {
+        AxisAnswer::Value(z) => {
+            let x = align_row(joint, e.frame_a, Vec3::X, z);
+            let one = append(s, at, written, x);
+            let y = align_row(joint, e.frame_a, Vec3::Y, z);
+            append(s, at, one, y)
+        }
+        AxisAnswer::NonConvergent => append(s, at, written, RowAnswer::NonConvergent),
+        AxisAnswer::ArithmeticOverflow => append(s, at, written, RowAnswer::ArithmeticOverflow),
+    }
+}
+
+fn write_cone(
+    s: &mut [f64],
+    at: usize,
+    written: Written,
+    joint: Joint,
+    e: Ends,
+    cone: Cone,
+) -> Written
+    requires { ⌜ (at + 84 ≤ length (now s)) × (countOf written ≤ 3) ⌝ }
+    ensures { λ r. ⌜ ((start : List Float) (d : Result (List EqualityRow)) → Adds (joint .«body_a») (joint .«body_b») at 3 start (now (s .entry)) written d → Adds (joint .«body_a») (joint .«body_b») at 6 start (now (s .exit)) r (followedBy d (coneRows joint e cone))) ⌝ }
+{
+    match relative_of(cone, e.frame_a, e.frame_b) {
+        RelativeAnswer::Value(r) => {
+            let x = swing_row_if(cone.swing_x, joint, e.frame_a, r, swing_x(r.rotation));
+            let one = append(s, at, written, x);
+            let y = swing_row_if(cone.swing_y, joint, e.frame_a, r, swing_y(r.rotation));
+            let two = append(s, at, one, y);
+            let twist = twist_row_if(joint, e.frame_a, r, cone);
+            append(s, at, two, twist)
+        }
+        RelativeAnswer::NonConvergent => append(s, at, written, RowAnswer::NonConvergent),
+        RelativeAnswer::ArithmeticOverflow => append(s, at, written, RowAnswer::ArithmeticOverflow),
+    }
+}
+
+// The rows on rotations that a kind adds to its linear ones.
+fn write_angular(s: &mut [f64], at: usize, written: Written, joint: Joint, e: Ends) -> Written
+    requires { ⌜ (at + 84 ≤ length (now s)) × (countOf written ≤ 3) ⌝ }
+    ensures { λ r. ⌜ ((start : List Float) (d : Result (List EqualityRow)) → Adds (joint .«body_a») (joint .«body_b») at 3 start (now (s .entry)) written d → Adds (joint .«body_a») (joint .«body_b») at 6 start (now (s .exit)) r (followedBy d (angularRows (joint .kind) joint e))) ⌝ }
+{
+    let kind = joint.kind;
+    match kind {
+        Kind::Ball => written,
+        Kind::Distance(_) => written,
+        Kind::ConeTwist {
+            swing_x,
+            swing_y,
+            twist_lower,
+            twist_upper,
+        } => write_cone(
+            s,
+            at,
+            written,
+            joint,
+            e,
+            Cone {
+                swing_x,
+                swing_y,
+                twist_lower,
+                twist_upper,
+            },
+        ),
+        Kind::Hinge => write_align(s, at, written, joint, e),
+        Kind::Cylindrical => write_align(s, at, written, joint, e),
+        Kind::Planar => write_align(s, at, written, joint, e),
+    }
+}
+
+fn values_finite(s: &[f64], at: usize, count: usize) -> bool
+    requires { ⌜ at + 14 * count ≤ length (now s) ⌝ }
+    ensures { λ r. ⌜ ((a b : ℕ) → r ≡ finiteValues (rowsAt (now (s .entry)) at a b count)) ⌝ }
+{
+    for k in 0..count {
+        if !is_finite(s[at + ROW * k + 12]) {
+            return false;
+        }
+    }
+    true
+}
+
+// All rows but a rod's: the linear ones, then those on rotations.
+fn write_frames(s: &mut [f64], at: usize, joint: Joint, e: Ends) -> Written
+    requires { ⌜ at + 84 ≤ length (now s) ⌝ }
+    ensures { λ r. ⌜ Adds (joint .«body_a») (joint .«body_b») at 6 (now (s .entry)) (now (s .exit)) r (frameRows joint e) ⌝ }
+{
+    let OptionF64::Some(tolerance) = tolerance(e.pa, e.pb) else {
+        return Written::ArithmeticOverflow;
+    };
+    let linear = write_linear(s, at, joint, e, tolerance);
+    let written = write_angular(s, at, linear, joint, e);
+    match written {
+        Written::Rows(count) => {
+            if values_finite(s, at, count) {
+                return Written::Rows(count);
+            }
+            Written::ArithmeticOverflow
+        }
+        Written::NonConvergent => Written::NonConvergent,
+        Written::ArithmeticOverflow => Written::ArithmeticOverflow,
+    }
+}
+
+pub fn write_equality_rows(
+    s: &mut [f64],
+    at: usize,
+    joint: Joint,
+    a: MomentumBody,
+    b: MomentumBody,
+) -> Written
+    requires { ⌜ at + 84 ≤ length (now s) ⌝ }
+    ensures { λ r. ⌜ Writes joint a b at (now (s .entry)) (now (s .exit)) r ⌝ }
+{
+    let EndsAnswer::Value(e) = ends_of(joint, a, b) else {
+        return Written::ArithmeticOverflow;
+    };
+    let kind = joint.kind;
+    match kind {
+        Kind::Ball => write_frames(s, at, joint, e),
+        Kind::Hinge => write_frames(s, at, joint, e),
+        Kind::Cylindrical => write_frames(s, at, joint, e),
+        Kind::Planar => write_frames(s, at, joint, e),
+        Kind::Distance(length) => {
+            append(s, at, Written::Rows(0), distance_row(joint, e, length))
+        }
+        Kind::ConeTwist {
+            swing_x: _,
+            swing_y: _,
+            twist_lower: _,
+            twist_upper: _,
+        } => write_frames(s, at, joint, e),
+    }
+}
+
+// The rows of a kind, as many as `write_equality_rows` writes.
+pub fn row_count(kind: Kind) -> usize
+    ensures { λ r. ⌜ r ≡ rowCount kind ⌝ }
+{
+    match kind {
+        Kind::Ball => 3,
+        Kind::Hinge => 5,
+        Kind::Cylindrical => 4,
+        Kind::Planar => 3,
+        Kind::Distance(_) => 1,
+        Kind::ConeTwist {
+            swing_x,
+            swing_y,
+            twist_lower,
+            twist_upper,
+        } => 3
+            + one_if_equal(swing_x, 0.0)
+            + one_if_equal(swing_y, 0.0)
+            + one_if_equal(twist_lower, twist_upper),
+    }
+}
+
+fn one_if_equal(a: f64, b: f64) -> usize
+    ensures { λ r. ⌜ r ≡ oneIf (Ieee.eq a b) ⌝ }
+{
+    if a == b { 1 } else { 0 }
+}

@@ -1,0 +1,287 @@
+-- `dot`, `transpose`, `operator` and `cross_mass`: from reads of the scratch to the definitions over lists.
+use Prim.Native.Nat.{ℕ, zero, suc, _+_, _*_, _-_, _≤_, _<_}
+use mathlib.Core.Path.{_≡_, refl, sym, _∙_, ap, subst}
+use mathlib.Core.Bool.{Bool, true, false, cond}
+use mathlib.Core.List.{List, [], _∷_, _++_}
+use native.Mathlib.Omega.{arith}
+use lib.Dec.{eqb}
+use borrow.Author.Tests.{eq-eqb, ne-eqb}
+use lib.ListN.{length, getD, set, replicate, length-set}
+use lib.Ieee.{Float, nan}
+use Rattle.arith.specs.Real.{ratio, isFinite, _⊕_, _⊗_}
+use Rattle.arith.specs.Flow.{Turn, go, stop, _>>=_, turns, tab, loop, add, each}
+use Rattle.arith.specs.FlowLaws.{turns-more, cond-no, then-go, then-stop, loop-none, loop-more, loop-stop, loop-end, each-none, each-more, each-stop, each-end}
+use Rattle.vectors.specs.declared.vector.Vec3.{Vec3}
+use Rattle.vectors.specs.Vector.{dotOf}
+use Rattle.vectors.specs.Matrix.{applyOf}
+use Rattle.rows.specs.declared.geometry.EqualityRow.{EqualityRow}
+use Rattle.rows.specs.Fault.{arithmeticOverflow, Result}
+use Rattle.rows.specs.View.{at, Out, Kept}
+use Rattle.rows.specs.Region.{tab-length, tab-ext, tab-at, kept-set, kept-refl, kept-then, kept-more, Over}
+use Rattle.solves.specs.declared.places.Generalized.{Generalized}
+use Rattle.solves.specs.declared.places.MassResponse.{MassResponse}
+use Rattle.solves.specs.declared.Outcome.{Outcome}
+use Rattle.solves.specs.declared.Outcome.the-variants as Outcomes
+use Rattle.solves.specs.Region.{vecAt, Filled, Does}
+use Rattle.solves.specs.RegionLaws.{vec-at, vec-in, kept-vec, vec-more}
+use Rattle.solves.specs.Solver.{rowIn, generalizedIn, massIn, noGeneralized, noMass, tryNumber, sumProducts, dot, pushed, pushInto, pushRow, transpose, scaled, scaleAll, rate, rates, operator, noShare, through, addThrough, crossEnd, crossMass}
+use Rattle.solves.specs.Answer.{ranAs}
+use Rattle.solves.specs.View.{rowOn, rowsOn, generalizedAt, generalizedsAt, massAt, massesAt, Rows, Place, Shares, GENERALIZED, MASSES, END}
+use Rattle.solves.proofs.DoesLaws.{number-yes, number-no, ran-done, ran-over, does-stop, does-then}
+use Rattle.solves.proofs.PlaceLaws.{kept-rows, kept-generalized, kept-masses, row-in, share-in, mass-in, shares-set, shares-more, shares-none}
+
+-- dot
+abbrev pub dotTurn : List Float → List Float → ℕ → Float → Float
+dotTurn a b k sum = sum ⊕ at a k ⊗ at b k
+
+pub products-more : (s : List Float) (a b n k : ℕ) {total : Float} → k < n → total ≡ sumProducts (vecAt s a n) (vecAt s b n) k
+    → total ⊕ at s (a + k) ⊗ at s (b + k) ≡ sumProducts (vecAt s a n) (vecAt s b n) (k + 1)
+products-more s a b n k {total} h e =
+    ap (λ (x : Float). total ⊕ x ⊗ at s (b + k)) (vec-at s a n k h) ∙ ap (λ (x : Float). total ⊕ at (vecAt s a n) k ⊗ x) (vec-at s b n k h)
+    ∙ turns-more (dotTurn (vecAt s a n) (vecAt s b n)) k (ratio 0 1) e
+
+module _ (s : List Float) (a b n : ℕ) {total : Float} {t : Bool} (e : total ≡ sumProducts (vecAt s a n) (vecAt s b n) n) (f : t ≡ isFinite total) where
+  long : total ≡ sumProducts (vecAt s a n) (vecAt s b n) (length (vecAt s a n))
+  long = e ∙ ap (sumProducts (vecAt s a n) (vecAt s b n)) (sym (tab-length n (λ k. at s (a + k))))
+
+  pub dot-there : t ≡ true → go total ≡ dot (vecAt s a n) (vecAt s b n)
+  unfolding dot
+  dot-there h = number-yes long f h
+
+  pub dot-over : t ≡ false → stop arithmeticOverflow ≡ dot (vecAt s a n) (vecAt s b n)
+  unfolding dot
+  dot-over h = number-no long f h
+
+-- push_into
+module _ (s : List Float) (index : ℕ) (linear angular : Vec3) (value : Float) (count : ℕ) (h : index < count) (most : count ≤ 16)
+    {body : Generalized} (eb : body ≡ generalizedAt s GENERALIZED index) where
+  in-list : body ≡ generalizedIn (generalizedsAt s GENERALIZED count) index
+  in-list = eb ∙ sym (tab-at count (generalizedAt s GENERALIZED) noGeneralized index h)
+
+  pub into-done : {g : Generalized} {t : List Float} → go g ≡ pushed body linear angular value → (Kept (λ j. Out (GENERALIZED + 6 * index) 6 j) s t) × (generalizedAt t GENERALIZED index ≡ g)
+      → Does Shares s t (go (generalizedsAt t GENERALIZED count)) (pushInto index linear angular value (generalizedsAt s GENERALIZED count))
+  unfolding pushInto
+  into-done ep st = record {
+    kept = kept-more (st .0) (λ i q. omega arith);
+    is = sym (ap go (shares-set GENERALIZED count index h st)) ∙ then-go _ (ep ∙ ap (λ (b : Generalized). pushed b linear angular value) in-list);
+  }
+
+  pub into-over : stop arithmeticOverflow ≡ pushed body linear angular value → Does Shares s s (stop arithmeticOverflow) (pushInto index linear angular value (generalizedsAt s GENERALIZED count))
+  unfolding pushInto
+  into-over ep = record { kept = kept-refl Shares s; is = then-stop _ (ep ∙ ap (λ (b : Generalized). pushed b linear angular value) in-list) }
+
+-- push_row
+module _ {s t : List Float} (count : ℕ) (row : EqualityRow) (value : Float) {r : Outcome}
+    (d : Does Shares s t (ranAs r (generalizedsAt t GENERALIZED count)) (pushInto (row .a) (row .«linear_a») (row .«angular_a») value (generalizedsAt s GENERALIZED count))) where
+  pub row-over : r ≡ Outcomes.ArithmeticOverflow → Does Shares s t (stop arithmeticOverflow) (pushRow row value (generalizedsAt s GENERALIZED count))
+  unfolding pushRow
+  row-over h = does-stop _ d Shares _ (λ i q. q) h
+
+  pub row-then : {u : List Float} {y : Result (List Generalized)} → r ≡ Outcomes.Done
+      → Does Shares t u y (pushInto (row .b) (row .«linear_b») (row .«angular_b») value (generalizedsAt t GENERALIZED count)) → Does Shares s u y (pushRow row value (generalizedsAt s GENERALIZED count))
+  unfolding pushRow
+  row-then h e = does-then _ d Shares Shares _ (λ i q. q) (λ i q. q) h e
+
+-- transpose
+abbrev pub rowTurn : List EqualityRow → List Float → ℕ → List Generalized → Result (List Generalized)
+rowTurn rows values k out = pushRow (rowIn rows k) (at values k) out
+
+module _ {z : List Float} {ia ib : List ℕ} {rows n count : ℕ} (pre : Rows z ia ib rows n count) {values : ℕ} (place : Place values) (s₀ : List Float) where
+  abbrev R : List EqualityRow
+  R = rowsOn ia ib s₀ rows n
+
+  abbrev Vs : List Float
+  Vs = vecAt s₀ values n
+
+  abbrev pub TransposeSo : ℕ → List Float → Type 0
+  TransposeSo k s = Does Shares s₀ s (go (generalizedsAt s GENERALIZED count)) (loop k (rowTurn R Vs) (generalizedsAt s₀ GENERALIZED count))
+
+  pub transpose-none : TransposeSo 0 s₀
+  transpose-none = record { kept = kept-refl Shares s₀; is = loop-none (rowTurn R Vs) (generalizedsAt s₀ GENERALIZED count) }
+
+  module _ {k : ℕ} {s : List Float} {row : EqualityRow} {v : Float} (inv : TransposeSo k s) (h : k < n) (er : row ≡ rowOn ia ib s rows k) (ev : v ≡ at s (values + k)) where
+    turn : pushRow row v (generalizedsAt s GENERALIZED count) ≡ rowTurn R Vs k (generalizedsAt s GENERALIZED count)
+    turn =
+        let a : row ≡ rowIn R k = row-in (inv .kept) ia ib rows n k (λ i x y. omega arith) h er in
+        let b : v ≡ at Vs k = vec-in (inv .kept) values n k (λ i x y. omega arith) h ev in
+        cc
+
+    pub transpose-again : {t : List Float} {r : Outcome} → Does Shares s t (ranAs r (generalizedsAt t GENERALIZED count)) (pushRow row v (generalizedsAt s GENERALIZED count)) → r ≡ Outcomes.Done → TransposeSo (k + 1) t
+    transpose-again d q = record { kept = kept-then (inv .kept) (d .kept) (λ i x. x); is = loop-more (rowTurn R Vs) (generalizedsAt s₀ GENERALIZED count) (inv .is) (ran-done _ d q ∙ turn) }
+
+    pub transpose-stops : {t : List Float} {r : Outcome} → Does Shares s t (ranAs r (generalizedsAt t GENERALIZED count)) (pushRow row v (generalizedsAt s GENERALIZED count)) → r ≡ Outcomes.ArithmeticOverflow → Does Shares s₀ t (stop arithmeticOverflow) (loop n (rowTurn R Vs) (generalizedsAt s₀ GENERALIZED count))
+    transpose-stops d q = record { kept = kept-then (inv .kept) (d .kept) (λ i x. x); is = loop-stop (rowTurn R Vs) (generalizedsAt s₀ GENERALIZED count) n h (inv .is) (ran-over _ d q ∙ turn) }
+
+  pub transpose-ends : {k : ℕ} {s : List Float} → TransposeSo k s → k ≤ n → n ≤ k → TransposeSo n s
+  transpose-ends inv a b = record { kept = inv .kept; is = loop-end (rowTurn R Vs) (generalizedsAt s₀ GENERALIZED count) a b (inv .is) }
+
+  pub transpose-from : {t : List Float} {y : Result (List Generalized)} → Filled GENERALIZED (6 * count) (λ _. ratio 0 1) z s₀ → Does Shares s₀ t y (loop n (rowTurn R Vs) (generalizedsAt s₀ GENERALIZED count))
+      → Does Shares z t y (transpose (rowsOn ia ib z rows n) (vecAt z values n) count)
+  unfolding transpose
+  transpose-from {t} {y} f d = record {
+    kept = kept-then (kept-more (f .kept) (λ i x. omega arith)) (d .kept) (λ i x. x);
+    is = d .is
+        ∙ ap (λ (l : List EqualityRow). loop n (rowTurn l Vs) (generalizedsAt s₀ GENERALIZED count)) (kept-rows (f .kept) ia ib rows n (λ i x y. omega arith))
+        ∙ ap (λ (l : List Float). loop n (rowTurn (rowsOn ia ib z rows n) l) (generalizedsAt s₀ GENERALIZED count)) (kept-vec (f .kept) values n (λ i x y. omega arith))
+        ∙ ap (loop n (rowTurn (rowsOn ia ib z rows n) (vecAt z values n))) (shares-none GENERALIZED count f)
+        ∙ ap (λ (m : ℕ). loop m (rowTurn (rowsOn ia ib z rows n) (vecAt z values n)) (replicate count noShare)) (sym (tab-length n (rowOn ia ib z rows)));
+  }
+
+-- scale_all
+module _ (s₀ : List Float) (count : ℕ) (most : count ≤ 16) where
+  abbrev pub scaling : ℕ → Result Generalized
+  scaling k = scaled (generalizedIn (generalizedsAt s₀ GENERALIZED count) k) (massIn (massesAt s₀ MASSES count) k)
+
+  abbrev pub ScaleSo : ℕ → List Float → Type 0
+  ScaleSo k s = Does (λ i. Out GENERALIZED (6 * k) i) s₀ s (go (generalizedsAt s GENERALIZED k)) (scaleAll (generalizedsAt s₀ GENERALIZED count) (massesAt s₀ MASSES count) k)
+
+  pub scale-none : ScaleSo 0 s₀
+  unfolding tab
+  scale-none = record { kept = kept-refl _ s₀; is = each-none scaling }
+
+  module _ {k : ℕ} {s : List Float} {value : Generalized} {mass : MassResponse} (inv : ScaleSo k s) (h : k < count) (ev : value ≡ generalizedAt s GENERALIZED k) (em : mass ≡ massAt s MASSES k) where
+    scale-turn : scaled value mass ≡ scaling k
+    scale-turn =
+        let a : value ≡ generalizedIn (generalizedsAt s₀ GENERALIZED count) k = share-in (inv .kept) GENERALIZED count k (λ i x y. omega arith) h ev in
+        let b : mass ≡ massIn (massesAt s₀ MASSES count) k = mass-in (inv .kept) MASSES count k (λ i x y. omega arith) h em in
+        cc
+
+    pub scale-again : {t : List Float} {g : Generalized} → go g ≡ scaled value mass → (Kept (λ j. Out (GENERALIZED + 6 * k) 6 j) s t) × (generalizedAt t GENERALIZED k ≡ g) → ScaleSo (k + 1) t
+    scale-again q st = record {
+      kept = kept-then (kept-more (inv .kept) (λ i x. omega arith)) (st .0) (λ i x. omega arith);
+      is = ap go (shares-more GENERALIZED k st) ∙ each-more scaling (inv .is) (q ∙ scale-turn);
+    }
+
+    pub scale-stops : stop arithmeticOverflow ≡ scaled value mass → Does Shares s₀ s (stop arithmeticOverflow) (each count scaling)
+    scale-stops q = record { kept = kept-more (inv .kept) (λ i x. omega arith); is = each-stop scaling count h (inv .is) (q ∙ scale-turn) }
+
+  pub scale-ends : {k : ℕ} {s : List Float} → ScaleSo k s → k ≤ count → count ≤ k → Does Shares s₀ s (go (generalizedsAt s GENERALIZED count)) (each count scaling)
+  scale-ends {k} {s} inv a b =
+      let same : k ≡ count = omega arith in
+      record { kept = kept-more (inv .kept) (λ i x. omega arith); is = ap (λ (m : ℕ). go (generalizedsAt s GENERALIZED m)) (sym same) ∙ each-end scaling a b (inv .is) }
+
+-- rates
+module _ {z : List Float} {ia ib : List ℕ} {rows n count : ℕ} (pre : Rows z ia ib rows n count) {out : ℕ} (place : Place out) (s₀ : List Float) where
+  abbrev Q : List EqualityRow
+  Q = rowsOn ia ib s₀ rows n
+
+  abbrev M : List Generalized
+  M = generalizedsAt s₀ GENERALIZED count
+
+  abbrev pub rating : ℕ → Result Float
+  rating k = tryNumber (rate (rowIn Q k) (generalizedIn M (rowIn Q k .a)) (generalizedIn M (rowIn Q k .b)))
+
+  abbrev pub RatesSo : ℕ → List Float → Type 0
+  RatesSo k s = Does (λ i. Out out 96 i) s₀ s (go (vecAt s out k)) (rates Q k M)
+
+  pub rates-none : RatesSo 0 s₀
+  unfolding tab
+  rates-none = record { kept = kept-refl _ s₀; is = each-none rating }
+
+  module _ {k : ℕ} {s : List Float} {row : EqualityRow} {a b : Generalized} {v : Float} {t : Bool} (inv : RatesSo k s) (h : k < n) (l : length s ≡ length z) (er : row ≡ rowOn ia ib s rows k)
+      (ea : a ≡ generalizedAt s GENERALIZED (row .a)) (eb : b ≡ generalizedAt s GENERALIZED (row .b)) (ev : v ≡ rate row a b) (et : t ≡ isFinite v) where
+    rate-turn : v ≡ rate (rowIn Q k) (generalizedIn M (rowIn Q k .a)) (generalizedIn M (rowIn Q k .b))
+    rate-turn =
+        let x : row ≡ rowIn Q k = row-in (inv .kept) ia ib rows n k (λ i x y. omega arith) h er in
+        let la : row .a < count = subst (λ (q : EqualityRow). q .a < count) (sym er) (pre .a-there k h) in
+        let lb : row .b < count = subst (λ (q : EqualityRow). q .b < count) (sym er) (pre .b-there k h) in
+        let y : a ≡ generalizedIn M (row .a) = share-in (inv .kept) GENERALIZED count (row .a) (λ i x y. omega arith) la ea in
+        let w : b ≡ generalizedIn M (row .b) = share-in (inv .kept) GENERALIZED count (row .b) (λ i x y. omega arith) lb eb in
+        cc
+
+    stored : Kept (λ i. Out out 96 i) s₀ (set s (out + k) v)
+    stored = kept-then (inv .kept) (kept-set s (out + k) v) (λ i x. omega arith)
+
+    pub rates-again : t ≡ true → RatesSo (k + 1) (set s (out + k) v)
+    rates-again q = record { kept = stored; is = ap go (vec-more s out k v (omega arith)) ∙ each-more rating (inv .is) (number-yes rate-turn et q) }
+
+    pub rates-stops : t ≡ false → Does (λ i. Out out 96 i) s₀ (set s (out + k) v) (stop arithmeticOverflow) (each n rating)
+    rates-stops q = record { kept = stored; is = each-stop rating n h (inv .is) (number-no rate-turn et q) }
+
+  pub rates-ends : {k : ℕ} {s : List Float} → RatesSo k s → k ≤ n → n ≤ k → Does (λ i. Out out 96 i) s₀ s (go (vecAt s out n)) (each n rating)
+  rates-ends {k} {s} inv a b =
+      let same : k ≡ n = omega arith in
+      record { kept = inv .kept; is = ap (λ (m : ℕ). go (vecAt s out m)) (sym same) ∙ each-end rating a b (inv .is) }
+
+-- operator
+pub rows-kept : {s t : List Float} {ia ib : List ℕ} {rows n count : ℕ} → Rows s ia ib rows n count → length t ≡ length s → Rows t ia ib rows n count
+rows-kept pre e = record { whole = omega arith; table = pre .table; most = pre .most; bodies = pre .bodies; a-there = pre .a-there; b-there = pre .b-there }
+
+-- a row that was loaded is on bodies below count
+module _ {s : List Float} {ia ib : List ℕ} {rows n count : ℕ} (pre : Rows s ia ib rows n count) {k : ℕ} (h : k < n) (t : List Float) {row : EqualityRow} (e : row ≡ rowOn ia ib t rows k) where
+  pub on-a : row .a < count
+  on-a = subst (λ (q : EqualityRow). q .a < count) (sym e) (pre .a-there k h)
+
+  pub on-b : row .b < count
+  on-b = subst (λ (q : EqualityRow). q .b < count) (sym e) (pre .b-there k h)
+
+abbrev pub Moves : ℕ → ℕ → Type 0
+Moves out i = (Shares i) × (Out out 96 i)
+
+module _ {s : List Float} {ia ib : List ℕ} {rows n count : ℕ} (pre : Rows s ia ib rows n count) {input : ℕ} (from : Place input) {out : ℕ} (place : Place out)
+    {t : List Float} (r : Outcome) (d : Does Shares s t (ranAs r (generalizedsAt t GENERALIZED count)) (transpose (rowsOn ia ib s rows n) (vecAt s input n) count)) where
+  -- `length masses` is count
+  first : Does Shares s t (ranAs r (generalizedsAt t GENERALIZED count)) (transpose (rowsOn ia ib s rows n) (vecAt s input n) (length (massesAt s MASSES count)))
+  first = record { kept = d .kept; is = d .is ∙ ap (transpose (rowsOn ia ib s rows n) (vecAt s input n)) (sym (tab-length count (massAt s MASSES))) }
+
+  pub operator-1 : r ≡ Outcomes.ArithmeticOverflow → Does (Moves out) s t (stop arithmeticOverflow) (operator (rowsOn ia ib s rows n) (massesAt s MASSES count) (vecAt s input n))
+  unfolding operator
+  operator-1 h = does-stop _ first (Moves out) _ (λ i x. x .0) h
+
+  module _ (h : r ≡ Outcomes.Done) {u : List Float} (q : Outcome) (e : Does Shares t u (ranAs q (generalizedsAt u GENERALIZED count)) (scaleAll (generalizedsAt t GENERALIZED count) (massesAt t MASSES count) count)) where
+    second : Does Shares t u (ranAs q (generalizedsAt u GENERALIZED count)) (scaleAll (generalizedsAt t GENERALIZED count) (massesAt s MASSES count) (length (massesAt s MASSES count)))
+    second = record {
+      kept = e .kept;
+      is = e .is ∙ ap (λ (l : List MassResponse). scaleAll (generalizedsAt t GENERALIZED count) l count) (kept-masses (d .kept) MASSES count (λ i x y. omega arith))
+          ∙ ap (scaleAll (generalizedsAt t GENERALIZED count) (massesAt s MASSES count)) (sym (tab-length count (massAt s MASSES)));
+    }
+
+    pub operator-2 : q ≡ Outcomes.ArithmeticOverflow → Does (Moves out) s u (stop arithmeticOverflow) (operator (rowsOn ia ib s rows n) (massesAt s MASSES count) (vecAt s input n))
+    unfolding operator
+    operator-2 g = does-then _ first (Moves out) (Moves out) _ (λ i x. x .0) (λ i x. x) h (does-stop _ second (Moves out) _ (λ i x. x .0) g)
+
+    pub operator-3 : q ≡ Outcomes.Done → {w : List Float} {y : Result (List Float)}
+        → Does (λ i. Out out 96 i) u w y (rates (rowsOn ia ib u rows n) n (generalizedsAt u GENERALIZED count))
+        → Does (Moves out) s w y (operator (rowsOn ia ib s rows n) (massesAt s MASSES count) (vecAt s input n))
+    unfolding operator
+    operator-3 g {w} {y} f = does-then _ first (Moves out) (Moves out) _ (λ i x. x .0) (λ i x. x) h (does-then _ second (Moves out) (λ i. Out out 96 i) _ (λ i x. x .0) (λ i x. x .1) g third)
+      where
+        third : Does (λ i. Out out 96 i) u w y (rates (rowsOn ia ib s rows n) (length (rowsOn ia ib s rows n)) (generalizedsAt u GENERALIZED count))
+        third = record {
+          kept = f .kept;
+          is = f .is ∙ ap (λ (l : List EqualityRow). rates l n (generalizedsAt u GENERALIZED count)) (kept-rows (e .kept) ia ib rows n (λ i x y. omega arith) ∙ kept-rows (d .kept) ia ib rows n (λ i x y. omega arith))
+              ∙ ap (λ (m : ℕ). rates (rowsOn ia ib s rows n) m (generalizedsAt u GENERALIZED count)) (sym (tab-length n (rowOn ia ib s rows)));
+        }
+
+-- cross_mass
+pub through-is : (mass : MassResponse) (al aa bl ba : Vec3) {d e : Float} {w : Vec3} → d ≡ dotOf al bl → w ≡ applyOf (mass .angular) ba → e ≡ dotOf aa w → mass .linear ⊗ d ⊕ e ≡ through mass al aa bl ba
+unfolding through
+through-is mass al aa bl ba a b c = cc
+
+module _ (s : List Float) (count ai bi : ℕ) (h : ai < count) (al aa bl ba : Vec3) (value : Float) where
+  pub same-body : ai ≡ bi → {mass : MassResponse} {x : Float} → mass ≡ massAt s MASSES ai → x ≡ through mass al aa bl ba → value ⊕ x ≡ addThrough (massesAt s MASSES count) ai al aa bi bl ba value
+  same-body e {mass} {x} em ex =
+      let t : eqb ai bi ≡ true = eq-eqb ai bi e in
+      let m : mass ≡ massIn (massesAt s MASSES count) ai = em ∙ sym (tab-at count (massAt s MASSES) noMass ai h) in
+      cc
+
+  pub other-body : (ai ≡ bi → ⊥) → value ≡ addThrough (massesAt s MASSES count) ai al aa bi bl ba value
+  other-body e = cond-no _ _ (ne-eqb ai bi e)
+
+pub end-is : (masses : List MassResponse) (ai : ℕ) (al aa : Vec3) (b : EqualityRow) (value : Float) {half x : Float}
+    → half ≡ addThrough masses ai al aa (b .a) (b .«linear_a») (b .«angular_a») value → x ≡ addThrough masses ai al aa (b .b) (b .«linear_b») (b .«angular_b») half → x ≡ crossEnd masses ai al aa b value
+unfolding crossEnd
+end-is masses ai al aa b value e f = f ∙ ap (addThrough masses ai al aa (b .b) (b .«linear_b») (b .«angular_b»)) e
+
+module _ (masses : List MassResponse) (a b : EqualityRow) {zero half x : Float} {t : Bool} (ez : zero ≡ ratio 0 1)
+    (e : half ≡ crossEnd masses (a .a) (a .«linear_a») (a .«angular_a») b zero) (f : x ≡ crossEnd masses (a .b) (a .«linear_b») (a .«angular_b») b half) (g : t ≡ isFinite x) where
+  both-ends : x ≡ crossEnd masses (a .b) (a .«linear_b») (a .«angular_b») b (crossEnd masses (a .a) (a .«linear_a») (a .«angular_a») b (ratio 0 1))
+  both-ends = f ∙ ap (crossEnd masses (a .b) (a .«linear_b») (a .«angular_b») b) (e ∙ ap (crossEnd masses (a .a) (a .«linear_a») (a .«angular_a») b) ez)
+
+  pub cross-there : t ≡ true → go x ≡ crossMass a b masses
+  unfolding crossMass
+  cross-there h = number-yes both-ends g h
+
+  pub cross-over : t ≡ false → stop arithmeticOverflow ≡ crossMass a b masses
+  unfolding crossMass
+  cross-over h = number-no both-ends g h

@@ -1,0 +1,39 @@
+use native.Mathlib.Omega.{arith}
+use borrow.Author.Needs.{needs}
+use mathlib.Core.Path.{_≡_, refl, sym, ap, _∙_}
+use Prim.Native.Nat.{_+_, _*_, _≤_, _<_, _-_}
+use lib.ListN.{length, length-set}
+use denote.Ref.{now}
+use Rattle.solves.proofs.DoesLaws.{sum-there, sum-over}
+use Rattle.solves.proofs.GradientLaws.{test-over, test-there}
+use Rattle.solves.specs.Region.{vecAt}
+use Rattle.solves.specs.View.{RESIDUAL}
+use borrow.Author.Needs.{needs}
+use Rattle.solves.proofs.gradients.residual_test.Statement.{statement}
+use Rattle.solves.proofs.gradients.residual_test.Tie as tie
+
+dot-requires : tie.Need-dot-requires
+dot-requires c κs = search needs
+
+enum-known-square : tie.Need-enum-known-square
+enum-known-square c = search needs
+
+enum-told : tie.Need-enum-told
+enum-told c = search needs
+
+returns : tie.Need-returns
+returns c = test-over (vecAt (now (c .before .before .before .before .args .s)) RESIDUAL (c .before .before .before .before .args .n)) (c .before .before .before .before .args .tolerance) (sum-over (c .before .before .dot .ensures) (c .enum-told .given .1))
+
+sqrt-requires : tie.Need-sqrt-requires
+sqrt-requires c κs = search needs
+
+returns-2 : tie.Need-returns-2
+returns-2 c = test-there (vecAt (now (c .before .before .before .before .before .before .before .args .s)) RESIDUAL (c .before .before .before .before .before .before .before .args .n)) (c .before .before .before .before .before .before .before .args .tolerance) (sum-there (c .before .before .before .before .before .dot .ensures) (c .before .before .before .square .given .1)) (c .before .sqrt .ensures) (c .if1 .taken)
+
+returns-3 : tie.Need-returns-3
+returns-3 c = test-there (vecAt (now (c .before .before .before .before .before .before .before .args .s)) RESIDUAL (c .before .before .before .before .before .before .before .args .n)) (c .before .before .before .before .before .before .before .args .tolerance) (sum-there (c .before .before .before .before .before .dot .ensures) (c .before .before .before .square .given .1)) (c .before .sqrt .ensures) (c .if1 .left)
+
+pub residual-test-spec : {M : Type 1} → statement M
+residual-test-spec =
+    tie.close
+    (tie.spec dot-requires enum-known-square enum-told returns sqrt-requires returns-2 returns-3)

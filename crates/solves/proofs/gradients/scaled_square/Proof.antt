@@ -1,0 +1,72 @@
+use native.Mathlib.Omega.{arith}
+use borrow.Author.Needs.{needs}
+use mathlib.Core.Path.{_≡_, refl, sym, ap, _∙_}
+use Prim.Native.Nat.{_+_, _*_, _≤_, _<_, _-_}
+use lib.ListN.{length, length-set}
+use denote.Ref.{now}
+use Rattle.arith.specs.Laws.Constants.{zero-is}
+use Rattle.arith.specs.Real.{ratio}
+use Rattle.arith.specs.Flow.{turns}
+use Rattle.arith.specs.FlowLaws.{turns-none}
+use Rattle.solves.specs.Region.{vecAt}
+use Rattle.solves.specs.View.{RESIDUAL, DIAGONAL}
+use Rattle.solves.proofs.GradientLaws.{squareTurn, square-more, square-ends}
+use Rattle.solves.proofs.gradients.scaled_square.Statement.{statement}
+use Rattle.solves.proofs.gradients.scaled_square.Tie as tie
+
+abbrev Inv-loop : tie.InvT-loop
+Inv-loop s n total₀ k₀ total k = (k ≤ n) × (total ≡ turns (squareTurn (vecAt s RESIDUAL n) (vecAt s DIAGONAL n)) k (ratio 0 1))
+
+abbrev μ-loop : tie.MeasureT-loop
+μ-loop s n total₀ k₀ total k = n - k
+
+loop-holds : tie.Need-loop-holds Inv-loop μ-loop
+loop-holds c = (omega arith, zero-is ∙ turns-none _ _)
+
+add-r : tie.Need-add-r Inv-loop μ-loop
+add-r c = omega arith
+
+mul-r : tie.Need-mul-r Inv-loop μ-loop
+mul-r c = omega arith
+
+shared-slice-read-r : tie.Need-shared-slice-read-r Inv-loop μ-loop
+shared-slice-read-r c = omega arith
+
+add-total : tie.Need-add-total Inv-loop μ-loop
+add-total c = omega arith
+
+mul-total : tie.Need-mul-total Inv-loop μ-loop
+mul-total c = omega arith
+
+shared-slice-read-total : tie.Need-shared-slice-read-total Inv-loop μ-loop
+shared-slice-read-total c = omega arith
+
+add-k : tie.Need-add-k Inv-loop μ-loop
+add-k c = omega arith
+
+loop-less : tie.Need-loop-less Inv-loop μ-loop
+loop-less c = omega arith
+
+loop-again : tie.Need-loop-again Inv-loop μ-loop
+loop-again c = (omega arith, square-more (now (c .before .before .before .before .args .s)) RESIDUAL DIAGONAL (c .before .before .before .before .args .n) _ (c .before .before .loop-test .taken) (c .before .before .before .loop .inv .1))
+
+returns : tie.Need-returns Inv-loop μ-loop
+returns c = square-ends (now (c .before .before .args .s)) RESIDUAL DIAGONAL (c .before .before .args .n) _ (c .before .loop .inv .0) (c .loop-test .left) (c .before .loop .inv .1)
+
+pub scaled-square-spec : {M : Type 1} → statement M
+scaled-square-spec =
+    tie.close
+    (tie.spec
+    Inv-loop
+    μ-loop
+    loop-holds
+    add-r
+    mul-r
+    shared-slice-read-r
+    add-total
+    mul-total
+    shared-slice-read-total
+    add-k
+    loop-less
+    loop-again
+    returns)

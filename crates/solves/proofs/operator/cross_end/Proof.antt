@@ -1,0 +1,22 @@
+use native.Mathlib.Omega.{arith}
+use borrow.Author.Needs.{needs}
+use mathlib.Core.Path.{_≡_, refl, sym, ap, _∙_}
+use Prim.Native.Nat.{_+_, _*_, _≤_, _<_, _-_}
+use lib.ListN.{length, length-set}
+use denote.Ref.{now}
+use Rattle.solves.proofs.OperatorLaws.{end-is}
+use borrow.Author.Needs.{needs}
+use Rattle.solves.proofs.operator.cross_end.Statement.{statement}
+use Rattle.solves.proofs.operator.cross_end.Tie as tie
+
+add-through-requires : tie.Need-add-through-requires
+add-through-requires c κs = search needs
+
+add-through-requires-2 : tie.Need-add-through-requires-2
+add-through-requires-2 c κs = search needs
+
+returns : tie.Need-returns
+returns c = end-is _ _ _ _ (c .before .before .before .args .b) (c .before .before .before .args .value) (c .before .add-through .ensures) (c .add-through2 .ensures)
+
+pub cross-end-spec : {M : Type 1} → statement M
+cross-end-spec = tie.close (tie.spec add-through-requires add-through-requires-2 returns)

@@ -1,0 +1,31 @@
+use native.Mathlib.Omega.{arith}
+use borrow.Author.Needs.{needs}
+use mathlib.Core.Path.{_≡_, refl, sym, ap, _∙_}
+use Prim.Native.Nat.{_+_, _*_, _≤_, _<_, _-_}
+use lib.ListN.{length, length-set}
+use denote.Ref.{now}
+use Rattle.arith.specs.Laws.Constants.{zero-is}
+use Rattle.solves.proofs.OperatorLaws.{cross-there, cross-over}
+use borrow.Author.Needs.{needs}
+use Rattle.solves.proofs.operator.cross_mass.Statement.{statement}
+use Rattle.solves.proofs.operator.cross_mass.Tie as tie
+
+cross-end-requires : tie.Need-cross-end-requires
+cross-end-requires c κs = search needs
+
+cross-end-requires-2 : tie.Need-cross-end-requires-2
+cross-end-requires-2 c κs = search needs
+
+is-finite-requires : tie.Need-is-finite-requires
+is-finite-requires c κs = search needs
+
+returns : tie.Need-returns
+returns c = cross-there _ (c .before .before .before .before .before .args .a) (c .before .before .before .before .before .args .b) zero-is (c .before .before .before .cross-end .ensures) (c .before .before .cross-end2 .ensures) (c .before .is-finite .ensures) (c .if1 .taken)
+
+returns-2 : tie.Need-returns-2
+returns-2 c = cross-over _ (c .before .before .before .before .before .args .a) (c .before .before .before .before .before .args .b) zero-is (c .before .before .before .cross-end .ensures) (c .before .before .cross-end2 .ensures) (c .before .is-finite .ensures) (c .if1 .left)
+
+pub cross-mass-spec : {M : Type 1} → statement M
+cross-mass-spec =
+    tie.close
+    (tie.spec cross-end-requires cross-end-requires-2 is-finite-requires returns returns-2)

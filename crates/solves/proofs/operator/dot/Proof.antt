@@ -1,0 +1,25 @@
+use native.Mathlib.Omega.{arith}
+use borrow.Author.Needs.{needs}
+use mathlib.Core.Path.{_≡_, refl, sym, ap, _∙_}
+use Prim.Native.Nat.{_+_, _*_, _≤_, _<_, _-_}
+use lib.ListN.{length, length-set}
+use denote.Ref.{now}
+use Rattle.solves.proofs.OperatorLaws.{dot-there, dot-over}
+use borrow.Author.Needs.{needs}
+use Rattle.solves.proofs.operator.dot.Statement.{statement}
+use Rattle.solves.proofs.operator.dot.Tie as tie
+
+products-requires : tie.Need-products-requires
+products-requires c κs = search needs
+
+is-finite-requires : tie.Need-is-finite-requires
+is-finite-requires c κs = search needs
+
+returns : tie.Need-returns
+returns c = dot-there (now (c .before .before .before .before .args .s)) (c .before .before .before .before .args .a) (c .before .before .before .before .args .b) (c .before .before .before .before .args .n) (c .before .before .products .ensures) (c .before .is-finite .ensures) (c .if1 .taken)
+
+returns-2 : tie.Need-returns-2
+returns-2 c = dot-over (now (c .before .before .before .before .args .s)) (c .before .before .before .before .args .a) (c .before .before .before .before .args .b) (c .before .before .before .before .args .n) (c .before .before .products .ensures) (c .before .is-finite .ensures) (c .if1 .left)
+
+pub dot-spec : {M : Type 1} → statement M
+dot-spec = tie.close (tie.spec products-requires is-finite-requires returns returns-2)

@@ -1,0 +1,70 @@
+use native.Mathlib.Omega.{arith}
+use borrow.Author.Needs.{needs}
+use mathlib.Core.Path.{_≡_, refl, sym, ap, _∙_}
+use Prim.Native.Nat.{_+_, _*_, _≤_, _<_, _-_}
+use lib.ListN.{length, length-set}
+use denote.Ref.{now}
+use Rattle.arith.specs.FlowLaws.{turns-none, turns-end}
+use Rattle.arith.specs.Laws.Constants.{zero-is}
+use Rattle.solves.specs.Solver.{sumProducts}
+use Rattle.solves.specs.Region.{vecAt}
+use Rattle.solves.proofs.OperatorLaws.{products-more}
+use Rattle.solves.proofs.operator.products.Statement.{statement}
+use Rattle.solves.proofs.operator.products.Tie as tie
+
+abbrev Inv-loop : tie.InvT-loop
+Inv-loop s a b n total₀ k₀ total k = (k ≤ n) × (total ≡ sumProducts (vecAt s a n) (vecAt s b n) k)
+
+abbrev μ-loop : tie.MeasureT-loop
+μ-loop s a b n total₀ k₀ total k = n - k
+
+loop-holds : tie.Need-loop-holds Inv-loop μ-loop
+loop-holds c = (omega arith, zero-is ∙ turns-none _ _)
+
+add-total : tie.Need-add-total Inv-loop μ-loop
+add-total c = omega arith
+
+mul-total : tie.Need-mul-total Inv-loop μ-loop
+mul-total c = omega arith
+
+shared-slice-read-total : tie.Need-shared-slice-read-total Inv-loop μ-loop
+shared-slice-read-total c = omega arith
+
+add-total-2 : tie.Need-add-total-2 Inv-loop μ-loop
+add-total-2 c = omega arith
+
+mul-total-2 : tie.Need-mul-total-2 Inv-loop μ-loop
+mul-total-2 c = omega arith
+
+shared-slice-read-total-2 : tie.Need-shared-slice-read-total-2 Inv-loop μ-loop
+shared-slice-read-total-2 c = omega arith
+
+add-k : tie.Need-add-k Inv-loop μ-loop
+add-k c = omega arith
+
+loop-less : tie.Need-loop-less Inv-loop μ-loop
+loop-less c = omega arith
+
+loop-again : tie.Need-loop-again Inv-loop μ-loop
+loop-again c = (omega arith, products-more (now (c .before .before .before .before .args .s)) (c .before .before .before .before .args .a) (c .before .before .before .before .args .b) (c .before .before .before .before .args .n) _ (c .before .before .loop-test .taken) (c .before .before .before .loop .inv .1))
+
+returns : tie.Need-returns Inv-loop μ-loop
+returns c = turns-end _ _ (c .before .loop .inv .0) (c .loop-test .left) (c .before .loop .inv .1)
+
+pub products-spec : {M : Type 1} → statement M
+products-spec =
+    tie.close
+    (tie.spec
+    Inv-loop
+    μ-loop
+    loop-holds
+    add-total
+    mul-total
+    shared-slice-read-total
+    add-total-2
+    mul-total-2
+    shared-slice-read-total-2
+    add-k
+    loop-less
+    loop-again
+    returns)

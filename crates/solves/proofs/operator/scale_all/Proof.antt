@@ -1,0 +1,84 @@
+use native.Mathlib.Omega.{arith}
+use borrow.Author.Needs.{needs}
+use mathlib.Core.Path.{_≡_, refl, sym, ap, _∙_}
+use Prim.Native.Nat.{_+_, _*_, _≤_, _<_, _-_}
+use lib.ListN.{length, length-set}
+use denote.Ref.{now}
+use Rattle.arith.specs.Flow.{go, stop}
+use Rattle.rows.specs.View.{Out}
+use Rattle.solves.specs.Solver.{scaleAll}
+use Rattle.solves.specs.Region.{Does}
+use Rattle.solves.specs.View.{generalizedsAt, massesAt, GENERALIZED, MASSES}
+use Rattle.solves.proofs.DoesLaws.{share-there, share-over}
+use Rattle.solves.proofs.OperatorLaws.{scale-none, scale-stops, scale-again, scale-ends}
+use Rattle.solves.proofs.operator.scale_all.Statement.{statement}
+use Rattle.solves.proofs.operator.scale_all.Tie as tie
+
+abbrev Inv-loop : tie.InvT-loop
+Inv-loop s₀ count k₀ s k = (k ≤ count) × (length s ≡ length s₀) × (Does (λ i. Out GENERALIZED (6 * k) i) s₀ s (go (generalizedsAt s GENERALIZED k)) (scaleAll (generalizedsAt s₀ GENERALIZED count) (massesAt s₀ MASSES count) k))
+
+abbrev μ-loop : tie.MeasureT-loop
+μ-loop s₀ count k₀ s k = count - k
+
+loop-holds : tie.Need-loop-holds Inv-loop μ-loop
+loop-holds c = (omega arith, refl, scale-none _ _ (c .before .pre .1))
+
+load-generalized-requires : tie.Need-load-generalized-requires Inv-loop μ-loop
+load-generalized-requires c κs = omega arith
+
+load-mass-requires : tie.Need-load-mass-requires Inv-loop μ-loop
+load-mass-requires c κs = omega arith
+
+scaled-requires : tie.Need-scaled-requires Inv-loop μ-loop
+scaled-requires c κs = omega arith
+
+enum-known-g : tie.Need-enum-known-g Inv-loop μ-loop
+enum-known-g c = search needs
+
+store-generalized-requires : tie.Need-store-generalized-requires Inv-loop μ-loop
+store-generalized-requires c κs = omega arith
+
+enum-told : tie.Need-enum-told Inv-loop μ-loop
+enum-told c = search needs
+
+same-length : tie.Need-same-length Inv-loop μ-loop
+same-length c = omega arith
+
+returns : tie.Need-returns Inv-loop μ-loop
+returns c = scale-stops _ _ (c .before .before .before .before .before .before .before .before .before .before .pre .1) (c .before .before .before .before .before .before .before .before .loop .inv .2) (c .before .before .before .before .before .before .before .loop-test .taken) (c .before .before .before .before .before .load-generalized .ensures) (c .before .before .before .load-mass .ensures) (share-over (c .before .before .scaled .ensures) (c .enum-told .given .1))
+
+add-k : tie.Need-add-k Inv-loop μ-loop
+add-k c = omega arith
+
+loop-less : tie.Need-loop-less Inv-loop μ-loop
+loop-less c = omega arith
+
+loop-again : tie.Need-loop-again Inv-loop μ-loop
+loop-again c = (omega arith, omega (arith, c .before .before .store-generalized .ensures .0 .size, c .before .before .before .before .before .before .before .before .before .before .before .before .before .loop .inv .1), scale-again _ _ (c .before .before .before .before .before .before .before .before .before .before .before .before .before .before .before .pre .1) (c .before .before .before .before .before .before .before .before .before .before .before .before .before .loop .inv .2) (c .before .before .before .before .before .before .before .before .before .before .before .before .loop-test .taken) (c .before .before .before .before .before .before .before .before .before .before .load-generalized .ensures) (c .before .before .before .before .before .before .before .before .load-mass .ensures) (share-there (c .before .before .before .before .before .before .before .scaled .ensures) (c .before .before .before .before .before .g .given .1)) (c .before .before .store-generalized .ensures))
+
+same-length-2 : tie.Need-same-length-2 Inv-loop μ-loop
+same-length-2 c = omega arith
+
+returns-2 : tie.Need-returns-2 Inv-loop μ-loop
+returns-2 c = scale-ends _ _ (c .before .before .before .pre .1) (c .before .loop .inv .2) (omega arith) (c .loop-test .left)
+
+pub scale-all-spec : {M : Type 1} → statement M
+scale-all-spec =
+    tie.close
+    (tie.spec
+    Inv-loop
+    μ-loop
+    loop-holds
+    load-generalized-requires
+    load-mass-requires
+    scaled-requires
+    enum-known-g
+    store-generalized-requires
+    enum-told
+    same-length
+    returns
+    add-k
+    loop-less
+    loop-again
+    same-length-2
+    returns-2)

@@ -1,0 +1,43 @@
+use native.Mathlib.Omega.{arith}
+use borrow.Author.Needs.{needs}
+use mathlib.Core.Path.{_≡_, refl, sym, ap, _∙_}
+use Prim.Native.Nat.{_+_, _*_, _≤_, _<_, _-_}
+use lib.ListN.{length, length-set}
+use denote.Ref.{now}
+use Rattle.solves.proofs.PlaceLaws.{scaled-1, scaled-2, scaled-3}
+use borrow.Author.Needs.{needs}
+use Rattle.solves.proofs.operator.scaled.Statement.{statement}
+use Rattle.solves.proofs.operator.scaled.Tie as tie
+
+scale-requires : tie.Need-scale-requires
+scale-requires c κs = search needs
+
+is-finite-requires : tie.Need-is-finite-requires
+is-finite-requires c κs = search needs
+
+apply-requires : tie.Need-apply-requires
+apply-requires c κs = search needs
+
+is-finite-requires-2 : tie.Need-is-finite-requires-2
+is-finite-requires-2 c κs = search needs
+
+returns : tie.Need-returns
+returns c = scaled-3 _ _ (c .before .before .before .before .before .scale .ensures) (c .before .before .before .before .is-finite .ensures) (c .before .before .before .if1 .taken) (c .before .before .apply .ensures) (c .before .is-finite2 .ensures) (c .if2 .taken)
+
+returns-2 : tie.Need-returns-2
+returns-2 c = scaled-2 _ _ (c .before .before .before .before .before .scale .ensures) (c .before .before .before .before .is-finite .ensures) (c .before .before .before .if1 .taken) (c .before .before .apply .ensures) (c .before .is-finite2 .ensures) (c .if2 .left)
+
+returns-3 : tie.Need-returns-3
+returns-3 c = scaled-1 _ _ (c .before .before .scale .ensures) (c .before .is-finite .ensures) (c .if1 .left)
+
+pub scaled-spec : {M : Type 1} → statement M
+scaled-spec =
+    tie.close
+    (tie.spec
+    scale-requires
+    is-finite-requires
+    apply-requires
+    is-finite-requires-2
+    returns
+    returns-2
+    returns-3)

@@ -1,0 +1,25 @@
+use native.Mathlib.Omega.{arith}
+use borrow.Author.Needs.{needs}
+use mathlib.Core.Path.{_≡_, refl, sym, ap, _∙_}
+use Prim.Native.Nat.{_+_, _*_, _≤_, _<_, _-_}
+use lib.ListN.{length, length-set}
+use denote.Ref.{now}
+use Rattle.solves.proofs.OperatorLaws.{through-is}
+use borrow.Author.Needs.{needs}
+use Rattle.solves.proofs.operator.through.Statement.{statement}
+use Rattle.solves.proofs.operator.through.Tie as tie
+
+dot-requires : tie.Need-dot-requires
+dot-requires c κs = search needs
+
+apply-requires : tie.Need-apply-requires
+apply-requires c κs = search needs
+
+dot-requires-2 : tie.Need-dot-requires-2
+dot-requires-2 c κs = search needs
+
+returns : tie.Need-returns
+returns c = through-is (c .before .before .before .before .args .mass) _ (c .before .before .before .before .args .aa) _ (c .before .before .before .before .args .ba) (c .before .before .before .dot .ensures) (c .before .apply .ensures) (c .dot2 .ensures)
+
+pub through-spec : {M : Type 1} → statement M
+through-spec = tie.close (tie.spec dot-requires apply-requires dot-requires-2 returns)

@@ -1,0 +1,34 @@
+use native.Mathlib.Omega.{arith}
+use borrow.Author.Needs.{needs}
+use mathlib.Core.Path.{_≡_, refl, sym, ap, _∙_}
+use Prim.Native.Nat.{_+_, _*_, _≤_, _<_, _-_}
+use lib.ListN.{length, length-set}
+use denote.Ref.{now}
+use Rattle.arith.specs.Laws.Constants.{one-is}
+use Rattle.solves.proofs.DoesLaws.{sum-there, sum-over}
+use Rattle.solves.proofs.SearchLaws.{tolerance-go, tolerance-stop}
+use borrow.Author.Needs.{needs}
+use Rattle.solves.proofs.operator.tolerance_for.Statement.{statement}
+use Rattle.solves.proofs.operator.tolerance_for.Tie as tie
+
+dot-requires : tie.Need-dot-requires
+dot-requires c κs = search needs
+
+enum-known-square : tie.Need-enum-known-square
+enum-known-square c = search needs
+
+enum-told : tie.Need-enum-told
+enum-told c = search needs
+
+returns : tie.Need-returns
+returns c = tolerance-stop (c .before .before .before .before .args .scale) _ (sum-over (c .before .before .dot .ensures) (c .enum-told .given .1))
+
+sqrt-requires : tie.Need-sqrt-requires
+sqrt-requires c κs = search needs
+
+returns-2 : tie.Need-returns-2
+returns-2 c = tolerance-go (c .before .before .before .before .before .before .args .scale) _ (sum-there (c .before .before .before .before .dot .ensures) (c .before .before .square .given .1)) (c .sqrt .ensures) one-is
+
+pub tolerance-for-spec : {M : Type 1} → statement M
+tolerance-for-spec =
+    tie.close (tie.spec dot-requires enum-known-square enum-told returns sqrt-requires returns-2)

@@ -1,0 +1,36 @@
+use native.Mathlib.Omega.{arith}
+use borrow.Author.Needs.{needs}
+use mathlib.Core.Path.{_≡_, refl, sym, ap, _∙_}
+use Prim.Native.Nat.{_+_, _*_, _≤_, _<_, _-_}
+use lib.ListN.{length, length-set}
+use denote.Ref.{now}
+use Rattle.solves.proofs.PlaceLaws.{stored-generalized}
+use borrow.Author.Needs.{needs}
+use Rattle.solves.proofs.places.store_generalized.Statement.{statement}
+use Rattle.solves.proofs.places.store_generalized.Tie as tie
+
+mul-i : tie.Need-mul-i
+mul-i c = search needs
+
+add-i : tie.Need-add-i
+add-i c = search needs
+
+store3-requires : tie.Need-store3-requires
+store3-requires c κs = search needs
+
+add-store3 : tie.Need-add-store3
+add-store3 c = search needs
+
+store3-requires-2 : tie.Need-store3-requires-2
+store3-requires-2 c κs = search needs
+
+same-length : tie.Need-same-length
+same-length c = search needs
+
+returns : tie.Need-returns
+returns c = stored-generalized (c .before .before .before .before .before .before .before .before .before .args .off) (c .before .before .before .before .before .before .before .before .before .args .k) (c .before .before .before .before .before .before .before .before .before .args .g) (c .before .before .before .before .before .before .store3 .ensures) (c .before .before .store32 .ensures)
+
+pub store-generalized-spec : {M : Type 1} → statement M
+store-generalized-spec =
+    tie.close
+    (tie.spec mul-i add-i store3-requires add-store3 store3-requires-2 same-length returns)

@@ -1,0 +1,88 @@
+use native.Mathlib.Omega.{arith}
+use borrow.Author.Needs.{needs}
+use mathlib.Core.Path.{_≡_, refl, sym, ap, _∙_}
+use Prim.Native.Nat.{_+_, _*_, _≤_, _<_, _-_}
+use lib.ListN.{length, length-set}
+use denote.Ref.{now}
+use lib.Ieee.{Float}
+use Rattle.arith.specs.Real.{_⊕_, _⊖_, _⊗_}
+use Rattle.solves.specs.Solver.{plus}
+use Rattle.solves.specs.Region.{Filled}
+use Rattle.solves.specs.RegionLaws.{filled-none}
+use Rattle.solves.proofs.VectorLaws.{both, two-more, two-is, apart-out}
+use Rattle.solves.proofs.values.scale_add.Statement.{statement}
+use Rattle.solves.proofs.values.scale_add.Tie as tie
+
+abbrev Inv-loop : tie.InvT-loop
+Inv-loop s₀ d beta x n k₀ s k = (k ≤ n) × (length s ≡ length s₀) × (Filled d k (both (λ (p q : Float). p ⊕ beta ⊗ q) d x d s₀) s₀ s)
+
+abbrev μ-loop : tie.MeasureT-loop
+μ-loop s₀ d beta x n k₀ s k = n - k
+
+loop-holds : tie.Need-loop-holds Inv-loop μ-loop
+loop-holds c = (omega arith, refl, filled-none _ _ _)
+
+add-s : tie.Need-add-s Inv-loop μ-loop
+add-s c = omega arith
+
+mul-s : tie.Need-mul-s Inv-loop μ-loop
+mul-s c = omega arith
+
+slice-read-s : tie.Need-slice-read-s Inv-loop μ-loop
+slice-read-s c = omega arith
+
+add-s-2 : tie.Need-add-s-2 Inv-loop μ-loop
+add-s-2 c = omega arith
+
+mul-s-2 : tie.Need-mul-s-2 Inv-loop μ-loop
+mul-s-2 c = omega arith
+
+slice-read-s-2 : tie.Need-slice-read-s-2 Inv-loop μ-loop
+slice-read-s-2 c = omega arith
+
+add-s-3 : tie.Need-add-s-3 Inv-loop μ-loop
+add-s-3 c = omega arith
+
+mul-s-3 : tie.Need-mul-s-3 Inv-loop μ-loop
+mul-s-3 c = omega arith
+
+slice-write-s : tie.Need-slice-write-s Inv-loop μ-loop
+slice-write-s c = omega arith
+
+add-k : tie.Need-add-k Inv-loop μ-loop
+add-k c = omega arith
+
+loop-less : tie.Need-loop-less Inv-loop μ-loop
+loop-less c = omega arith
+
+loop-again : tie.Need-loop-again Inv-loop μ-loop
+loop-again c = (omega arith, simp length-set (omega arith), two-more (λ (p q : Float). p ⊕ c .before .before .before .before .args .beta ⊗ q) (c .before .before .before .before .args .d) (c .before .before .before .before .args .x) (c .before .before .before .before .args .d) _ (c .before .before .before .loop .inv .2) (omega arith) (omega arith) (omega arith))
+
+same-length : tie.Need-same-length Inv-loop μ-loop
+same-length c = omega arith
+
+returns : tie.Need-returns Inv-loop μ-loop
+unfolding plus
+returns c = two-is (λ (p q : Float). p ⊕ c .before .before .args .beta ⊗ q) (c .before .before .args .d) (c .before .before .args .x) (c .before .before .args .d) _ (c .before .loop .inv .2) (omega arith) (c .loop-test .left) (omega arith)
+
+pub scale-add-spec : {M : Type 1} → statement M
+scale-add-spec =
+    tie.close
+    (tie.spec
+    Inv-loop
+    μ-loop
+    loop-holds
+    add-s
+    mul-s
+    slice-read-s
+    add-s-2
+    mul-s-2
+    slice-read-s-2
+    add-s-3
+    mul-s-3
+    slice-write-s
+    add-k
+    loop-less
+    loop-again
+    same-length
+    returns)

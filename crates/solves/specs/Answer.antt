@@ -1,0 +1,102 @@
+-- The code's answers as the definitions' results.
+use Prim.Native.Nat.{ℕ}
+use mathlib.Core.Bool.{Bool, true, false, cond}
+use mathlib.Core.List.{List}
+use lib.Ieee.{Float}
+use Rattle.arith.specs.Flow.{Turn, go, stop}
+use Rattle.rows.specs.Fault.{nonConvergent, arithmeticOverflow, Result, try}
+use Rattle.solves.specs.declared.Sum.{Sum}
+use Rattle.solves.specs.declared.Sum.the-variants as Sums
+use Rattle.solves.specs.declared.Outcome.{Outcome}
+use Rattle.solves.specs.declared.Outcome.the-variants as Outcomes
+use Rattle.solves.specs.declared.Step.{Step}
+use Rattle.solves.specs.declared.Step.the-variants as Steps
+use Rattle.solves.specs.declared.End.{End}
+use Rattle.solves.specs.declared.End.the-variants as Ends
+use Rattle.solves.specs.declared.Ended.{Ended}
+use Rattle.solves.specs.declared.places.Generalized.{Generalized}
+use Rattle.solves.specs.declared.operator.Share.{Share}
+use Rattle.solves.specs.declared.operator.Share.the-variants as Shares
+use Rattle.solves.specs.declared.gradients.Test.{Test}
+use Rattle.solves.specs.declared.gradients.Test.the-variants as Tests
+use Rattle.solves.specs.declared.Part.{Part}
+use Rattle.solves.specs.declared.Part.the-variants as Parts
+use Rattle.solves.specs.declared.gradients.Prepared as Rho
+use Rattle.solves.specs.declared.gradients.Prepared.the-variants as Rhos
+use Rattle.solves.specs.Solver.{Search, Prepared, Solve}
+use Rattle.solves.specs.declared.path.PathOrder.{PathOrder}
+use Rattle.solves.specs.Path.{Seen, Ending, declined, ended}
+use Rattle.solves.specs.Region.{vecAt}
+use Rattle.solves.specs.View.{searchAt, preparedAt, orderOf, seenOf, SOLUTION, RESIDUAL}
+
+abbrev pub sumAs : Sum → Result Float
+sumAs (Sums.Value x) = go x
+sumAs Sums.ArithmeticOverflow = stop arithmeticOverflow
+
+abbrev pub shareAs : Share → Result Generalized
+shareAs (Shares.Value g) = go g
+shareAs Shares.ArithmeticOverflow = stop arithmeticOverflow
+
+-- a run that left x
+abbrev pub ranAs : {A : Type 0} → Outcome → A → Result A
+ranAs Outcomes.Done x = go x
+ranAs Outcomes.ArithmeticOverflow x = stop arithmeticOverflow
+
+abbrev pub testAs : Test → Result Bool
+testAs Tests.Within = go true
+testAs Tests.Beyond = go false
+testAs Tests.ArithmeticOverflow = stop arithmeticOverflow
+
+-- a part of a solve that left x
+abbrev pub partAs : {A : Type 0} → Part → A → Result A
+partAs Parts.Done x = go x
+partAs Parts.NonConvergent x = stop nonConvergent
+partAs Parts.ArithmeticOverflow x = stop arithmeticOverflow
+
+abbrev pub preparedAs : Rho.Prepared → List Float → ℕ → Result Prepared
+preparedAs (Rhos.Rho rho) s n = go (preparedAt s n rho)
+preparedAs Rhos.NonConvergent s n = stop nonConvergent
+
+-- the true residual at s, or the end of the solve
+abbrev pub trueAs : Test → List Float → ℕ → Turn (List Float) (Result (List Float))
+trueAs Tests.Within s n = stop (go (vecAt s SOLUTION n))
+trueAs Tests.Beyond s n = go (vecAt s RESIDUAL n)
+trueAs Tests.ArithmeticOverflow s n = stop (stop arithmeticOverflow)
+
+-- a pass that left s
+abbrev pub passAs : Step → List Float → ℕ → Turn Search (Result (List Float))
+passAs (Steps.Next rho) s n = go (searchAt s n rho)
+passAs Steps.Solved s n = stop (go (vecAt s SOLUTION n))
+passAs Steps.NonConvergent s n = stop (stop nonConvergent)
+passAs Steps.ArithmeticOverflow s n = stop (stop arithmeticOverflow)
+
+-- a solve that left x for the solution
+abbrev pub endAs : End → ℕ → List Float → Ending
+endAs Ends.Solved passes x = ended (record { answer = go x; passes = passes })
+endAs Ends.Declined passes x = declined
+endAs Ends.NonConvergent passes x = ended (record { answer = stop nonConvergent; passes = passes })
+endAs Ends.ArithmeticOverflow passes x = ended (record { answer = stop arithmeticOverflow; passes = passes })
+
+abbrev pub endedWith : End → ℕ → Ended
+endedWith end passes = record { end = end; passes = passes }
+
+abbrev pub solveAs : Ended → List Float → Ending
+solveAs r x = endAs (r .end) (r .passes) x
+
+-- the edges that were noted, or declined
+abbrev pub edgesAs : Bool → List ℕ → Turn (List ℕ) (Unit {0})
+edgesAs true edges = go edges
+edgesAs false edges = stop tt
+
+-- a walk that left visited, or declined
+abbrev pub seenAs : PathOrder → List Bool → Turn Seen (Unit {0})
+seenAs r visited = cond (r .found) (go (seenOf (r .order) visited)) (stop tt)
+
+-- the order along the paths, or declined
+abbrev pub orderAs : PathOrder → Turn (List ℕ) (Unit {0})
+orderAs r = cond (r .found) (go (orderOf (r .order))) (stop tt)
+
+-- the order of what was seen
+abbrev pub orderIn : Turn Seen (Unit {0}) → Turn (List ℕ) (Unit {0})
+orderIn (go seen) = go (seen .order)
+orderIn (stop _) = stop tt

@@ -1,0 +1,252 @@
+-- solver.rs, fn path_solve and fn linear_solve. A path's Schur matrix is block tridiagonal once its rows are ordered along the path, and a Cholesky factor of band 12 solves it.
+use Prim.Native.Nat.{ℕ, _+_, _*_, _-_, _^_, min}
+use mathlib.Core.List.{List, [], _∷_, _++_}
+use mathlib.Core.Bool.{Bool, true, false, cond, not, _&&_, _||_}
+use lib.Dec.{eqb}
+use lib.ListN.{length, getD, set, replicate}
+use lib.Ieee as Ieee
+use lib.Ieee.{Float, binary64}
+use Rattle.arith.specs.Real.{_⊕_, _⊖_, _⊗_, _⊘_, ratio, isFinite}
+use Rattle.arith.specs.Root.{sqrt}
+use Rattle.arith.specs.Flow.{Turn, go, stop, _>>=_, turns, loop, tab, each, returnIf}
+use Rattle.rows.specs.declared.geometry.EqualityRow.{EqualityRow}
+use Rattle.rows.specs.Fault.{Fault, nonConvergent, arithmeticOverflow, Result, try}
+use Rattle.rows.specs.View.{at}
+use Rattle.solves.specs.declared.places.MassResponse.{MassResponse}
+use Rattle.solves.specs.Solver.{rowIn, dot, operator, crossMass, difference, within, toleranceFor, Solve, after, spent, leastSquares, gradients}
+
+-- l[i]
+abbrev pub index : List ℕ → ℕ → ℕ
+index l i = getD l i 0
+
+-- no block: usize::MAX in the Rust. There are at most 96 blocks.
+abbrev pub none : ℕ
+none = 96
+
+-- ---- self.path_blocks: runs of rows on one pair of bodies; a and b are the bodies of the rows
+-- row i joins another pair than the row before it
+unfoldable pub begins : List ℕ → List ℕ → ℕ → Bool
+begins a b i = eqb i 0 || not (eqb (index a i) (index a (i - 1)) && eqb (index b i) (index b (i - 1)))
+
+-- the first row of each block
+abbrev pub startTurn : List ℕ → List ℕ → ℕ → List ℕ → List ℕ
+startTurn a b i starts = cond (begins a b i) (starts ++ (i ∷ [])) starts
+
+unfoldable pub pathStarts : List ℕ → List ℕ → ℕ → List ℕ
+pathStarts a b n = turns (startTurn a b) n []
+
+-- ---- self.path_edges: two places for each body; a third block on a body declines the path
+unfoldable pub addEdge : ℕ → ℕ → List ℕ → Turn (List ℕ) (Unit {0})
+addEdge body block edges =
+    cond (eqb (index edges (2 * body)) none) (go (set edges (2 * body) block))
+    (cond (eqb (index edges (2 * body + 1)) none) (go (set edges (2 * body + 1) block))
+    (stop tt))
+
+unfoldable pub blockEdges : List ℕ → List ℕ → List ℕ → ℕ → List ℕ → Turn (List ℕ) (Unit {0})
+blockEdges a b starts block edges = addEdge (index a (index starts block)) block edges >>= addEdge (index b (index starts block)) block
+
+unfoldable pub pathEdges : List ℕ → List ℕ → List ℕ → Turn (List ℕ) (Unit {0})
+pathEdges a b starts = loop (length starts) (blockEdges a b starts) (replicate 32 none)
+
+-- the other block on a body
+unfoldable pub neighbor : List ℕ → ℕ → ℕ → ℕ
+neighbor edges body block = cond (eqb (index edges (2 * body)) block) (index edges (2 * body + 1)) (index edges (2 * body))
+
+-- *next != usize::MAX && *next != previous
+unfoldable pub follows : ℕ → ℕ → Bool
+follows block previous = not (eqb block none) && not (eqb block previous)
+
+-- .find(follows)
+unfoldable pub nextBlock : ℕ → ℕ → ℕ → ℕ
+nextBlock x y previous = cond (follows x previous) x (cond (follows y previous) y none)
+
+-- ---- self.path_order
+-- self.path_order and self.path_visited
+pub record Seen : Type 0 where
+  pub order : List ℕ
+  pub visited : List Bool
+
+pub record Walk : Type 0 where
+  pub seen : Seen
+  pub current : ℕ
+  pub previous : ℕ
+
+-- from..to
+abbrev pub run : ℕ → ℕ → List ℕ
+run from to = tab (to - from) (λ k. from + k)
+
+-- after as many turns as there are blocks the next one was visited
+abbrev pub walked : Turn Walk (Turn Seen (Unit {0})) → Turn Seen (Unit {0})
+walked (go w) = stop tt
+walked (stop seen) = seen
+
+module _ (a b : List ℕ) (n : ℕ) (starts edges : List ℕ) where
+  -- one turn of the loop along a path: a visited block declines, and where no block follows the walk is at its end
+  unfoldable pub walkTurn : ℕ → Walk → Turn Walk (Turn Seen (Unit {0}))
+  walkTurn k w =
+      let row : ℕ = index starts (w .current) in
+      let seen : Seen = record { order = w .seen .order ++ run row (getD starts (w .current + 1) n); visited = set (w .seen .visited) (w .current) true } in
+      let next : ℕ = nextBlock (neighbor edges (index a row) (w .current)) (neighbor edges (index b row) (w .current)) (w .previous) in do
+        _ ← returnIf (getD (w .seen .visited) (w .current) false) (stop tt)
+        _ ← returnIf (eqb next none) (go seen)
+        go (record { seen = seen; current = next; previous = w .current })
+
+  unfoldable pub walk : ℕ → Seen → Turn Seen (Unit {0})
+  walk first seen = walked (loop (length starts) walkTurn (record { seen = seen; current = first; previous = none }))
+
+  -- a block that was not visited and has no neighbor on one of its bodies
+  unfoldable pub isEnd : List Bool → ℕ → Bool
+  isEnd visited block =
+      not (getD visited block false)
+      && (eqb (neighbor edges (index a (index starts block)) block) none || eqb (neighbor edges (index b (index starts block)) block) none)
+
+  unfoldable pub walkFrom : ℕ → Seen → Turn Seen (Unit {0})
+  walkFrom first seen = cond (isEnd (seen .visited) first) (walk first seen) (go seen)
+
+  unfoldable pub pathWalks : Turn Seen (Unit {0})
+  pathWalks = loop (length starts) walkFrom (record { order = []; visited = replicate 96 false })
+
+-- the rows along the paths, or declined
+unfoldable pub pathOrder : List ℕ → List ℕ → ℕ → Turn (List ℕ) (Unit {0})
+pathOrder a b n =
+    let starts : List ℕ = pathStarts a b n in do
+      edges ← pathEdges a b starts
+      seen ← pathWalks a b n starts edges
+      _ ← returnIf (not (eqb (length (seen .order)) n)) tt
+      go (seen .order)
+
+-- ---- the factor: self.path_scale and self.path_band, twelve doubles a row, one row after the other
+-- path_band[i][d]
+abbrev pub cell : List Float → ℕ → ℕ → Float
+cell band i d = at band (12 * i + d)
+
+-- i.saturating_sub(BAND_WIDTH - 1)
+abbrev pub bandStart : ℕ → ℕ
+bandStart i = i - 11
+
+-- for k in band_start..j { value -= path_band[i][i - k] * path_band[j][j - k]; }
+unfoldable pub reduced : List Float → ℕ → ℕ → Float → Float
+reduced band i j value = turns (λ t value. value ⊖ cell band i (i - (bandStart i + t)) ⊗ cell band j (j - (bandStart i + t))) (j - bandStart i) value
+
+pub record Factor : Type 0 where
+  pub scale : List Float
+  pub band : List Float
+
+module _ (rows : List EqualityRow) (masses : List MassResponse) (order : List ℕ) where
+  -- rows[path_order[i]]
+  abbrev pub rowOf : ℕ → EqualityRow
+  rowOf i = rowIn rows (index order i)
+
+  unfoldable pub scaleAt : ℕ → Result Float
+  scaleAt i = do
+    value ← crossMass (rowOf i) (rowOf i) masses
+    _ ← returnIf (Ieee.le value (ratio 0 1)) nonConvergent
+    go (sqrt binary64 value)
+
+  abbrev pub pathScale : ℕ → Result (List Float)
+  pathScale n = each n scaleAt
+
+  unfoldable pub pathEntry : List Float → ℕ → ℕ → List Float → Result (List Float)
+  pathEntry scale i j band = do
+    entry ← crossMass (rowOf i) (rowOf j) masses
+    let value : Float = reduced band i j (entry ⊘ (at scale i ⊗ at scale j)) in
+        cond (eqb j i)
+        (cond (not (isFinite value) || Ieee.le value (ratio 0 1)) (stop nonConvergent) (go (set band (12 * i) (sqrt binary64 value))))
+        (go (set band (12 * i + (i - j)) (value ⊘ cell band j 0)))
+
+  -- for j in band_start..=i
+  unfoldable pub pathRow : List Float → ℕ → List Float → Result (List Float)
+  pathRow scale i band = loop (i + 1 - bandStart i) (λ t band. pathEntry scale i (bandStart i + t) band) band
+
+  unfoldable pub pathFactor : List Float → ℕ → Result (List Float)
+  pathFactor scale n = loop n (pathRow scale) (replicate (12 * n) (ratio 0 1))
+
+  unfoldable pub pathFactored : ℕ → Result Factor
+  pathFactored n = do
+    scale ← pathScale n
+    band ← pathFactor scale n
+    go (record { scale = scale; band = band })
+
+-- ---- the solves of the factor; y is self.path_rhs
+-- for j in band_start..i { value -= path_band[i][i - j] * path_rhs[j]; }
+unfoldable pub forwardSum : List Float → List Float → ℕ → Float → Float
+forwardSum band y i value = turns (λ t value. value ⊖ cell band i (i - (bandStart i + t)) ⊗ at y (bandStart i + t)) (i - bandStart i) value
+
+-- for j in i + 1..n.min(i + BAND_WIDTH) { value -= path_band[j][j - i] * path_rhs[j]; }
+unfoldable pub backwardSum : ℕ → List Float → List Float → ℕ → Float → Float
+backwardSum n band y i value = turns (λ t value. value ⊖ cell band (i + 1 + t) (i + 1 + t - i) ⊗ at y (i + 1 + t)) (min n (i + 12) - (i + 1)) value
+
+pub record Back : Type 0 where
+  pub y : List Float
+  pub solution : List Float
+
+module _ (n : ℕ) (order : List ℕ) (scale band : List Float) where
+  -- path_rhs[i] = value / path_band[i][0]
+  abbrev pub forwardTurn : List Float → ℕ → List Float → List Float
+  forwardTurn residual i y = y ++ (forwardSum band y i (at residual (index order i) ⊘ at scale i) ⊘ cell band i 0 ∷ [])
+
+  unfoldable pub forward : List Float → List Float
+  forward residual = turns (forwardTurn residual) n []
+
+  -- for i in (0..n).rev() { path_rhs[i] = value / path_band[i][0]; solution[path_order[i]] += path_rhs[i] / path_scale[i]; }
+  unfoldable pub backwardTurn : ℕ → Back → Back
+  backwardTurn k s =
+      let i : ℕ = n - 1 - k in
+      let value : Float = backwardSum n band (s .y) i (at (s .y) i) ⊘ cell band i 0 in
+      record { y = set (s .y) i value; solution = set (s .solution) (index order i) (at (s .solution) (index order i) ⊕ value ⊘ at scale i) }
+
+  unfoldable pub backward : List Float → List Float → List Float
+  backward y solution = turns backwardTurn n (record { y = y; solution = solution }) .solution
+
+-- ---- fn path_solve
+pub record Refined : Type 0 where
+  pub solution : List Float
+  pub residual : List Float
+
+-- the factor's solution of the residual, added to the solution, and the residual again
+unfoldable pub refine : List EqualityRow → List MassResponse → List Float → ℕ → List ℕ → Factor → Refined → Result Refined
+refine rows masses rhs n order factor s =
+    let y : List Float = forward n order (factor .scale) (factor .band) (s .residual) in
+    let solution : List Float = backward n order (factor .scale) (factor .band) y (s .solution) in do
+      product ← operator rows masses solution
+      go (record { solution = solution; residual = difference rhs product })
+
+-- the refinement numbered k, counted once its residual is known
+unfoldable pub refinement : List EqualityRow → List MassResponse → List Float → ℕ → List ℕ → Factor → Float → ℕ → Refined → Turn Refined Solve
+refinement rows masses rhs n order factor tolerance k s = do
+  s ← after k (try (refine rows masses rhs n order factor s))
+  near ← after (k + 1) (try (within (s .residual) tolerance))
+  _ ← returnIf near (record { answer = go (s .solution); passes = k + 1 })
+  go s
+
+-- Ok(false), or how the solve ended
+pub data Ending : Type 0 where
+  declined : Ending
+  ended : Solve → Ending
+
+unfoldable pub pathAlong : List EqualityRow → List MassResponse → List Float → List Float → List ℕ → Solve
+pathAlong rows masses rhs solution order =
+    let n : ℕ = length rows in spent 4 do
+      factor ← after 0 (try (pathFactored rows masses order n))
+      tolerance ← after 0 (try (toleranceFor (ratio 1 (10 ^ 12)) rhs))
+      loop 4 (refinement rows masses rhs n order factor tolerance) (record { solution = solution; residual = rhs })
+
+abbrev pub pathOn : Turn (List ℕ) (Unit {0}) → (List ℕ → Solve) → Ending
+pathOn (go order) along = ended (along order)
+pathOn (stop _) along = declined
+
+unfoldable pub pathSolve : List EqualityRow → List MassResponse → List Float → List Float → Ending
+pathSolve rows masses rhs solution =
+    pathOn (pathOrder (tab (length rows) (λ k. rowIn rows k .a)) (tab (length rows) (λ k. rowIn rows k .b)) (length rows))
+    (pathAlong rows masses rhs solution)
+
+-- ---- fn linear_solve: from a solution of zeros, with the right side as residual
+abbrev pub orElse : Ending → Solve → Solve
+orElse declined other = other
+orElse (ended solve) other = solve
+
+unfoldable pub linearSolve : Bool → List EqualityRow → List MassResponse → List Float → Solve
+linearSolve cyclic rows masses rhs =
+    let zeros : List Float = replicate (length rows) (ratio 0 1) in
+    cond cyclic (leastSquares rows masses rhs zeros rhs)
+    (orElse (pathSolve rows masses rhs zeros) (gradients rows masses rhs zeros rhs))

@@ -1,0 +1,38 @@
+// `linear_solve` of solver.rs: which solve is taken, from a solution of zeros and the right side as residual.
+use crate::End;
+use crate::Ended;
+use crate::gradients::gradients;
+use crate::layout::RESIDUAL;
+use crate::layout::RHS;
+use crate::layout::SOLUTION;
+use crate::least_squares::least_squares;
+use crate::path::path_solve;
+use crate::values::clear;
+use crate::values::copy;
+ghost use Prim.Native.Nat.{_+_, _*_, _≤_};
+ghost use Rattle.solves.specs.View.{Rows};
+
+pub fn linear_solve(
+    s: &mut [f64],
+    ia: &[usize; 96],
+    ib: &[usize; 96],
+    rows: usize,
+    n: usize,
+    count: usize,
+    cyclic: bool,
+) -> Ended
+    requires { ⌜ Rows (now s) (now ia) (now ib) rows n count ⌝ }
+    ensures { λ r. ⌜ r .passes ≤ 4 * n + 64 ⌝ }
+{
+    clear(s, SOLUTION, n);
+    copy(s, RESIDUAL, RHS, n);
+    if cyclic {
+        return least_squares(s, ia, ib, rows, n, count);
+    }
+    let ended = path_solve(s, ia, ib, rows, n, count);
+    let end = ended.end;
+    match end {
+        End::Declined => gradients(s, ia, ib, rows, n, count),
+        _ => ended,
+    }
+}

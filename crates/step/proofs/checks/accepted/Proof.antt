@@ -1,0 +1,17 @@
+use native.Mathlib.Omega.{arith}
+use mathlib.Core.Path.{_≡_, refl, sym, ap, _∙_}
+use Prim.Native.Nat.{ℕ, _+_, _*_, _≤_, _<_, _-_}
+use lib.ListN.{length, getD, length-set}
+use lib.Dec.{eqb}
+use borrow.Author.Needs.{needs}
+use Rattle.step.proofs.checks.accepted.Statement.{statement}
+use Rattle.step.proofs.checks.accepted.Tie as tie
+
+number-requires : tie.Need-number-requires
+number-requires c κs = search needs
+
+returns : tie.Need-returns
+returns c = ap (λ (n : ℕ). eqb n 0) (c .number .ensures)
+
+pub accepted-spec : {M : Type 1} → statement M
+accepted-spec = tie.close (tie.spec number-requires returns)

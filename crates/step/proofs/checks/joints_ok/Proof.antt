@@ -1,0 +1,55 @@
+use native.Mathlib.Omega.{arith}
+use mathlib.Core.Path.{_≡_, refl, sym, ap, _∙_}
+use Prim.Native.Nat.{ℕ, _+_, _*_, _≤_, _<_, _-_}
+use lib.ListN.{length, getD, length-set}
+use Rattle.step.proofs.checks.joints_ok.Statement.{statement}
+use Rattle.step.proofs.checks.joints_ok.Tie as tie
+
+abbrev Inv-loop : tie.InvT-loop
+Inv-loop count joints k₀ k = k ≤ count
+
+abbrev μ-loop : tie.MeasureT-loop
+μ-loop count joints k₀ k = count - k
+
+loop-holds : tie.Need-loop-holds Inv-loop μ-loop
+loop-holds c = omega arith
+
+mul-joint-ok : tie.Need-mul-joint-ok Inv-loop μ-loop
+mul-joint-ok c = omega arith
+
+array-copy-out-joint-ok : tie.Need-array-copy-out-joint-ok Inv-loop μ-loop
+array-copy-out-joint-ok c = omega arith
+
+joint-ok-requires : tie.Need-joint-ok-requires Inv-loop μ-loop
+joint-ok-requires c κs = omega arith
+
+returns : tie.Need-returns Inv-loop μ-loop
+returns c = omega arith
+
+add-k : tie.Need-add-k Inv-loop μ-loop
+add-k c = omega arith
+
+loop-less : tie.Need-loop-less Inv-loop μ-loop
+loop-less c = omega arith
+
+loop-again : tie.Need-loop-again Inv-loop μ-loop
+loop-again c = omega arith
+
+returns-2 : tie.Need-returns-2 Inv-loop μ-loop
+returns-2 c = omega arith
+
+pub joints-ok-spec : {M : Type 1} → statement M
+joints-ok-spec =
+    tie.close
+    (tie.spec
+    Inv-loop
+    μ-loop
+    loop-holds
+    mul-joint-ok
+    array-copy-out-joint-ok
+    joint-ok-requires
+    returns
+    add-k
+    loop-less
+    loop-again
+    returns-2)

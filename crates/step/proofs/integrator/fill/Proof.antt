@@ -1,0 +1,57 @@
+use native.Mathlib.Omega.{arith}
+use mathlib.Core.Path.{_≡_, refl, sym, ap, _∙_}
+use Prim.Native.Nat.{ℕ, _+_, _*_, _≤_, _<_, _-_}
+use lib.ListN.{length, getD, length-set}
+use Rattle.step.specs.Ready.{Spread, Joined}
+use Rattle.step.proofs.StepLaws.{spread-none, spread-more, spread-end, spread-less}
+use Rattle.step.proofs.integrator.fill.Statement.{statement}
+use Rattle.step.proofs.integrator.fill.Tie as tie
+
+abbrev Inv-loop : tie.InvT-loop
+Inv-loop index₀ from n body k₀ k-end index k = (from ≤ k) × (k ≤ k-end) × (k-end ≡ from + n) × (length index ≡ length index₀) × (Spread from (k - from) body index₀ index)
+
+abbrev μ-loop : tie.MeasureT-loop
+μ-loop index₀ from n body k₀ k-end index k = k-end - k
+
+add-k-end : tie.Need-add-k-end Inv-loop μ-loop
+add-k-end c = omega arith
+
+loop-holds : tie.Need-loop-holds Inv-loop μ-loop
+loop-holds c = (omega arith, omega arith, omega arith, refl, spread-none _ _ _ _ (omega arith))
+
+mul-index : tie.Need-mul-index Inv-loop μ-loop
+mul-index c = omega arith
+
+slice-write-index : tie.Need-slice-write-index Inv-loop μ-loop
+slice-write-index c = omega arith
+
+add-k : tie.Need-add-k Inv-loop μ-loop
+add-k c = omega arith
+
+loop-less : tie.Need-loop-less Inv-loop μ-loop
+loop-less c = omega arith
+
+loop-again : tie.Need-loop-again Inv-loop μ-loop
+loop-again c = (omega arith, omega arith, omega arith, simp length-set (omega arith), spread-more (omega arith) (omega arith) (c .before .loop .inv .4))
+
+same-length : tie.Need-same-length Inv-loop μ-loop
+same-length c = omega arith
+
+returns : tie.Need-returns Inv-loop μ-loop
+returns c = spread-end (omega arith) (omega arith) (omega arith) (c .before .loop .inv .4)
+
+pub fill-spec : {M : Type 1} → statement M
+fill-spec =
+    tie.close
+    (tie.spec
+    Inv-loop
+    μ-loop
+    add-k-end
+    loop-holds
+    mul-index
+    slice-write-index
+    add-k
+    loop-less
+    loop-again
+    same-length
+    returns)

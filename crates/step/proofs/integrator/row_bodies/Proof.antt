@@ -1,0 +1,75 @@
+use native.Mathlib.Omega.{arith}
+use mathlib.Core.Path.{_≡_, refl, sym, ap, _∙_}
+use Prim.Native.Nat.{ℕ, _+_, _*_, _≤_, _<_, _-_}
+use lib.ListN.{length, getD, length-set}
+use Rattle.rows.specs.Region.{count-most}
+use Rattle.step.specs.Checks.{jointIn}
+use Rattle.step.specs.Ready.{Spread, Joined}
+use Rattle.step.proofs.StepLaws.{spread-none, spread-more, spread-end, spread-less}
+use Rattle.step.proofs.integrator.row_bodies.Statement.{statement}
+use Rattle.step.proofs.integrator.row_bodies.Tie as tie
+
+abbrev Inv-loop : tie.InvT-loop
+Inv-loop ia₀ ib₀ count joints n₀ k₀ ia ib n k = (k ≤ count) × (n ≤ 6 * k) × (length ia ≡ length ia₀) × (length ib ≡ length ib₀) × ((size : ℕ) → Joined joints count size → (j : ℕ) → j < n → getD ia j 0 < size) × ((size : ℕ) → Joined joints count size → (j : ℕ) → j < n → getD ib j 0 < size)
+
+abbrev μ-loop : tie.MeasureT-loop
+μ-loop ia₀ ib₀ count joints n₀ k₀ ia ib n k = count - k
+
+loop-holds : tie.Need-loop-holds Inv-loop μ-loop
+loop-holds c = (omega arith, omega arith, refl, refl, (λ size q j h. absurd (omega arith)), (λ size q j h. absurd (omega arith)))
+
+mul-joint : tie.Need-mul-joint Inv-loop μ-loop
+mul-joint c = omega arith
+
+array-copy-out-joint : tie.Need-array-copy-out-joint Inv-loop μ-loop
+array-copy-out-joint c = omega arith
+
+row-count-requires : tie.Need-row-count-requires Inv-loop μ-loop
+row-count-requires c κs = omega arith
+
+fill-requires : tie.Need-fill-requires Inv-loop μ-loop
+fill-requires c κs = omega (arith, c .before .before .before .before .loop .inv, c .before .before .before .loop-test .taken, c .before .before .before .before .before .before .before .pre, c .before .row-count .ensures, count-most (jointIn (c .before .before .before .before .before .before .before .args .t3) (c .before .before .before .before .loop .k) .kind))
+
+fill-requires-2 : tie.Need-fill-requires-2 Inv-loop μ-loop
+fill-requires-2 c κs = omega (arith, c .before .before .before .before .before .before .before .before .loop .inv, c .before .before .before .before .before .before .before .loop-test .taken, c .before .before .before .before .before .before .before .before .before .before .before .pre, c .before .before .before .before .before .row-count .ensures, count-most (jointIn (c .before .before .before .before .before .before .before .before .before .before .before .args .t3) (c .before .before .before .before .before .before .before .before .loop .k) .kind))
+
+add-n : tie.Need-add-n Inv-loop μ-loop
+add-n c = omega (arith, c .before .before .before .before .before .before .before .before .before .before .before .loop .inv, c .before .before .before .before .before .before .before .before .before .before .loop-test .taken, c .before .before .before .before .before .before .before .before .before .before .before .before .before .before .pre, c .before .before .before .before .before .before .before .before .row-count .ensures, count-most (jointIn (c .before .before .before .before .before .before .before .before .before .before .before .before .before .before .args .t3) (c .before .before .before .before .before .before .before .before .before .before .before .loop .k) .kind))
+
+add-k : tie.Need-add-k Inv-loop μ-loop
+add-k c = omega arith
+
+loop-less : tie.Need-loop-less Inv-loop μ-loop
+loop-less c = omega arith
+
+loop-again : tie.Need-loop-again Inv-loop μ-loop
+loop-again c = (omega arith, omega (arith, c .before .before .before .before .before .before .before .before .before .before .before .loop .inv, c .before .before .before .before .before .before .before .before .before .before .loop-test .taken, c .before .before .before .before .before .before .before .before .before .before .before .before .before .before .pre, c .before .before .before .before .before .before .before .before .row-count .ensures, count-most (jointIn (c .before .before .before .before .before .before .before .before .before .before .before .before .before .before .args .t3) (c .before .before .before .before .before .before .before .before .before .before .before .loop .k) .kind)), omega arith, omega arith, (λ size q. spread-less (c .before .before .before .before .before .before .fill .ensures) (c .before .before .before .before .before .before .before .before .before .before .before .loop .inv .4 size q) (q .a-there _ (c .before .before .before .before .before .before .before .before .before .before .loop-test .taken))), (λ size q. spread-less (c .before .before .fill2 .ensures) (c .before .before .before .before .before .before .before .before .before .before .before .loop .inv .5 size q) (q .b-there _ (c .before .before .before .before .before .before .before .before .before .before .loop-test .taken))))
+
+same-length : tie.Need-same-length Inv-loop μ-loop
+same-length c = omega arith
+
+same-length-2 : tie.Need-same-length-2 Inv-loop μ-loop
+same-length-2 c = omega arith
+
+returns : tie.Need-returns Inv-loop μ-loop
+returns c = record { most = omega arith; a-there = c .before .loop .inv .4; b-there = c .before .loop .inv .5 }
+
+pub row-bodies-spec : {M : Type 1} → statement M
+row-bodies-spec =
+    tie.close
+    (tie.spec
+    Inv-loop
+    μ-loop
+    loop-holds
+    mul-joint
+    array-copy-out-joint
+    row-count-requires
+    fill-requires
+    fill-requires-2
+    add-n
+    add-k
+    loop-less
+    loop-again
+    same-length
+    same-length-2
+    returns)

@@ -1,0 +1,88 @@
+use native.Mathlib.Omega.{arith}
+use mathlib.Core.Path.{_≡_, refl, sym, ap, _∙_}
+use Prim.Native.Nat.{ℕ, _+_, _*_, _≤_, _<_, _-_}
+use lib.ListN.{length, getD, length-set}
+use borrow.Author.Needs.{needs}
+use Rattle.step.proofs.integrator.start_bodies.Statement.{statement}
+use Rattle.step.proofs.integrator.start_bodies.Tie as tie
+
+abbrev Inv-loop : tie.InvT-loop
+Inv-loop s₀ bodies n k₀ s k = (k ≤ n) × (length s ≡ length s₀)
+
+abbrev μ-loop : tie.MeasureT-loop
+μ-loop s₀ bodies n k₀ s k = n - k
+
+loop-holds : tie.Need-loop-holds Inv-loop μ-loop
+loop-holds c = (omega arith, refl)
+
+load-record-requires : tie.Need-load-record-requires Inv-loop μ-loop
+load-record-requires c κs = omega arith
+
+inverse-spd-requires : tie.Need-inverse-spd-requires Inv-loop μ-loop
+inverse-spd-requires c κs = omega arith
+
+new-requires : tie.Need-new-requires Inv-loop μ-loop
+new-requires c κs = omega arith
+
+enum-told : tie.Need-enum-told Inv-loop μ-loop
+enum-told c = search needs
+
+store-start-requires : tie.Need-store-start-requires Inv-loop μ-loop
+store-start-requires c κs = omega arith
+
+enum-told-2 : tie.Need-enum-told-2 Inv-loop μ-loop
+enum-told-2 c = search needs
+
+same-length : tie.Need-same-length Inv-loop μ-loop
+same-length c = omega arith
+
+returns : tie.Need-returns Inv-loop μ-loop
+returns c = omega arith
+
+enum-told-3 : tie.Need-enum-told-3 Inv-loop μ-loop
+enum-told-3 c = search needs
+
+same-length-2 : tie.Need-same-length-2 Inv-loop μ-loop
+same-length-2 c = omega arith
+
+returns-2 : tie.Need-returns-2 Inv-loop μ-loop
+returns-2 c = omega arith
+
+add-k : tie.Need-add-k Inv-loop μ-loop
+add-k c = omega arith
+
+loop-less : tie.Need-loop-less Inv-loop μ-loop
+loop-less c = omega arith
+
+loop-again : tie.Need-loop-again Inv-loop μ-loop
+loop-again c = (omega arith, omega arith)
+
+same-length-3 : tie.Need-same-length-3 Inv-loop μ-loop
+same-length-3 c = omega arith
+
+returns-3 : tie.Need-returns-3 Inv-loop μ-loop
+returns-3 c = omega arith
+
+pub start-bodies-spec : {M : Type 1} → statement M
+start-bodies-spec =
+    tie.close
+    (tie.spec
+    Inv-loop
+    μ-loop
+    loop-holds
+    load-record-requires
+    inverse-spd-requires
+    new-requires
+    enum-told
+    store-start-requires
+    enum-told-2
+    same-length
+    returns
+    enum-told-3
+    same-length-2
+    returns-2
+    add-k
+    loop-less
+    loop-again
+    same-length-3
+    returns-3)

@@ -1,0 +1,125 @@
+-- Refusals 1 to 9 of document 01, each number over all bodies or joints before the next.
+use Prim.Native.Nat.{ℕ, _/_, _%_, _^_}
+use mathlib.Core.List.{List}
+use mathlib.Core.Bool.{Bool, true, false, cond, not, _&&_, _||_}
+use lib.Dec.{ltb, leb, eqb}
+use lib.ListN.{length, getD}
+use lib.Ieee as Ieee
+use lib.Ieee.{Float, nan}
+use Rattle.arith.specs.Real.{ratio, isFinite, absOf}
+use Rattle.arith.specs.Angle.{PI}
+use Rattle.arith.specs.Flow.{every}
+use Rattle.vectors.specs.declared.vector.Vec3.{Vec3}
+use Rattle.vectors.specs.declared.matrix.CholeskyOutcome.{CholeskyOutcome}
+use Rattle.vectors.specs.declared.matrix.CholeskyOutcome.the-variants as Cholesky
+use Rattle.vectors.specs.Vector.{vec, finiteOf}
+use Rattle.vectors.specs.Quaternion.{quat, isNormalizedOf}
+use Rattle.vectors.specs.Matrix.{inverseSpdOf}
+use Rattle.rows.specs.declared.body.RigidBody.{RigidBody}
+use Rattle.rows.specs.declared.geometry.JointFrame.{JointFrame}
+use Rattle.rows.specs.declared.geometry.Joint.{Joint}
+use Rattle.rows.specs.declared.geometry.Kind.{Kind}
+use Rattle.rows.specs.declared.geometry.Kind.the-variants.{Ball, Hinge, Cylindrical, Planar, Distance, ConeTwist}
+use Rattle.rows.specs.View.{at}
+use Rattle.step.specs.declared.Outcome.{Outcome}
+use Rattle.step.specs.declared.Outcome.the-variants.{Accepted, TimeStep, Bodies, Joints, Scratch, NotFinite, OutOfRange, Inertia, JointBodies, JointNumbers, NonConvergent, ArithmeticOverflow, Ground}
+use Rattle.step.specs.Records.{recordAt, bodyCount}
+
+-- document 01's number of a refusal, and 0 for an accepted step
+abbrev pub numberOf : Outcome → ℕ
+numberOf Accepted = 0
+numberOf TimeStep = 1
+numberOf Bodies = 2
+numberOf Joints = 3
+numberOf Scratch = 4
+numberOf NotFinite = 5
+numberOf OutOfRange = 6
+numberOf Inertia = 7
+numberOf JointBodies = 8
+numberOf JointNumbers = 9
+numberOf NonConvergent = 10
+numberOf ArithmeticOverflow = 11
+numberOf Ground = 12
+
+-- no coordinate above the limit in magnitude
+abbrev pub withinOf : Vec3 → Float → Bool
+withinOf v limit = Ieee.le (absOf (v .x)) limit && Ieee.le (absOf (v .y)) limit && Ieee.le (absOf (v .z)) limit
+
+-- 1
+abbrev pub timeStepOk : Float → Bool
+timeStepOk dt = isFinite dt && Ieee.lt (ratio 0 1) dt
+
+-- 2
+abbrev pub bodiesFit : ℕ → Bool
+bodiesFit doubles = eqb (doubles % 26) 0 && leb (doubles / 26) 16
+
+-- 6
+abbrev pub massInRange : Float → Bool
+massInRange mass = Ieee.le (ratio 1 (2 ^ 10)) mass && Ieee.le mass (ratio (2 ^ 20) 1)
+
+abbrev pub bodyInRange : RigidBody → Bool
+bodyInRange body =
+    withinOf (body .origin) (ratio 8192 1) && withinOf (body .«center_of_mass») (ratio 64 1) && massInRange (body .mass) && isNormalizedOf (body .rotation)
+
+-- 7
+abbrev pub isDone : CholeskyOutcome → Bool
+isDone Cholesky.Done = true
+isDone Cholesky.NonFiniteInput = false
+isDone Cholesky.NotSymmetric = false
+isDone Cholesky.NotPositiveDefinite = false
+isDone Cholesky.ResultOutOfRange = false
+
+abbrev pub hasInverse : RigidBody → Bool
+hasInverse body = isDone (inverseSpdOf (body .inertia) .outcome)
+
+-- 8
+abbrev pub joinsTwo : ℕ → Joint → Bool
+joinsTwo bodies joint = ltb (joint .«body_a») bodies && ltb (joint .«body_b») bodies && not (eqb (joint .«body_a») (joint .«body_b»))
+
+-- 9
+abbrev pub frameOk : JointFrame → Bool
+frameOk frame = finiteOf (frame .«local_anchor») && withinOf (frame .«local_anchor») (ratio 64 1) && isNormalizedOf (frame .«local_rotation»)
+
+abbrev pub lengthOk : Float → Bool
+lengthOk length = Ieee.le (ratio 1 8) length && Ieee.le length (ratio 8192 1)
+
+abbrev pub swingOk : Float → Bool
+swingOk swing = Ieee.eq swing (ratio 0 1) || Ieee.eq swing PI
+
+-- equal at both limits, or free
+abbrev pub twistOk : Float → Float → Bool
+twistOk lower upper =
+    Ieee.le (absOf lower) (ratio 4 1) && Ieee.le (absOf upper) (ratio 4 1)
+    && (Ieee.eq lower upper || Ieee.le lower (Ieee.neg PI) && Ieee.le PI upper)
+
+abbrev pub kindOk : Kind → Bool
+kindOk Ball = true
+kindOk Hinge = true
+kindOk Cylindrical = true
+kindOk Planar = true
+kindOk (Distance length) = lengthOk length
+kindOk (ConeTwist swingX swingY lower upper) = swingOk swingX && swingOk swingY && twistOk lower upper
+
+abbrev pub jointOk : Joint → Bool
+jointOk joint = frameOk (joint .«frame_a») && frameOk (joint .«frame_b») && kindOk (joint .kind)
+
+abbrev noFrame : JointFrame
+noFrame = record { «local_anchor» = vec nan nan nan; «local_rotation» = quat nan nan nan nan }
+
+-- joints[k]; no index goes past the end
+abbrev pub jointIn : List Joint → ℕ → Joint
+jointIn joints k = getD joints k (record { «body_a» = 0; «body_b» = 0; «frame_a» = noFrame; «frame_b» = noFrame; kind = Ball })
+
+-- the first refusal among 1 to 9, or Accepted
+unfoldable pub refusalOf : List Float → List Joint → ℕ → Float → ℕ → Outcome
+refusalOf bodies joints count dt scratch =
+    cond (not (timeStepOk dt)) TimeStep
+    (cond (not (bodiesFit (length bodies))) Bodies
+    (cond (ltb 16 count) Joints
+    (cond (ltb scratch 6144) Scratch
+    (cond (not (every (length bodies) (λ k. isFinite (at bodies k)))) NotFinite
+    (cond (not (every (bodyCount bodies) (λ k. bodyInRange (recordAt bodies k)))) OutOfRange
+    (cond (not (every (bodyCount bodies) (λ k. hasInverse (recordAt bodies k)))) Inertia
+    (cond (not (every count (λ k. joinsTwo (bodyCount bodies) (jointIn joints k)))) JointBodies
+    (cond (not (every count (λ k. jointOk (jointIn joints k)))) JointNumbers
+    Accepted))))))))

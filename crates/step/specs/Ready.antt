@@ -1,0 +1,43 @@
+-- What the refusals leave for a run: joints on bodies that are there.
+use Prim.Native.Nat.{ℕ, _+_, _*_, _/_, _≤_, _<_}
+use mathlib.Core.Path.{_≡_}
+use lib.ListN.{getD}
+use mathlib.Core.List.{List}
+use Rattle.rows.specs.declared.geometry.Joint.{Joint}
+use mathlib.Core.Bool.{Bool}
+use lib.Dec.{eqb}
+use Rattle.step.specs.declared.Outcome.{Outcome}
+use Rattle.step.specs.Checks.{numberOf, jointIn}
+
+-- no refusal's number
+abbrev pub isAccepted : Outcome → Bool
+isAccepted outcome = eqb (numberOf outcome) 0
+
+-- at most 16 joints, on at most 16 bodies
+pub record Joined (joints : List Joint) (count size : ℕ) : Type 0 where
+  pub few : count ≤ 16
+  pub small : size ≤ 16
+  pub a-there : (k : ℕ) → k < count → jointIn joints k .«body_a» < size
+  pub b-there : (k : ℕ) → k < count → jointIn joints k .«body_b» < size
+
+-- every joint on bodies below n
+pub record Joins (joints : List Joint) (count n : ℕ) : Type 0 where
+  pub a-there : (k : ℕ) → k < count → jointIn joints k .«body_a» < n
+  pub b-there : (k : ℕ) → k < count → jointIn joints k .«body_b» < n
+
+-- the numbers of 2 to 4 are in range
+pub record Sizes (doubles count scratch : ℕ) : Type 0 where
+  pub small : doubles / 26 ≤ 16
+  pub few : count ≤ 16
+  pub room : 6144 ≤ scratch
+
+-- the bodies of n rows, as many for each joint as its kind has
+pub record RowBodies (joints : List Joint) (count n : ℕ) (ia ib : List ℕ) : Type 0 where
+  pub most : n ≤ 6 * count
+  pub a-there : (size : ℕ) → Joined joints count size → (k : ℕ) → k < n → getD ia k 0 < size
+  pub b-there : (size : ℕ) → Joined joints count size → (k : ℕ) → k < n → getD ib k 0 < size
+
+-- t is s with n times body from `from` on, and whatever stood behind them
+pub record Spread (from n body : ℕ) (s t : List ℕ) : Type 0 where
+  pub before : (j : ℕ) → j < from → getD t j 0 ≡ getD s j 0
+  pub here : (j : ℕ) → from ≤ j → j < from + n → getD t j 0 ≡ body

@@ -1,0 +1,176 @@
+// Records of bodies in the caller's slice, and bodies in motion in the scratch.
+use crate::RECORD;
+use crate::checks::within;
+use rows::body::BodyState;
+use rows::body::MomentumBody;
+use rows::body::RigidBody;
+use solves::layout::CANDIDATE;
+use solves::layout::START;
+use solves::places::load3;
+use solves::places::store3;
+use vectors::matrix::Mat3;
+use vectors::quaternion::Quat;
+use vectors::vector::Vec3;
+ghost use mathlib.Core.Path.{_≡_};
+ghost use Prim.Native.Nat.{_+_, _*_, _≤_, _<_};
+ghost use lib.ListN.{length};
+ghost use Rattle.solves.specs.View.{END};
+
+// What moves of a body in a step: centre, rotation, momentum and spin.
+pub const MOVING: usize = 13;
+
+fn load4(s: &[f64], i: usize) -> Quat
+    requires { ⌜ i + 4 ≤ length (now s) ⌝ }
+{
+    Quat {
+        x: s[i],
+        y: s[i + 1],
+        z: s[i + 2],
+        w: s[i + 3],
+    }
+}
+
+fn store4(s: &mut [f64], i: usize, q: Quat)
+    requires { ⌜ i + 4 ≤ length (now s) ⌝ }
+{
+    s[i] = q.x;
+    s[i + 1] = q.y;
+    s[i + 2] = q.z;
+    s[i + 3] = q.w;
+}
+
+fn load_mat3(s: &[f64], i: usize) -> Mat3
+    requires { ⌜ i + 9 ≤ length (now s) ⌝ }
+{
+    let x = load3(s, i);
+    let y = load3(s, i + 3);
+    let z = load3(s, i + 6);
+    Mat3::from_cols(x, y, z)
+}
+
+fn store_mat3(s: &mut [f64], i: usize, m: Mat3)
+    requires { ⌜ i + 9 ≤ length (now s) ⌝ }
+{
+    let c = m.to_columns();
+    store3(s, i, Vec3::new(c[0][0], c[0][1], c[0][2]));
+    store3(s, i + 3, Vec3::new(c[1][0], c[1][1], c[1][2]));
+    store3(s, i + 6, Vec3::new(c[2][0], c[2][1], c[2][2]));
+}
+
+// Record k of a body slice.
+pub fn load_record(bodies: &[f64], k: usize) -> RigidBody
+    requires { ⌜ 26 * k + 26 ≤ length (now bodies) ⌝ }
+{
+    let i = RECORD * k;
+    RigidBody {
+        origin: load3(bodies, i),
+        rotation: load4(bodies, i + 3),
+        linear_velocity: load3(bodies, i + 7),
+        angular_velocity: load3(bodies, i + 10),
+        mass: bodies[i + 13],
+        center_of_mass: load3(bodies, i + 14),
+        inertia: load_mat3(bodies, i + 17),
+    }
+}
+
+// The 13 numbers at i as a state.
+pub fn load_state(s: &[f64], i: usize) -> BodyState
+    requires { ⌜ i + 13 ≤ length (now s) ⌝ }
+{
+    BodyState {
+        origin: load3(s, i),
+        rotation: load4(s, i + 3),
+        linear_velocity: load3(s, i + 7),
+        angular_velocity: load3(s, i + 10),
+    }
+}
+
+pub fn store_state(s: &mut [f64], i: usize, state: BodyState)
+    requires { ⌜ i + 13 ≤ length (now s) ⌝ }
+{
+    store3(s, i, state.origin);
+    store4(s, i + 3, state.rotation);
+    store3(s, i + 7, state.linear_velocity);
+    store3(s, i + 10, state.angular_velocity);
+}
+
+fn store_moving(s: &mut [f64], i: usize, body: MomentumBody)
+    requires { ⌜ i + 13 ≤ length (now s) ⌝ }
+{
+    store3(s, i, body.center);
+    store4(s, i + 3, body.rotation);
+    store3(s, i + 7, body.momentum);
+    store3(s, i + 10, body.spin);
+}
+
+// What does not move: mass, local centre and inverse inertia.
+fn store_fixed(s: &mut [f64], i: usize, body: MomentumBody)
+    requires { ⌜ i + 13 ≤ length (now s) ⌝ }
+{
+    store3(s, i + 1, body.center_of_mass);
+    store_mat3(s, i + 4, body.inverse_inertia);
+    s[i] = body.mass;
+}
+
+pub fn store_start(s: &mut [f64], k: usize, body: MomentumBody)
+    requires { ⌜ (END ≤ length (now s)) × (k < 16) ⌝ }
+{
+    let i = START + RECORD * k;
+    store_moving(s, i, body);
+    store_fixed(s, i + 13, body);
+}
+
+pub fn store_candidate(s: &mut [f64], k: usize, body: MomentumBody)
+    requires { ⌜ (END ≤ length (now s)) × (k < 16) ⌝ }
+{
+    store_moving(s, CANDIDATE + MOVING * k, body);
+}
+
+// The body whose moving numbers stand at i; mass and inertia are those of the start.
+fn load_body(s: &[f64], i: usize, k: usize) -> MomentumBody
+    requires { ⌜ (i + 13 ≤ length (now s)) × (END ≤ length (now s)) × (k < 16) ⌝ }
+{
+    let j = START + RECORD * k;
+    MomentumBody {
+        center: load3(s, i),
+        rotation: load4(s, i + 3),
+        momentum: load3(s, i + 7),
+        spin: load3(s, i + 10),
+        mass: s[j + 13],
+        center_of_mass: load3(s, j + 14),
+        inverse_inertia: load_mat3(s, j + 17),
+    }
+}
+
+pub fn load_start(s: &[f64], k: usize) -> MomentumBody
+    requires { ⌜ (END ≤ length (now s)) × (k < 16) ⌝ }
+{
+    load_body(s, START + RECORD * k, k)
+}
+
+pub fn load_candidate(s: &[f64], k: usize) -> MomentumBody
+    requires { ⌜ (END ≤ length (now s)) × (k < 16) ⌝ }
+{
+    load_body(s, CANDIDATE + MOVING * k, k)
+}
+
+// Whether every resulting origin is on the plan's ground. The states stand where the candidates were.
+pub fn in_ground(s: &[f64], n: usize) -> bool
+    requires { ⌜ (END ≤ length (now s)) × (n ≤ 16) ⌝ }
+{
+    for k in 0..n {
+        if !within(load3(s, CANDIDATE + MOVING * k), 8192.0) {
+            return false;
+        }
+    }
+    true
+}
+
+// Hands the states back: the first 13 numbers of each record.
+pub fn write_states(bodies: &mut [f64], s: &[f64], n: usize)
+    requires { ⌜ (26 * n ≤ length (now bodies)) × (END ≤ length (now s)) × (n ≤ 16) ⌝ }
+{
+    for k in 0..n {
+        store_state(bodies, RECORD * k, load_state(s, CANDIDATE + MOVING * k));
+    }
+}

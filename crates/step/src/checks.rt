@@ -1,0 +1,288 @@
+// Refusals 1 to 9, in document 01's order: each number over all bodies or joints before the next.
+use crate::Outcome;
+use crate::RECORD;
+use crate::SCRATCH;
+use crate::bodies::load_record;
+use crate::number;
+use arith::angle::PI;
+use arith::number::abs;
+use arith::number::is_finite;
+use rows::body::RigidBody;
+use rows::geometry::Joint;
+use rows::geometry::JointFrame;
+use rows::geometry::Kind;
+use vectors::matrix::CholeskyOutcome;
+use vectors::matrix::inverse_spd;
+use vectors::vector::Vec3;
+ghost use mathlib.Core.Path.{_≡_};
+ghost use mathlib.Core.Bool.{true};
+ghost use Prim.Native.Nat.{ℕ, _+_, _*_, _/_, _≤_, _<_};
+ghost use lib.ListN.{length};
+ghost use Rattle.step.specs.declared.Outcome.the-variants as Outcome;
+ghost use Rattle.step.specs.Records.{bodyCount};
+ghost use Rattle.step.specs.Ready.{isAccepted, Joined, Joins, Sizes};
+
+// Whether no coordinate is above the limit in magnitude.
+pub fn within(v: Vec3, limit: f64) -> bool {
+    if abs(v.x) <= limit {
+        if abs(v.y) <= limit {
+            return abs(v.z) <= limit;
+        }
+    }
+    false
+}
+
+fn all_finite(bodies: &[f64]) -> bool {
+    for k in 0..bodies.len() {
+        if !is_finite(bodies[k]) {
+            return false;
+        }
+    }
+    true
+}
+
+// Mass from 2^-10 to 2^20.
+fn mass_in_range(mass: f64) -> bool {
+    if mass >= 0.0009765625 {
+        return mass <= 1048576.0;
+    }
+    false
+}
+
+fn body_in_range(body: RigidBody) -> bool {
+    if within(body.origin, 8192.0) {
+        if within(body.center_of_mass, 64.0) {
+            if mass_in_range(body.mass) {
+                return body.rotation.is_normalized();
+            }
+        }
+    }
+    false
+}
+
+fn bodies_in_range(bodies: &[f64], n: usize) -> bool
+    requires { ⌜ 26 * n ≤ length (now bodies) ⌝ }
+{
+    for k in 0..n {
+        if !body_in_range(load_record(bodies, k)) {
+            return false;
+        }
+    }
+    true
+}
+
+fn has_inverse(body: RigidBody) -> bool {
+    let inertia = body.inertia;
+    let inverted = inverse_spd(inertia);
+    let outcome = inverted.outcome;
+    match outcome {
+        CholeskyOutcome::Done => true,
+        _ => false,
+    }
+}
+
+fn inertias_invert(bodies: &[f64], n: usize) -> bool
+    requires { ⌜ 26 * n ≤ length (now bodies) ⌝ }
+{
+    for k in 0..n {
+        if !has_inverse(load_record(bodies, k)) {
+            return false;
+        }
+    }
+    true
+}
+
+fn joins_two(joint: Joint, n: usize) -> bool
+    ensures { λ r. ⌜ (r ≡ true → (joint .«body_a» < n) × (joint .«body_b» < n)) ⌝ }
+{
+    if joint.body_a < n {
+        if joint.body_b < n {
+            return joint.body_a != joint.body_b;
+        }
+    }
+    false
+}
+
+fn joints_join(joints: [Joint; 16], count: usize, n: usize) -> bool
+    requires { ⌜ count ≤ 16 ⌝ }
+    ensures { λ r. ⌜ (r ≡ true → Joins joints count n) ⌝ }
+{
+    for k in 0..count {
+        if !joins_two(joints[k], n) {
+            return false;
+        }
+    }
+    true
+}
+
+fn frame_ok(frame: JointFrame) -> bool {
+    if frame.local_anchor.is_finite() {
+        if within(frame.local_anchor, 64.0) {
+            return frame.local_rotation.is_normalized();
+        }
+    }
+    false
+}
+
+// From 1/8 to 8,192. A length that is not finite is in no range.
+fn length_ok(length: f64) -> bool {
+    if length >= 0.125 {
+        return length <= 8192.0;
+    }
+    false
+}
+
+fn swing_ok(swing: f64) -> bool {
+    if swing == 0.0 {
+        return true;
+    }
+    swing == PI
+}
+
+// Equal limits, or a free twist, each within 4.
+fn twist_ok(lower: f64, upper: f64) -> bool {
+    if abs(lower) <= 4.0 {
+        if abs(upper) <= 4.0 {
+            if lower == upper {
+                return true;
+            }
+            if lower <= -PI {
+                return upper >= PI;
+            }
+        }
+    }
+    false
+}
+
+fn cone_ok(swing_x: f64, swing_y: f64, lower: f64, upper: f64) -> bool {
+    if swing_ok(swing_x) {
+        if swing_ok(swing_y) {
+            return twist_ok(lower, upper);
+        }
+    }
+    false
+}
+
+fn kind_ok(kind: Kind) -> bool {
+    match kind {
+        Kind::Distance(length) => length_ok(length),
+        Kind::ConeTwist {
+            swing_x,
+            swing_y,
+            twist_lower,
+            twist_upper,
+        } => cone_ok(swing_x, swing_y, twist_lower, twist_upper),
+        _ => true,
+    }
+}
+
+fn joint_ok(joint: Joint) -> bool {
+    let kind = joint.kind;
+    if frame_ok(joint.frame_a) {
+        if frame_ok(joint.frame_b) {
+            return kind_ok(kind);
+        }
+    }
+    false
+}
+
+fn joints_ok(joints: [Joint; 16], count: usize) -> bool
+    requires { ⌜ count ≤ 16 ⌝ }
+{
+    for k in 0..count {
+        if !joint_ok(joints[k]) {
+            return false;
+        }
+    }
+    true
+}
+
+fn body_refusal(bodies: &[f64], n: usize) -> Outcome
+    requires { ⌜ 26 * n ≤ length (now bodies) ⌝ }
+{
+    if !all_finite(bodies) {
+        return Outcome::NotFinite;
+    }
+    if !bodies_in_range(bodies, n) {
+        return Outcome::OutOfRange;
+    }
+    if !inertias_invert(bodies, n) {
+        return Outcome::Inertia;
+    }
+    Outcome::Accepted
+}
+
+fn joint_refusal(joints: [Joint; 16], count: usize, n: usize) -> Outcome
+    requires { ⌜ count ≤ 16 ⌝ }
+    ensures { λ r. ⌜ (r ≡ Outcome.Accepted → Joins joints count n) ⌝ }
+{
+    if !joints_join(joints, count, n) {
+        return Outcome::JointBodies;
+    }
+    if !joints_ok(joints, count) {
+        return Outcome::JointNumbers;
+    }
+    Outcome::Accepted
+}
+
+fn time_step_ok(dt: f64) -> bool {
+    if is_finite(dt) {
+        return dt > 0.0;
+    }
+    false
+}
+
+fn bodies_fit(length: usize) -> bool
+    ensures { λ r. ⌜ (r ≡ true → length / 26 ≤ 16) ⌝ }
+{
+    if length % RECORD == 0 {
+        return length / RECORD <= 16;
+    }
+    false
+}
+
+// The refusal by numbers and lengths alone, 1 to 4.
+fn size_refusal(length: usize, count: usize, dt: f64, scratch: usize) -> Outcome
+    ensures { λ r. ⌜ (r ≡ Outcome.Accepted → Sizes length count scratch) ⌝ }
+{
+    if !time_step_ok(dt) {
+        return Outcome::TimeStep;
+    }
+    if !bodies_fit(length) {
+        return Outcome::Bodies;
+    }
+    if 16 < count {
+        return Outcome::Joints;
+    }
+    if scratch < SCRATCH {
+        return Outcome::Scratch;
+    }
+    Outcome::Accepted
+}
+
+pub fn accepted(outcome: Outcome) -> bool
+    ensures { λ r. ⌜ r ≡ isAccepted outcome ⌝ }
+{
+    number(outcome) == 0
+}
+
+pub fn refusal(
+    bodies: &[f64],
+    joints: [Joint; 16],
+    count: usize,
+    dt: f64,
+    scratch: usize,
+) -> Outcome
+    ensures { λ r. ⌜ (r ≡ Outcome.Accepted → (Joined joints count (bodyCount (now (bodies .entry)))) × (6144 ≤ scratch)) ⌝ }
+{
+    let sizes = size_refusal(bodies.len(), count, dt, scratch);
+    if !accepted(sizes) {
+        return sizes;
+    }
+    let n = bodies.len() / RECORD;
+    let of_bodies = body_refusal(bodies, n);
+    if !accepted(of_bodies) {
+        return of_bodies;
+    }
+    joint_refusal(joints, count, n)
+}

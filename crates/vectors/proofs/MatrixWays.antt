@@ -1,0 +1,155 @@
+-- The code's answers are the definitions': one law for each way through a function of src/matrix.rt, over plain variables.
+use Prim.Native.Nat.{ℕ}
+use lib.Ieee as Ieee
+use lib.Ieee.{Float, binary64}
+use borrow.Author.Tests.{eq-eqb, ne-eqb}
+use mathlib.Core.Path.{_≡_, sym, ap, _∙_}
+use mathlib.Core.Bool.{Bool, true, false, not, _||_, Bool·not-not}
+use Rattle.arith.specs.Real.{_⊖_, _⊘_, ratio}
+use Rattle.arith.specs.Root.{sqrt}
+use Rattle.arith.specs.Flow.{Turn, go, stop}
+use Rattle.arith.specs.FlowLaws.{not-yes, not-no, cond-yes, cond-no}
+use Rattle.vectors.specs.declared.vector.Vec3.{Vec3}
+use Rattle.vectors.specs.declared.matrix.Mat3.{Mat3}
+use Rattle.vectors.specs.declared.matrix.CholeskyOutcome.the-variants.{Done, NonFiniteInput, NotSymmetric, NotPositiveDefinite, ResultOutOfRange}
+use Rattle.vectors.specs.declared.matrix.Cholesky3.{Cholesky3}
+use Rattle.vectors.specs.declared.matrix.Factored.{Factored}
+use Rattle.vectors.specs.declared.matrix.Solved.{Solved}
+use Rattle.vectors.specs.declared.matrix.Inverted.{Inverted}
+use Rattle.vectors.specs.Vector.{axisX, axisY, axisZ, divOf, finiteOf}
+use Rattle.vectors.specs.Matrix.{Cells, cell, put, turned, fromCols, matOf, zeroMat, finiteMat, matLargestOf, divided, notSymmetric, correctionOf, aboveZero, ranOf, placed, placeOf, factorOf, unfactored, factoredWith, factorSpdOf, forwardOf, backwardOf, unsolved, solveOf, done, solveSpdOf, uninverted, inverseSpdOf}
+
+-- ---- the symmetry test
+module _ (a b c : Bool) {p : Bool} (ep : p ≡ a) where
+  pub uneven-first : p ≡ true → false ≡ not (a || b || c)
+  uneven-first h = cc
+
+  module _ (hp : p ≡ false) {q : Bool} (eq : q ≡ b) where
+    pub uneven-second : q ≡ true → false ≡ not (a || b || c)
+    uneven-second h = cc
+
+    pub uneven-third : q ≡ false → {r : Bool} → r ≡ c → not r ≡ not (a || b || c)
+    uneven-third h er = cc
+
+-- ---- one place of the factor
+module _ (n : Cells) (row column : ℕ) (l : Cells) {p : Float} (ep : p ≡ correctionOf l row column) where
+  place-is : placed l row column (cell n row column ⊖ p) ≡ placeOf n row column l
+  unfolding placeOf
+  place-is = ap (λ (z : Float). placed l row column (cell n row column ⊖ z)) ep
+
+  module _ (h : row ≡ column) {t : Bool} (et : t ≡ aboveZero (cell n row column ⊖ p)) where
+    pub place-root : t ≡ true → {r : Float} → r ≡ sqrt binary64 (cell n row column ⊖ p) → go (put l row column r) ≡ placeOf n row column l
+    place-root ht er = ap (λ (z : Float). go (put l row column z)) er ∙ (simp (eq-eqb _ _ h, sym et ∙ ht) at place-is)
+
+    pub place-not : t ≡ false → stop l ≡ placeOf n row column l
+    place-not ht = simp (eq-eqb _ _ h, sym et ∙ ht) at place-is
+
+  pub place-below : (row ≡ column → ⊥) → go (put l row column ((cell n row column ⊖ p) ⊘ cell l column column)) ≡ placeOf n row column l
+  place-below h = simp (ne-eqb _ _ h) at place-is
+
+-- the answer taken apart
+module _ (r : Bool) {l : Cells} {x : Turn Cells Cells} (e : ranOf r l ≡ x) where
+  pub was-yes : not r ≡ false → go l ≡ x
+  was-yes h = sym (ap (λ (b : Bool). ranOf b l) (not-no r h)) ∙ e
+
+  pub was-no : not r ≡ true → stop l ≡ x
+  was-no h = sym (ap (λ (b : Bool). ranOf b l) (not-yes r h)) ∙ e
+
+-- ---- factor_spd
+module _ (m : Mat3) {b : Bool} (eb : b ≡ finiteMat m) where
+  pub factor-wild : not b ≡ true → {r : Factored} → r ≡ unfactored NonFiniteInput → r ≡ factorSpdOf m
+  unfolding factorSpdOf
+  factor-wild h er = cc
+
+  module _ (hb : not b ≡ false) {s : Float} (es : s ≡ matLargestOf m) {o : Float} (eo : o ≡ ratio 0 1) where
+    pub factor-zero : Ieee.eq s o ≡ true → {r : Factored} → r ≡ unfactored NotPositiveDefinite → r ≡ factorSpdOf m
+    unfolding factorSpdOf
+    factor-zero h er = cc
+
+    module _ (hs : Ieee.eq s o ≡ false) {t n : Cells} (et : t ≡ turned (m .columns)) (en : n ≡ divided t s) {y : Bool} (ey : y ≡ not (notSymmetric n)) where
+      finite : not (finiteMat m) ≡ false
+      finite = sym (ap not eb) ∙ hb
+
+      not-zero : Ieee.eq (matLargestOf m) (ratio 0 1) ≡ false
+      not-zero = sym (ap (λ (z : Float). Ieee.eq z o) es ∙ ap (Ieee.eq (matLargestOf m)) eo) ∙ hs
+
+      normalized-is : n ≡ divided (turned (m .columns)) (matLargestOf m)
+      normalized-is = en ∙ ap (λ (t : Cells). divided t s) et ∙ ap (divided (turned (m .columns))) es
+
+      test-is : not y ≡ notSymmetric (divided (turned (m .columns)) (matLargestOf m))
+      test-is = ap not ey ∙ Bool·not-not _ ∙ ap notSymmetric normalized-is
+
+      pub factor-uneven : not y ≡ true → {r : Factored} → r ≡ unfactored NotSymmetric → r ≡ factorSpdOf m
+      unfolding factorSpdOf
+      factor-uneven h er = er ∙ cond-yes _ _ (sym test-is ∙ h) ∙ cond-no _ _ not-zero ∙ cond-no _ _ finite
+
+      module _ (hy : not y ≡ false) (f : Bool) (l : Cells) (ef : ranOf f l ≡ factorOf n (zeroMat .columns)) where
+        whole : factoredWith s (ranOf f l) ≡ factorSpdOf m
+        unfolding factorSpdOf
+        whole =
+            ap (factoredWith s) (ef ∙ ap (λ (n : Cells). factorOf n (zeroMat .columns)) normalized-is)
+            ∙ ap (λ (s : Float). factoredWith s (factorOf (divided (turned (m .columns)) (matLargestOf m)) (zeroMat .columns))) es
+            ∙ cond-no _ _ (sym test-is ∙ hy)
+            ∙ cond-no _ _ not-zero
+            ∙ cond-no _ _ finite
+
+        pub factor-done : f ≡ true → {p : Mat3} → p ≡ matOf (turned l) → record { outcome = Done; factor = record { lower = p; scale = s } } ≡ factorSpdOf m
+        factor-done h ep = ap (λ (p : Mat3). record { outcome = Done; factor = record { lower = p; scale = s } }) ep ∙ sym (ap (λ (b : Bool). factoredWith s (ranOf b l)) h) ∙ whole
+
+        pub factor-not : f ≡ false → {r : Factored} → r ≡ unfactored NotPositiveDefinite → r ≡ factorSpdOf m
+        factor-not h er = er ∙ sym (ap (λ (b : Bool). factoredWith s (ranOf b l)) h) ∙ whole
+
+-- ---- solve_spd
+module _ (m : Mat3) (rhs : Vec3) {g : Factored} (eg : g ≡ factorSpdOf m) {b : Bool} (eb : b ≡ done (g .outcome)) {r : Solved} where
+  pub spd-done : b ≡ true → r ≡ solveOf (g .factor) rhs → r ≡ solveSpdOf m rhs
+  unfolding solveSpdOf
+  spd-done h er = cc
+
+  pub spd-not : b ≡ false → r ≡ unsolved (g .outcome) → r ≡ solveSpdOf m rhs
+  unfolding solveSpdOf
+  spd-not h er = cc
+
+-- ---- inverse_spd
+module _ (m : Mat3) {x : Solved} (ex : x ≡ solveSpdOf m axisX) {a : Bool} (ea : a ≡ done (x .outcome)) where
+  pub inverse-x : not a ≡ true → {r : Inverted} → r ≡ uninverted (x .outcome) → r ≡ inverseSpdOf m
+  unfolding inverseSpdOf
+  inverse-x h er = cc
+
+  module _ (ha : not a ≡ false) {y : Solved} (ey : y ≡ solveSpdOf m axisY) {b : Bool} (eb : b ≡ done (y .outcome)) where
+    pub inverse-y : not b ≡ true → {r : Inverted} → r ≡ uninverted (y .outcome) → r ≡ inverseSpdOf m
+    unfolding inverseSpdOf
+    inverse-y h er = cc
+
+    module _ (hb : not b ≡ false) {z : Solved} (ez : z ≡ solveSpdOf m axisZ) {c : Bool} (ec : c ≡ done (z .outcome)) where
+      pub inverse-z : not c ≡ true → {r : Inverted} → r ≡ uninverted (z .outcome) → r ≡ inverseSpdOf m
+      unfolding inverseSpdOf
+      inverse-z h er = cc
+
+      module _ (hc : not c ≡ false) {i : Mat3} (ei : i ≡ fromCols (x .solution) (y .solution) (z .solution)) {d : Bool} (ed : d ≡ finiteMat i) where
+        pub inverse-done : d ≡ true → record { outcome = Done; inverse = i } ≡ inverseSpdOf m
+        unfolding inverseSpdOf
+        inverse-done h = cc
+
+        pub inverse-far : d ≡ false → {r : Inverted} → r ≡ uninverted ResultOutOfRange → r ≡ inverseSpdOf m
+        unfolding inverseSpdOf
+        inverse-far h er = cc
+
+-- ---- solve
+module _ (factor : Cholesky3) (rhs : Vec3) {b : Bool} (eb : b ≡ finiteOf rhs) where
+  pub solve-wild : not b ≡ true → {r : Solved} → r ≡ unsolved NonFiniteInput → r ≡ solveOf factor rhs
+  unfolding solveOf
+  solve-wild h er = cc
+
+  module _ (hb : not b ≡ false) {n : Vec3} (en : n ≡ divOf rhs (factor .scale)) {f : Bool} (ef : f ≡ finiteOf n) where
+    pub solve-large : not f ≡ true → {r : Solved} → r ≡ unsolved ResultOutOfRange → r ≡ solveOf factor rhs
+    unfolding solveOf
+    solve-large h er = cc
+
+    module _ (hf : not f ≡ false) {l : Cells} (el : l ≡ turned (factor .lower .columns)) {y x : Vec3} (ey : y ≡ forwardOf l n) (ex : x ≡ backwardOf l y) {g : Bool} (eg : g ≡ finiteOf x) where
+      pub solve-done : g ≡ true → record { outcome = Done; solution = x } ≡ solveOf factor rhs
+      unfolding solveOf
+      solve-done h = cc
+
+      pub solve-far : g ≡ false → {r : Solved} → r ≡ unsolved ResultOutOfRange → r ≡ solveOf factor rhs
+      unfolding solveOf
+      solve-far h er = cc

@@ -1,0 +1,151 @@
+-- The code's answers are the definitions': one law for each way through a function, over plain variables.
+use Prim.Native.Nat.{_^_}
+use lib.Ieee as Ieee
+use lib.Ieee.{Float, ofBits, round}
+use mathlib.Core.Path.{_≡_, refl}
+use mathlib.Core.Bool.{Bool, true, false, not}
+use Rattle.arith.specs.Real.{_⊗_, F, ratio, isFinite}
+use Rattle.arith.specs.Angle.{sinCosOf}
+use Rattle.arith.specs.declared.angle.Turn.{Turn}
+use Rattle.arith.specs.declared.angle.SinCos.{SinCos}
+use Rattle.arith.specs.declared.angle.SinCos.the-variants.{Value, Refused}
+use Rattle.vectors.specs.declared.vector.Vec3.{Vec3}
+use Rattle.vectors.specs.declared.vector.OptionVec3.the-variants as Vectors
+use Rattle.vectors.specs.declared.vector.OptionF64.the-variants as Numbers
+use Rattle.vectors.specs.declared.matrix.Mat3.{Mat3}
+use Rattle.vectors.specs.declared.quaternion.Quat.{Quat}
+use Rattle.vectors.specs.declared.quaternion.OptionQuat.{OptionQuat}
+use Rattle.vectors.specs.declared.quaternion.OptionQuat.the-variants.{Some, None}
+use Rattle.vectors.specs.Vector.{finiteOf, lengthOf, scaleOf, divOf, normalizeBy, checkedLengthOf}
+use Rattle.vectors.specs.Matrix.{zeroMat}
+use Rattle.vectors.specs.Quaternion.{quat, productOf, quatTryNormalizeOf, turnedOf, rotateVectorOf, columnsOf, toMat3Of, smallTurn, deltaOf, integrateOf}
+
+-- ---- the literals of the code
+pub zero-is : F 0 ≡ ratio 0 1
+unfolding ofBits round
+zero-is = refl
+
+pub tiny-is : F 0x3e45_798e_e230_8c3a ≡ ratio 1 (10 ^ 8)
+unfolding ofBits round
+tiny-is = refl
+
+pub half-is : F 0x3fe0_0000_0000_0000 ≡ ratio 1 2
+unfolding ofBits round
+half-is = refl
+
+-- ---- try_normalize
+module _ {A O : Type 0} (finite : A → Bool) (largest : A → Float) (div : A → Float → A) (length : A → Float) (none : O) (some : A → O) (v : A) {b : Bool} (eb : b ≡ finite v) where
+  abbrev answer : O
+  answer = normalizeBy finite largest div length none some v
+
+  pub normalize-wild : not b ≡ true → none ≡ answer
+  unfolding normalizeBy
+  normalize-wild h = cc
+
+  module _ (hb : not b ≡ false) {s : Float} (es : s ≡ largest v) {o : Float} (eo : o ≡ ratio 0 1) where
+    pub normalize-zero : Ieee.eq s o ≡ true → none ≡ answer
+    unfolding normalizeBy
+    normalize-zero h = cc
+
+    module _ (hs : Ieee.eq s o ≡ false) {w : A} (ew : w ≡ div v s) {l : Float} (el : l ≡ length w) {f : Bool} (ef : f ≡ isFinite l) where
+      pub normalize-long : not f ≡ true → none ≡ answer
+      unfolding normalizeBy
+      normalize-long h = cc
+
+      pub normalize-flat : not f ≡ false → Ieee.eq l o ≡ true → none ≡ answer
+      unfolding normalizeBy
+      normalize-flat h g = cc
+
+      pub normalize-some : not f ≡ false → Ieee.eq l o ≡ false → {r : A} → r ≡ div w l → some r ≡ answer
+      unfolding normalizeBy
+      normalize-some h g er = cc
+
+-- ---- checked_length
+module _ (v : Vec3) {l : Float} (el : l ≡ lengthOf v) {b : Bool} (eb : b ≡ isFinite l) where
+  pub length-some : b ≡ true → Numbers.Some l ≡ checkedLengthOf v
+  unfolding checkedLengthOf
+  length-some h = cc
+
+  pub length-none : b ≡ false → Numbers.None ≡ checkedLengthOf v
+  unfolding checkedLengthOf
+  length-none h = cc
+
+-- ---- rotate_vector
+module _ (q : Quat) (v : Vec3) {b : Bool} (eb : b ≡ finiteOf v) where
+  pub rotate-wild : not b ≡ true → Vectors.None ≡ rotateVectorOf q v
+  unfolding rotateVectorOf
+  rotate-wild h = cc
+
+  module _ (hb : not b ≡ false) {o : OptionQuat} (eo : o ≡ quatTryNormalizeOf q) where
+    pub rotate-none : o ≡ None → Vectors.None ≡ rotateVectorOf q v
+    unfolding rotateVectorOf
+    rotate-none h = cc
+
+    module _ {u : Quat} (hu : o ≡ Some u) {t : Vec3} (et : t ≡ turnedOf u v) {f : Bool} (ef : f ≡ finiteOf t) where
+      pub rotate-some : f ≡ true → Vectors.Some t ≡ rotateVectorOf q v
+      unfolding rotateVectorOf
+      rotate-some h = cc
+
+      pub rotate-out : f ≡ false → Vectors.None ≡ rotateVectorOf q v
+      unfolding rotateVectorOf
+      rotate-out h = cc
+
+-- ---- to_mat3
+module _ (q : Quat) {o : OptionQuat} (eo : o ≡ quatTryNormalizeOf q) {m : Mat3} where
+  pub mat-none : o ≡ None → m ≡ zeroMat → record { some = false; matrix = m } ≡ toMat3Of q
+  unfolding toMat3Of
+  mat-none h e = cc
+
+  pub mat-some : {u : Quat} → o ≡ Some u → m ≡ columnsOf u → record { some = true; matrix = m } ≡ toMat3Of q
+  unfolding toMat3Of
+  mat-some h e = cc
+
+-- ---- the turn of a rotation vector
+module _ (r : Vec3) {b : Bool} (eb : b ≡ finiteOf r) where
+  pub delta-wild : not b ≡ true → None ≡ deltaOf r
+  unfolding deltaOf
+  delta-wild h = cc
+
+  module _ (hb : not b ≡ false) {a : Float} (ea : a ≡ lengthOf r) {f : Bool} (ef : f ≡ isFinite a) where
+    pub delta-long : not f ≡ true → None ≡ deltaOf r
+    unfolding deltaOf
+    delta-long h = cc
+
+    module _ (hf : not f ≡ false) {k : Float} (ek : k ≡ ratio 1 (10 ^ 8)) where
+      pub delta-small : Ieee.lt a k ≡ true → {t : Quat} → t ≡ smallTurn r a → Some t ≡ deltaOf r
+      unfolding deltaOf
+      delta-small h e = cc
+
+      module _ (hs : Ieee.lt a k ≡ false) {j : Float} (ej : j ≡ ratio 1 2) {o : SinCos} (eo : o ≡ sinCosOf (a ⊗ j)) where
+        pub delta-refused : o ≡ Refused → None ≡ deltaOf r
+        unfolding deltaOf
+        delta-refused h = cc
+
+        pub delta-turn : {t : Turn} {w : Vec3} → o ≡ Value t → w ≡ divOf r a → Some (quat (w .x ⊗ t .s) (w .y ⊗ t .s) (w .z ⊗ t .s) (t .c)) ≡ deltaOf r
+        unfolding deltaOf
+        delta-turn h e = cc
+
+-- ---- integrate_world_angular_velocity
+module _ (q : Quat) (v : Vec3) (dt : Float) {b : Bool} (eb : b ≡ finiteOf v) where
+  pub integrate-wild : not b ≡ true → None ≡ integrateOf q v dt
+  unfolding integrateOf
+  integrate-wild h = cc
+
+  module _ (hb : not b ≡ false) {f : Bool} (ef : f ≡ isFinite dt) where
+    pub integrate-endless : not f ≡ true → None ≡ integrateOf q v dt
+    unfolding integrateOf
+    integrate-endless h = cc
+
+    module _ (hf : not f ≡ false) {s : Vec3} (es : s ≡ scaleOf v dt) {d : OptionQuat} (ed : d ≡ deltaOf s) where
+      pub integrate-far : d ≡ None → None ≡ integrateOf q v dt
+      unfolding integrateOf
+      integrate-far h = cc
+
+      module _ {u : Quat} (hu : d ≡ Some u) {o : OptionQuat} (eo : o ≡ quatTryNormalizeOf q) where
+        pub integrate-none : o ≡ None → None ≡ integrateOf q v dt
+        unfolding integrateOf
+        integrate-none h = cc
+
+        pub integrate-some : {p w : Quat} {r : OptionQuat} → o ≡ Some p → w ≡ productOf u p → r ≡ quatTryNormalizeOf w → r ≡ integrateOf q v dt
+        unfolding integrateOf
+        integrate-some h ew er = cc

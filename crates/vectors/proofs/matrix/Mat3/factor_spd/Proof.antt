@@ -1,0 +1,78 @@
+-- `vectors::matrix::Mat3::factor_spd` meets its contract: one law of `MatrixWays` for each return.
+use lib.Ieee.{ofBits, round}
+use Rattle.vectors.proofs.Ways.{zero-is}
+use Rattle.vectors.proofs.MatrixWays.{factor-wild, factor-zero, factor-uneven, factor-done, factor-not}
+use borrow.Author.Needs.{needs}
+use Rattle.vectors.proofs.matrix.Mat3.factor_spd.Statement.{statement}
+use Rattle.vectors.proofs.matrix.Mat3.factor_spd.Tie as tie
+
+is-finite-requires : tie.Need-is-finite-requires
+is-finite-requires c κs = search needs
+
+unfactored-requires : tie.Need-unfactored-requires
+unfactored-requires c κs = search needs
+
+returns : tie.Need-returns
+returns c = factor-wild _ (c .before .before .is-finite .ensures) (c .before .if1 .taken) (c .unfactored .ensures)
+
+largest-requires : tie.Need-largest-requires
+largest-requires c κs = search needs
+
+unfactored-requires-2 : tie.Need-unfactored-requires-2
+unfactored-requires-2 c κs = search needs
+
+returns-2 : tie.Need-returns-2
+returns-2 c = factor-zero _ (c .before .before .before .before .is-finite .ensures) (c .before .before .before .if1 .left) (c .before .before .largest .ensures) zero-is (c .before .if2 .taken) (c .unfactored2 .ensures)
+
+to-rows-requires : tie.Need-to-rows-requires
+to-rows-requires c κs = search needs
+
+divided-requires : tie.Need-divided-requires
+divided-requires c κs = search needs
+
+symmetric-requires : tie.Need-symmetric-requires
+symmetric-requires c κs = search needs
+
+unfactored-requires-3 : tie.Need-unfactored-requires-3
+unfactored-requires-3 c κs = search needs
+
+returns-3 : tie.Need-returns-3
+returns-3 c = factor-uneven _ (c .before .before .before .before .before .before .before .before .before .is-finite .ensures) (c .before .before .before .before .before .before .before .before .if1 .left) (c .before .before .before .before .before .before .before .largest .ensures) zero-is (c .before .before .before .before .before .before .if2 .left) (c .before .before .before .before .before .to-rows .ensures) (c .before .before .before .before .divided .ensures) (c .before .before .symmetric .ensures) (c .before .if3 .taken) (c .unfactored3 .ensures)
+
+factor-requires : tie.Need-factor-requires
+factor-requires c κs = search needs
+
+from-rows-requires : tie.Need-from-rows-requires
+from-rows-requires c κs = search needs
+
+returns-4 : tie.Need-returns-4
+unfolding ofBits round
+returns-4 c = factor-done _ (c .before .before .before .before .before .before .before .before .before .before .before .before .before .is-finite .ensures) (c .before .before .before .before .before .before .before .before .before .before .before .before .if1 .left) (c .before .before .before .before .before .before .before .before .before .before .before .largest .ensures) zero-is (c .before .before .before .before .before .before .before .before .before .before .if2 .left) (c .before .before .before .before .before .before .before .before .before .to-rows .ensures) (c .before .before .before .before .before .before .before .before .divided .ensures) (c .before .before .before .before .before .before .symmetric .ensures) (c .before .before .before .before .before .if3 .left) (c .before .before .factor .result) _ (c .before .before .factor .ensures) (c .before .if4 .taken) (c .from-rows .ensures)
+
+unfactored-requires-4 : tie.Need-unfactored-requires-4
+unfactored-requires-4 c κs = search needs
+
+returns-5 : tie.Need-returns-5
+unfolding ofBits round
+returns-5 c = factor-not _ (c .before .before .before .before .before .before .before .before .before .before .before .before .before .is-finite .ensures) (c .before .before .before .before .before .before .before .before .before .before .before .before .if1 .left) (c .before .before .before .before .before .before .before .before .before .before .before .largest .ensures) zero-is (c .before .before .before .before .before .before .before .before .before .before .if2 .left) (c .before .before .before .before .before .before .before .before .before .to-rows .ensures) (c .before .before .before .before .before .before .before .before .divided .ensures) (c .before .before .before .before .before .before .symmetric .ensures) (c .before .before .before .before .before .if3 .left) (c .before .before .factor .result) _ (c .before .before .factor .ensures) (c .before .if4 .left) (c .unfactored4 .ensures)
+
+pub factor-spd-spec : {M : Type 1} → statement M
+factor-spd-spec =
+    tie.close
+    (tie.spec
+    is-finite-requires
+    unfactored-requires
+    returns
+    largest-requires
+    unfactored-requires-2
+    returns-2
+    to-rows-requires
+    divided-requires
+    symmetric-requires
+    unfactored-requires-3
+    returns-3
+    factor-requires
+    from-rows-requires
+    returns-4
+    unfactored-requires-4
+    returns-5)

@@ -1,0 +1,47 @@
+-- `vectors::matrix::Mat3::is_finite` meets its contract, by what its callees ensure.
+use mathlib.Core.Path.{sym, ap, _∙_}
+use Rattle.vectors.specs.Vector.{finiteOf}
+use borrow.Author.Needs.{needs}
+use Rattle.vectors.proofs.matrix.Mat3.is_finite.Statement.{statement}
+use Rattle.vectors.proofs.matrix.Mat3.is_finite.Tie as tie
+
+column-requires : tie.Need-column-requires
+column-requires c κs = search needs
+
+is-finite-requires : tie.Need-is-finite-requires
+is-finite-requires c κs = search needs
+
+column-requires-2 : tie.Need-column-requires-2
+column-requires-2 c κs = search needs
+
+is-finite-requires-2 : tie.Need-is-finite-requires-2
+is-finite-requires-2 c κs = search needs
+
+column-requires-3 : tie.Need-column-requires-3
+column-requires-3 c κs = search needs
+
+is-finite-requires-3 : tie.Need-is-finite-requires-3
+is-finite-requires-3 c κs = search needs
+
+returns : tie.Need-returns
+returns c = simp (c .is-finite3 .ensures ∙ ap finiteOf (c .before .column3 .ensures), sym (c .before .before .before .is-finite2 .ensures ∙ ap finiteOf (c .before .before .before .before .column2 .ensures)) ∙ c .before .before .if2 .taken, sym (c .before .before .before .before .before .before .is-finite .ensures ∙ ap finiteOf (c .before .before .before .before .before .before .before .column .ensures)) ∙ c .before .before .before .before .before .if1 .taken)
+
+returns-2 : tie.Need-returns-2
+returns-2 c = simp (sym (c .before .is-finite2 .ensures ∙ ap finiteOf (c .before .before .column2 .ensures)) ∙ c .if2 .left, sym (c .before .before .before .before .is-finite .ensures ∙ ap finiteOf (c .before .before .before .before .before .column .ensures)) ∙ c .before .before .before .if1 .taken)
+
+returns-3 : tie.Need-returns-3
+returns-3 c = simp (sym (c .before .is-finite .ensures ∙ ap finiteOf (c .before .before .column .ensures)) ∙ c .if1 .left)
+
+pub is-finite-spec : {M : Type 1} → statement M
+is-finite-spec =
+    tie.close
+    (tie.spec
+    column-requires
+    is-finite-requires
+    column-requires-2
+    is-finite-requires-2
+    column-requires-3
+    is-finite-requires-3
+    returns
+    returns-2
+    returns-3)

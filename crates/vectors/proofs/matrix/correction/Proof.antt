@@ -1,0 +1,79 @@
+-- `vectors::matrix::correction` meets its contract. The loop's invariant: the sum so far is the definition's after k turns.
+use mathlib.Core.Path.{_≡_}
+use Prim.Native.Nat.{_-_, _≤_}
+use native.Mathlib.Omega.{arith}
+use denote.Ref.{now}
+use lib.Ieee.{ofBits, round}
+use Rattle.arith.specs.Real.{ratio}
+use Rattle.arith.specs.Flow.{turns}
+use Rattle.arith.specs.FlowLaws.{turns-none, turns-more, turns-end}
+use Rattle.vectors.specs.Matrix.{plusProduct, correctionOf}
+use Rattle.vectors.proofs.matrix.correction.Statement.{statement}
+use Rattle.vectors.proofs.matrix.correction.Tie as tie
+
+abbrev Inv-loop : tie.InvT-loop
+Inv-loop lower row column total₀ k₀ total k = (k ≤ column) × (total ≡ turns (plusProduct lower row column) k (ratio 0 1))
+
+abbrev μ-loop : tie.MeasureT-loop
+μ-loop lower row column total₀ k₀ total k = column - k
+
+loop-holds : tie.Need-loop-holds Inv-loop μ-loop
+unfolding ofBits round
+loop-holds c = (omega arith, turns-none _ _)
+
+mul-total : tie.Need-mul-total Inv-loop μ-loop
+mul-total c = omega arith
+
+mul-total-2 : tie.Need-mul-total-2 Inv-loop μ-loop
+mul-total-2 c = omega arith
+
+index-1-total : tie.Need-index-1-total Inv-loop μ-loop
+index-1-total c = omega arith
+
+index-2-total : tie.Need-index-2-total Inv-loop μ-loop
+index-2-total c = omega arith
+
+mul-total-3 : tie.Need-mul-total-3 Inv-loop μ-loop
+mul-total-3 c = omega arith
+
+mul-total-4 : tie.Need-mul-total-4 Inv-loop μ-loop
+mul-total-4 c = omega arith
+
+index-1-total-2 : tie.Need-index-1-total-2 Inv-loop μ-loop
+index-1-total-2 c = omega arith
+
+index-2-total-2 : tie.Need-index-2-total-2 Inv-loop μ-loop
+index-2-total-2 c = omega arith
+
+add-k : tie.Need-add-k Inv-loop μ-loop
+add-k c = omega arith
+
+loop-less : tie.Need-loop-less Inv-loop μ-loop
+loop-less c = omega arith
+
+loop-again : tie.Need-loop-again Inv-loop μ-loop
+loop-again c = (omega arith, turns-more (plusProduct (now (c .before .before .before .before .args .lower)) (c .before .before .before .before .args .row) (c .before .before .before .before .args .column)) (c .before .before .before .loop .k) (ratio 0 1) (c .before .before .before .loop .inv .1))
+
+returns : tie.Need-returns Inv-loop μ-loop
+unfolding correctionOf
+returns c = turns-end _ _ (c .before .loop .inv .0) (c .loop-test .left) (c .before .loop .inv .1)
+
+pub correction-spec : {M : Type 1} → statement M
+correction-spec =
+    tie.close
+    (tie.spec
+    Inv-loop
+    μ-loop
+    loop-holds
+    mul-total
+    mul-total-2
+    index-1-total
+    index-2-total
+    mul-total-3
+    mul-total-4
+    index-1-total-2
+    index-2-total-2
+    add-k
+    loop-less
+    loop-again
+    returns)

@@ -1,0 +1,54 @@
+-- `vectors::matrix::factor` meets its contract. The loop's invariant: the factor so far is the definition's after `row` rows.
+use mathlib.Core.Path.{_≡_}
+use Prim.Native.Nat.{_-_, _≤_}
+use native.Mathlib.Omega.{arith}
+use denote.Ref.{now}
+use Rattle.arith.specs.Flow.{go, loop}
+use Rattle.arith.specs.FlowLaws.{loop-none, loop-more, loop-stop, loop-end}
+use Rattle.vectors.proofs.MatrixWays.{was-yes, was-no}
+use Rattle.vectors.specs.Matrix.{factorRowOf, factorOf}
+use Rattle.vectors.proofs.matrix.factor.Statement.{statement}
+use Rattle.vectors.proofs.matrix.factor.Tie as tie
+
+abbrev Inv-loop : tie.InvT-loop
+Inv-loop n lower₀ row₀ lower row = (row ≤ 3) × (go lower ≡ loop row (factorRowOf n) lower₀)
+
+abbrev μ-loop : tie.MeasureT-loop
+μ-loop n lower₀ row₀ lower row = 3 - row
+
+loop-holds : tie.Need-loop-holds Inv-loop μ-loop
+loop-holds c = (omega arith, loop-none _ _)
+
+factor-row-requires : tie.Need-factor-row-requires Inv-loop μ-loop
+factor-row-requires c κs = omega arith
+
+returns : tie.Need-returns Inv-loop μ-loop
+unfolding factorOf
+returns c = loop-stop (factorRowOf (now (c .before .before .before .before .before .args .n))) (now (c .before .before .before .before .before .args .lower)) _ (c .before .before .before .loop-test .taken) (c .before .before .before .before .loop .inv .1) (was-no (c .before .factor-row .result) (c .before .factor-row .ensures) (c .if1 .taken))
+
+add-row : tie.Need-add-row Inv-loop μ-loop
+add-row c = omega arith
+
+loop-less : tie.Need-loop-less Inv-loop μ-loop
+loop-less c = omega arith
+
+loop-again : tie.Need-loop-again Inv-loop μ-loop
+loop-again c = (omega arith, loop-more (factorRowOf (now (c .before .before .before .before .before .args .n))) (now (c .before .before .before .before .before .args .lower)) (c .before .before .before .before .loop .inv .1) (was-yes (c .before .factor-row .result) (c .before .factor-row .ensures) (c .if1 .left)))
+
+returns-2 : tie.Need-returns-2 Inv-loop μ-loop
+unfolding factorOf
+returns-2 c = loop-end (factorRowOf (now (c .before .before .args .n))) (now (c .before .before .args .lower)) (c .before .loop .inv .0) (c .loop-test .left) (c .before .loop .inv .1)
+
+pub factor-spec : {M : Type 1} → statement M
+factor-spec =
+    tie.close
+    (tie.spec
+    Inv-loop
+    μ-loop
+    loop-holds
+    factor-row-requires
+    returns
+    add-row
+    loop-less
+    loop-again
+    returns-2)

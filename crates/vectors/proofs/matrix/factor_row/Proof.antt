@@ -1,0 +1,58 @@
+-- `vectors::matrix::factor_row` meets its contract. The loop's invariant: the factor so far is the definition's after `column` places.
+use mathlib.Core.Path.{_≡_}
+use Prim.Native.Nat.{_+_, _-_, _≤_}
+use native.Mathlib.Omega.{arith}
+use denote.Ref.{now}
+use Rattle.arith.specs.Flow.{go, loop}
+use Rattle.arith.specs.FlowLaws.{loop-none, loop-more, loop-stop, loop-end}
+use Rattle.vectors.proofs.MatrixWays.{was-yes, was-no}
+use Rattle.vectors.specs.Matrix.{placeOf, factorRowOf}
+use Rattle.vectors.proofs.matrix.factor_row.Statement.{statement}
+use Rattle.vectors.proofs.matrix.factor_row.Tie as tie
+
+abbrev Inv-loop : tie.InvT-loop
+Inv-loop n lower₀ row column₀ column-end lower column = (column ≤ row + 1) × (go lower ≡ loop column (placeOf n row) lower₀)
+
+abbrev μ-loop : tie.MeasureT-loop
+μ-loop n lower₀ row column₀ column-end lower column = row + 1 - column
+
+add-column-end : tie.Need-add-column-end Inv-loop μ-loop
+add-column-end c = omega arith
+
+loop-holds : tie.Need-loop-holds Inv-loop μ-loop
+loop-holds c = (omega arith, loop-none _ _)
+
+place-requires : tie.Need-place-requires Inv-loop μ-loop
+place-requires c κs = omega arith
+
+returns : tie.Need-returns Inv-loop μ-loop
+unfolding factorRowOf
+returns c = loop-stop (placeOf (now (c .before .before .before .before .before .args .n)) (c .before .before .before .before .before .args .row)) (now (c .before .before .before .before .before .args .lower)) _ (c .before .before .before .loop-test .taken) (c .before .before .before .before .loop .inv .1) (was-no (c .before .place .result) (c .before .place .ensures) (c .if1 .taken))
+
+add-column : tie.Need-add-column Inv-loop μ-loop
+add-column c = omega arith
+
+loop-less : tie.Need-loop-less Inv-loop μ-loop
+loop-less c = omega arith
+
+loop-again : tie.Need-loop-again Inv-loop μ-loop
+loop-again c = (omega arith, loop-more (placeOf (now (c .before .before .before .before .before .args .n)) (c .before .before .before .before .before .args .row)) (now (c .before .before .before .before .before .args .lower)) (c .before .before .before .before .loop .inv .1) (was-yes (c .before .place .result) (c .before .place .ensures) (c .if1 .left)))
+
+returns-2 : tie.Need-returns-2 Inv-loop μ-loop
+unfolding factorRowOf
+returns-2 c = loop-end (placeOf (now (c .before .before .args .n)) (c .before .before .args .row)) (now (c .before .before .args .lower)) (c .before .loop .inv .0) (c .loop-test .left) (c .before .loop .inv .1)
+
+pub factor-row-spec : {M : Type 1} → statement M
+factor-row-spec =
+    tie.close
+    (tie.spec
+    Inv-loop
+    μ-loop
+    add-column-end
+    loop-holds
+    place-requires
+    returns
+    add-column
+    loop-less
+    loop-again
+    returns-2)

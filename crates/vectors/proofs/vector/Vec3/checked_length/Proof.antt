@@ -1,0 +1,20 @@
+-- `vectors::vector::Vec3::checked_length` meets its contract: one law of `Ways` for each return.
+use Rattle.vectors.proofs.Ways.{length-some, length-none}
+use borrow.Author.Needs.{needs}
+use Rattle.vectors.proofs.vector.Vec3.checked_length.Statement.{statement}
+use Rattle.vectors.proofs.vector.Vec3.checked_length.Tie as tie
+
+length-requires : tie.Need-length-requires
+length-requires c κs = search needs
+
+is-finite-requires : tie.Need-is-finite-requires
+is-finite-requires c κs = search needs
+
+returns : tie.Need-returns
+returns c = length-some _ (c .before .before .length .ensures) (c .before .is-finite .ensures) (c .if1 .taken)
+
+returns-2 : tie.Need-returns-2
+returns-2 c = length-none _ (c .before .before .length .ensures) (c .before .is-finite .ensures) (c .if1 .left)
+
+pub checked-length-spec : {M : Type 1} → statement M
+checked-length-spec = tie.close (tie.spec length-requires is-finite-requires returns returns-2)

@@ -1,0 +1,80 @@
+// Document 01's worked examples that are not starred: each is stepped, and its report written.
+ghost use Prim.Native.Nat.{_+_, _≤_};
+ghost use lib.ListN.{length};
+use libc::STDOUT_FILENO;
+use rows::geometry::Joint;
+use rows::geometry::JointFrame;
+use rows::geometry::Kind;
+use vectors::quaternion::Quat;
+use vectors::vector::Vec3;
+
+// A body from `at` on: identity rotation and inertia, velocity (speed, 0, 0); all else is 0 already.
+fn place(bodies: &mut [f64], at: usize, mass: f64, speed: f64)
+    requires { ⌜ at + 26 ≤ length (now bodies) ⌝ }
+{
+    bodies[at + 6] = 1.0;
+    bodies[at + 7] = speed;
+    bodies[at + 13] = mass;
+    bodies[at + 17] = 1.0;
+    bodies[at + 21] = 1.0;
+    bodies[at + 25] = 1.0;
+}
+
+// Balls at the origins of bodies 0 and 1.
+fn balls() -> [Joint; 16] {
+    let frame = JointFrame {
+        local_anchor: Vec3 {
+            x: 0.0,
+            y: 0.0,
+            z: 0.0,
+        },
+        local_rotation: Quat {
+            x: 0.0,
+            y: 0.0,
+            z: 0.0,
+            w: 1.0,
+        },
+    };
+    let ball = Joint {
+        body_a: 0,
+        body_b: 1,
+        frame_a: frame,
+        frame_b: frame,
+        kind: Kind::Ball,
+    };
+    [ball; 16]
+}
+
+fn show(bodies: &mut [f64], joints: usize, dt: f64) {
+    let mut scratch = [0.0; 6144];
+    let mut out = [0u8; 4096];
+    let answer = step::solve(bodies, balls(), joints, dt, &mut scratch);
+    let outcome = answer.outcome;
+    let number = step::number(outcome);
+    let n = plan::report::report(number, answer.nonlinear, answer.linear, bodies, &mut out);
+    io::write_all(STDOUT_FILENO, &out[..n]);
+}
+
+// A body of this mass moves one metre in a step of one second.
+fn show_one(mass: f64) {
+    let mut one = [0.0; 26];
+    place(&mut one, 0, mass, 1.0);
+    show(&mut one, 0, 1.0);
+}
+
+// Two bodies at rest with so many joints that hold.
+fn show_two(joints: usize) {
+    let mut two = [0.0; 52];
+    place(&mut two, 0, 2.0, 0.0);
+    place(&mut two, 26, 2.0, 0.0);
+    show(&mut two, joints, 1.0);
+}
+
+fn main() {
+    let mut none = [0.0; 0];
+    show_one(2.0);
+    show(&mut none, 0, 1.0);
+    show_two(16);
+    show_two(17);
+    show_one(0.0009765625);
+}
