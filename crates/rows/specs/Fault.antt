@@ -51,3 +51,8 @@ tryLength value = numberOr arithmeticOverflow (checkedLengthOf value)
 -- fn rotate
 abbrev pub tryRotate : Quat → Vec3 → Result Vec3
 tryRotate rotation value = vectorOr arithmeticOverflow (rotateVectorOf rotation value)
+
+-- e? in a function whose loop a Result leaves
+abbrev pub try : {A B : Type 0} → Result A → Turn A (Result B)
+try (go a) = go a
+try (stop fault) = stop (stop fault)
