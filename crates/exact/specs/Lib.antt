@@ -15,5 +15,3 @@ pub mod Sign
 pub mod Relative
 pub mod Given
 pub mod Hypot
-pub mod Rotate
-pub mod Rotated

@@ -26,8 +26,8 @@ use Rattle.rows.specs.declared.body.MomentumBody.{MomentumBody}
 use Rattle.rows.specs.declared.body.BodyAnswer.{BodyAnswer}
 use Rattle.rows.specs.declared.body.Pass.{Pass}
 use Rattle.rows.specs.declared.body.Pass.the-variants as Passes
-use Rattle.rows.specs.Fault.{Fault, nonConvergent, arithmeticOverflow, Result, vectorOr, numberOr, quatOr, tryFinite, tryLength, tryRotate}
-use Rattle.rows.specs.Body.{worldCenterOfMassOf, newOf, standing, inverseAngularMassOf, omegaOf, withMomenta, placedAt, kickOf, anchorOf, try, integrate, passAfter, passOf, settled, driftOf, originOf, stateOf, sameVec3, sameQuat, stateWith}
+use Rattle.rows.specs.Fault.{Fault, nonConvergent, arithmeticOverflow, Result, vectorOr, numberOr, quatOr, tryFinite, tryLength, tryRotate, try}
+use Rattle.rows.specs.Body.{worldCenterOfMassOf, newOf, standing, inverseAngularMassOf, omegaOf, withMomenta, placedAt, kickOf, anchorOf, integrate, passOf, settled, driftOf, originOf, stateOf, sameVec3, sameQuat, stateWith}
 use Rattle.rows.specs.Answer.{answerOf, passAs, stateAs}
 
 pub pass-as : {r x : Pass} {d : Turn Vec3 (Result Quat)} → passAs r ≡ d → r ≡ x → passAs x ≡ d
@@ -125,6 +125,14 @@ pub half-turn : {o : OptionQuat} (rotation : Quat) (omega : Vec3) (dt : Float) �
 half-turn rotation omega dt e = e ∙ ap (λ (k : Float). integrateOf rotation omega (dt ⊗ k)) half-is
 
 module _ (self : MomentumBody) (dt : Float) (omega : Vec3) where
+  -- what `passOf` does with the next omega
+  abbrev ending : Vec3 → Turn Vec3 (Result Quat)
+  ending next = do
+    residual ← try (tryLength (subOf next omega))
+    size ← try (tryLength next)
+    _ ← returnIf (Ieee.le residual (ratio 1 (10 ^ 14) ⊗ (ratio 1 1 ⊕ size))) (integrate (self .rotation) next dt)
+    go next
+
   pub pass-1 : over ≡ integrate (self .rotation) omega (dt ⊗ ratio 1 2) → stop over ≡ passOf self dt omega
   unfolding passOf
   pass-1 h = then-stop _ (ap try h)
@@ -135,7 +143,7 @@ module _ (self : MomentumBody) (dt : Float) (omega : Vec3) where
     pass-2 h = then-stop _ (ap try (h ∙ ap omegaOf eb)) ∙ then-go _ (ap try hh)
 
     module _ {next d : Vec3} (hn : go next ≡ omegaOf b) (ed : d ≡ subOf next omega) where
-      after : {r : Turn Vec3 (Result Quat)} → r ≡ passAfter self dt omega next → r ≡ passOf self dt omega
+      after : {r : Turn Vec3 (Result Quat)} → r ≡ ending next → r ≡ passOf self dt omega
       unfolding passOf
       after e = e ∙ then-go _ (ap try (hn ∙ ap omegaOf eb)) ∙ then-go _ (ap try hh)
 

@@ -4,3 +4,4 @@ pub mod AppendLaws
 pub mod BodyLaws
 pub mod RowLaws
 pub mod WriteLaws
+pub mod Starred

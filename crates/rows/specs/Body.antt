@@ -14,7 +14,7 @@ use Rattle.vectors.specs.Quaternion.{conjugateOf, isNormalizedOf, integrateOf}
 use Rattle.rows.specs.declared.body.RigidBody.{RigidBody}
 use Rattle.rows.specs.declared.body.BodyState.{BodyState}
 use Rattle.rows.specs.declared.body.MomentumBody.{MomentumBody}
-use Rattle.rows.specs.Fault.{Fault, nonConvergent, arithmeticOverflow, Result, quatOr, tryFinite, tryLength, tryRotate}
+use Rattle.rows.specs.Fault.{nonConvergent, arithmeticOverflow, Result, quatOr, tryFinite, tryLength, tryRotate, try}
 
 -- rigid_body.rs, fn world_center_of_mass_for
 unfoldable pub worldCenterOfMassOf : Vec3 → Quat → Vec3 → Result Vec3
@@ -29,11 +29,27 @@ newOf body inverse = do
   spin ← tryRotate (body .rotation) (applyOf (body .inertia) localOmega)
   momentum ← tryFinite (scaleOf (body .«linear_velocity») (body .mass))
   center ← worldCenterOfMassOf (body .origin) (body .rotation) (body .«center_of_mass»)
-  go (record { center = center; rotation = body .rotation; momentum = momentum; spin = spin; mass = body .mass; «center_of_mass» = body .«center_of_mass»; «inverse_inertia» = inverse })
+  go (record {
+    center = center;
+    rotation = body .rotation;
+    momentum = momentum;
+    spin = spin;
+    mass = body .mass;
+    «center_of_mass» = body .«center_of_mass»;
+    «inverse_inertia» = inverse;
+  })
 
 -- the record's own numbers, which stand beside a failure
 abbrev pub standing : RigidBody → Mat3 → MomentumBody
-standing body inverse = record { center = body .origin; rotation = body .rotation; momentum = body .«linear_velocity»; spin = body .«angular_velocity»; mass = body .mass; «center_of_mass» = body .«center_of_mass»; «inverse_inertia» = inverse }
+standing body inverse = record {
+  center = body .origin;
+  rotation = body .rotation;
+  momentum = body .«linear_velocity»;
+  spin = body .«angular_velocity»;
+  mass = body .mass;
+  «center_of_mass» = body .«center_of_mass»;
+  «inverse_inertia» = inverse;
+}
 
 -- fn inverse_angular_mass
 unfoldable pub inverseAngularMassOf : MomentumBody → Vec3 → Result Vec3
@@ -47,10 +63,26 @@ omegaOf self = inverseAngularMassOf self (self .spin)
 
 -- the body with other momenta, and at another place
 abbrev pub withMomenta : MomentumBody → Vec3 → Vec3 → MomentumBody
-withMomenta self momentum spin = record { center = self .center; rotation = self .rotation; momentum = momentum; spin = spin; mass = self .mass; «center_of_mass» = self .«center_of_mass»; «inverse_inertia» = self .«inverse_inertia» }
+withMomenta self momentum spin = record {
+  center = self .center;
+  rotation = self .rotation;
+  momentum = momentum;
+  spin = spin;
+  mass = self .mass;
+  «center_of_mass» = self .«center_of_mass»;
+  «inverse_inertia» = self .«inverse_inertia»;
+}
 
 abbrev pub placedAt : MomentumBody → Vec3 → Quat → MomentumBody
-placedAt self center rotation = record { center = center; rotation = rotation; momentum = self .momentum; spin = self .spin; mass = self .mass; «center_of_mass» = self .«center_of_mass»; «inverse_inertia» = self .«inverse_inertia» }
+placedAt self center rotation = record {
+  center = center;
+  rotation = rotation;
+  momentum = self .momentum;
+  spin = self .spin;
+  mass = self .mass;
+  «center_of_mass» = self .«center_of_mass»;
+  «inverse_inertia» = self .«inverse_inertia»;
+}
 
 -- fn kick
 unfoldable pub kickOf : MomentumBody → Vec3 → Vec3 → Result MomentumBody
@@ -65,28 +97,19 @@ anchorOf self local = do
   arm ← tryRotate (self .rotation) (subOf local (self .«center_of_mass»))
   tryFinite (addOf (self .center) arm)
 
--- e? in the loop of drift, which a Result leaves
-abbrev pub try : {A B : Type 0} → Result A → Turn A (Result B)
-try (go a) = go a
-try (stop fault) = stop (stop fault)
-
 -- rotation.integrate_world_angular_velocity(omega, dt)?
 abbrev pub integrate : Quat → Vec3 → Float → Result Quat
 integrate rotation omega dt = quatOr arithmeticOverflow (integrateOf rotation omega dt)
 
 -- one pass of the loop, from the rotation at entry: the next omega, or the loop is left with the rotation at the end of the step
-abbrev pub passAfter : MomentumBody → Float → Vec3 → Vec3 → Turn Vec3 (Result Quat)
-passAfter self dt omega next = do
-  residual ← try (tryLength (subOf next omega))
-  size ← try (tryLength next)
-  _ ← returnIf (Ieee.le residual (ratio 1 (10 ^ 14) ⊗ (ratio 1 1 ⊕ size))) (integrate (self .rotation) next dt)
-  go next
-
 unfoldable pub passOf : MomentumBody → Float → Vec3 → Turn Vec3 (Result Quat)
 passOf self dt omega = do
   half ← try (integrate (self .rotation) omega (dt ⊗ ratio 1 2))
   next ← try (omegaOf (placedAt self (self .center) half))
-  passAfter self dt omega next
+  residual ← try (tryLength (subOf next omega))
+  size ← try (tryLength next)
+  _ ← returnIf (Ieee.le residual (ratio 1 (10 ^ 14) ⊗ (ratio 1 1 ⊕ size))) (integrate (self .rotation) next dt)
+  go next
 
 -- after MAX_ITERATIONS passes: Err(NonConvergent)
 abbrev pub settled : Turn Vec3 (Result Quat) → Result Quat

@@ -7,3 +7,5 @@ pub mod Answer
 pub mod AnswerLaws
 pub mod Append
 pub mod Region
+pub mod ExactGeometry
+pub mod Laws

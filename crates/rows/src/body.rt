@@ -216,7 +216,8 @@ impl MomentumBody {
         else {
             return Pass::ArithmeticOverflow;
         };
-        let OptionVec3::Some(next) = self.turned(half).omega() else {
+        let midway = self.turned(half);
+        let OptionVec3::Some(next) = midway.omega() else {
             return Pass::ArithmeticOverflow;
         };
         let OptionF64::Some(residual) = next.sub(omega).checked_length() else {

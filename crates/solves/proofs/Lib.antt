@@ -5,4 +5,6 @@ pub mod OperatorLaws
 pub mod SearchLaws
 pub mod LeastLaws
 pub mod GradientLaws
-pub mod RowLaws
+pub mod BlockLaws
+pub mod FactorLaws
+pub mod RefineLaws

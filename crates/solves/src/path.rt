@@ -24,9 +24,17 @@ use crate::values::difference;
 use arith::number::is_finite;
 use arith::root::sqrt;
 ghost use mathlib.Core.Path.{_≡_};
-ghost use Prim.Native.Nat.{ℕ, _+_, _*_, _-_, _≤_, _<_, min};
-ghost use lib.ListN.{length};
-ghost use Rattle.solves.specs.View.{Rows, END};
+ghost use mathlib.Core.Bool.{true, cond};
+ghost use mathlib.Core.List.{_++_};
+ghost use Prim.Native.Nat.{ℕ, _+_, _-_, _≤_, _<_, min};
+ghost use lib.ListN.{length, getD, set};
+ghost use Rattle.arith.specs.Flow.{loop};
+ghost use Rattle.rows.specs.View.{Out};
+ghost use Rattle.solves.specs.Solver.{spent};
+ghost use Rattle.solves.specs.Path.{begins as beginsOf, pathStarts, addEdge, blockEdges, neighbor as neighborOf, follows as followsOf, nextBlock, run, walk as walkOf, walkFrom, isEnd, pathWalks, pathOrder, pathScale, reduced as reducedOf, pathEntry, pathRow, pathFactor, pathFactored, forwardSum, forward as forwardOf, backwardSum, backward as backwardOf, refine as refineOf, refinement, ended, pathSolve};
+ghost use Rattle.solves.specs.Answer.{ranAs, partAs, edgesAs, seenAs, orderAs, orderIn, solveAs};
+ghost use Rattle.solves.specs.Region.{vecAt, Does};
+ghost use Rattle.solves.specs.View.{rowsOn, massesAt, listAt, startsOf, rowsOf, Blocked, Linking, Free, orderOf, seenOf, Listed, Along, bandAt, factorAt, refinedAt, Refining, Factoring, Rows, Work, MASSES, RHS, SOLUTION, RESIDUAL, PATH-BAND, PATH-SCALE, PATH-RHS, END};
 
 const BAND_WIDTH: usize = 12; // At most two adjacent six-row joints on a path.
 // No block: the Rust's `usize::MAX`. There are at most 96 blocks.
@@ -50,16 +58,13 @@ pub struct PathOrder {
 }
 
 fn path_blocks(ia: &[usize; 96], ib: &[usize; 96], n: usize) -> Blocks
-    requires { ⌜ n ≤ 96 ⌝ }
-    ensures { λ r. ⌜ r .count ≤ 96 ⌝ }
+    requires { ⌜ (n ≤ 96) × ((k : ℕ) → k < n → getD (now ia) k 0 < 16) × ((k : ℕ) → k < n → getD (now ib) k 0 < 16) ⌝ }
+    ensures { λ r. ⌜ (Blocked (now (ia .entry)) (now (ib .entry)) r) × (rowsOf r ≡ n) × (startsOf r ≡ pathStarts (listAt (now (ia .entry)) n) (listAt (now (ib .entry)) n) n) ⌝ }
 {
     let mut starts = [0usize; 97];
     let mut count = 0;
     for i in 0..n {
-        if begins(ia, ib, i) {
-            starts[count] = i;
-            count += 1;
-        }
+        count = note_start(ia, ib, &mut starts, count, i);
     }
     starts[count] = n;
     Blocks { starts, count }
@@ -68,6 +73,7 @@ fn path_blocks(ia: &[usize; 96], ib: &[usize; 96], n: usize) -> Blocks
 // Whether row i joins another pair than the row before it.
 fn begins(ia: &[usize; 96], ib: &[usize; 96], i: usize) -> bool
     requires { ⌜ i < 96 ⌝ }
+    ensures { λ r. ⌜ r ≡ beginsOf (now (ia .entry)) (now (ib .entry)) i ⌝ }
 {
     if i == 0 {
         return true;
@@ -80,17 +86,28 @@ fn begins(ia: &[usize; 96], ib: &[usize; 96], i: usize) -> bool
     true
 }
 
-// A number of a table that is below the bound.
-fn below(x: usize, bound: usize) -> usize
-    requires { ⌜ 0 < bound ⌝ }
-    ensures { λ r. ⌜ r < bound ⌝ }
+// Notes row i where a block begins with it, and how many blocks there are then.
+fn note_start(
+    ia: &[usize; 96],
+    ib: &[usize; 96],
+    starts: &mut [usize; 97],
+    count: usize,
+    i: usize,
+) -> usize
+    requires { ⌜ (i < 96) × (count < 97) ⌝ }
+    ensures { λ r. ⌜ (r ≡ cond (beginsOf (now (ia .entry)) (now (ib .entry)) i) (count + 1) count) × (now (starts .exit) ≡ cond (beginsOf (now (ia .entry)) (now (ib .entry)) i) (set (now (starts .entry)) count i) (now (starts .entry))) ⌝ }
 {
-    if x < bound { x } else { 0 }
+    if begins(ia, ib, i) {
+        starts[count] = i;
+        return count + 1;
+    }
+    count
 }
 
 // Notes a block on a body, which has room for two.
 fn add_edge(edges: &mut [usize; 32], body: usize, block: usize) -> bool
     requires { ⌜ body < 16 ⌝ }
+    ensures { λ r. ⌜ edgesAs r (now (edges .exit)) ≡ addEdge body block (now (edges .entry)) ⌝ }
 {
     if edges[2 * body] == NONE {
         edges[2 * body] = block;
@@ -104,15 +121,16 @@ fn add_edge(edges: &mut [usize; 32], body: usize, block: usize) -> bool
 }
 
 fn path_edges(ia: &[usize; 96], ib: &[usize; 96], blocks: Blocks, edges: &mut [usize; 32]) -> bool
-    requires { ⌜ blocks .count ≤ 96 ⌝ }
+    requires { ⌜ (Blocked (now ia) (now ib) blocks) × (Linking (blocks .count) (now edges)) ⌝ }
+    ensures { λ r. ⌜ (edgesAs r (now (edges .exit)) ≡ loop (blocks .count) (blockEdges (listAt (now (ia .entry)) (rowsOf blocks)) (listAt (now (ib .entry)) (rowsOf blocks)) (startsOf blocks)) (now (edges .entry))) × (r ≡ true → Linking (blocks .count) (now (edges .exit))) ⌝ }
 {
     let count = blocks.count;
     for k in 0..count {
-        let row = below(blocks.starts[k], 96);
-        if !add_edge(edges, below(ia[row], 16), k) {
+        let row = blocks.starts[k];
+        if !add_edge(edges, ia[row], k) {
             return false;
         }
-        if !add_edge(edges, below(ib[row], 16), k) {
+        if !add_edge(edges, ib[row], k) {
             return false;
         }
     }
@@ -122,6 +140,7 @@ fn path_edges(ia: &[usize; 96], ib: &[usize; 96], blocks: Blocks, edges: &mut [u
 // The other block of a body.
 fn neighbor(edges: &[usize; 32], body: usize, block: usize) -> usize
     requires { ⌜ body < 16 ⌝ }
+    ensures { λ r. ⌜ r ≡ neighborOf (now (edges .entry)) body block ⌝ }
 {
     if edges[2 * body] == block {
         return edges[2 * body + 1];
@@ -129,50 +148,41 @@ fn neighbor(edges: &[usize; 32], body: usize, block: usize) -> usize
     edges[2 * body]
 }
 
-// The block that follows `current` when one comes from `previous`.
-fn next_block(a: usize, b: usize, previous: usize) -> usize {
-    if a != NONE {
-        if a != previous {
-            return a;
-        }
+// Whether `block` is one, and another than the one before.
+fn follows(block: usize, previous: usize) -> bool
+    ensures { λ r. ⌜ r ≡ followsOf block previous ⌝ }
+{
+    if block == NONE {
+        return false;
     }
-    if b != NONE {
-        if b != previous {
-            return b;
-        }
+    block != previous
+}
+
+// The block that follows when one comes from `previous`.
+fn next_block(a: usize, b: usize, previous: usize) -> usize
+    ensures { λ r. ⌜ r ≡ nextBlock a b previous ⌝ }
+{
+    if follows(a, previous) {
+        return a;
+    }
+    if follows(b, previous) {
+        return b;
     }
     NONE
 }
 
 // The rows of a block at the end of the order.
-fn append(order: Order, from: usize, to: usize) -> Order {
+fn append(order: Order, from: usize, to: usize) -> Order
+    requires { ⌜ (from ≤ to) × (to ≤ 96) × (order .count + (to - from) ≤ 96) × (length (order .rows) ≡ 96) ⌝ }
+    ensures { λ r. ⌜ (r .count ≡ order .count + (to - from)) × (orderOf r ≡ orderOf order ++ run from to) × ((n : ℕ) → to ≤ n → Listed order n → Listed r n) ⌝ }
+{
     let mut out = order;
     for i in from..to {
         let at = out.count;
-        if at < 96 {
-            out.rows[at] = i;
-            out.count = at + 1;
-        }
+        out.rows[at] = i;
+        out.count = at + 1;
     }
     out
-}
-
-// The block after `current` on the path.
-fn after(
-    ia: &[usize; 96],
-    ib: &[usize; 96],
-    edges: &[usize; 32],
-    row: usize,
-    current: usize,
-    previous: usize,
-) -> usize
-    requires { ⌜ row < 96 ⌝ }
-{
-    next_block(
-        neighbor(edges, below(ia[row], 16), current),
-        neighbor(edges, below(ib[row], 16), current),
-        previous,
-    )
 }
 
 // Follows the blocks from `first` to the other end.
@@ -185,13 +195,14 @@ fn walk(
     first: usize,
     start: Order,
 ) -> PathOrder
-    requires { ⌜ first < 96 ⌝ }
+    requires { ⌜ (Blocked (now ia) (now ib) blocks) × (Linking (blocks .count) (now edges)) × (first < blocks .count) × (Free blocks start (now visited)) ⌝ }
+    ensures { λ r. ⌜ (seenAs r (now (visited .exit)) ≡ walkOf (listAt (now (ia .entry)) (rowsOf blocks)) (listAt (now (ib .entry)) (rowsOf blocks)) (rowsOf blocks) (startsOf blocks) (now (edges .entry)) first (seenOf start (now (visited .entry)))) × (r .found ≡ true → Free blocks (r .order) (now (visited .exit))) ⌝ }
 {
     let mut order = start;
     let mut current = first;
     let mut previous = NONE;
     let most = blocks.count;
-    for _k in 0..most {
+    for k in 0..most {
         if visited[current] {
             return PathOrder {
                 found: false,
@@ -199,14 +210,18 @@ fn walk(
             };
         }
         visited[current] = true;
-        let row = below(blocks.starts[current], 96);
+        let row = blocks.starts[current];
         order = append(order, row, blocks.starts[current + 1]);
-        let next = after(ia, ib, edges, row, current, previous);
+        let next = next_block(
+            neighbor(edges, ia[row], current),
+            neighbor(edges, ib[row], current),
+            previous,
+        );
         if next == NONE {
             return PathOrder { found: true, order };
         }
         previous = current;
-        current = below(next, 96);
+        current = next;
     }
     PathOrder {
         found: false,
@@ -223,20 +238,41 @@ fn is_end(
     visited: &[bool; 96],
     block: usize,
 ) -> bool
-    requires { ⌜ block < 96 ⌝ }
+    requires { ⌜ (Blocked (now ia) (now ib) blocks) × (Linking (blocks .count) (now edges)) × (block < blocks .count) ⌝ }
+    ensures { λ r. ⌜ r ≡ isEnd (listAt (now (ia .entry)) (rowsOf blocks)) (listAt (now (ib .entry)) (rowsOf blocks)) (rowsOf blocks) (startsOf blocks) (now (edges .entry)) (now (visited .entry)) block ⌝ }
 {
     if visited[block] {
         return false;
     }
-    let row = below(blocks.starts[block], 96);
-    if neighbor(edges, below(ia[row], 16), block) == NONE {
+    let row = blocks.starts[block];
+    if neighbor(edges, ia[row], block) == NONE {
         return true;
     }
-    neighbor(edges, below(ib[row], 16), block) == NONE
+    neighbor(edges, ib[row], block) == NONE
+}
+
+// Follows the blocks from `first` if a path ends there.
+fn walk_from(
+    ia: &[usize; 96],
+    ib: &[usize; 96],
+    blocks: Blocks,
+    edges: &[usize; 32],
+    visited: &mut [bool; 96],
+    first: usize,
+    order: Order,
+) -> PathOrder
+    requires { ⌜ (Blocked (now ia) (now ib) blocks) × (Linking (blocks .count) (now edges)) × (first < blocks .count) × (Free blocks order (now visited)) ⌝ }
+    ensures { λ r. ⌜ (seenAs r (now (visited .exit)) ≡ walkFrom (listAt (now (ia .entry)) (rowsOf blocks)) (listAt (now (ib .entry)) (rowsOf blocks)) (rowsOf blocks) (startsOf blocks) (now (edges .entry)) first (seenOf order (now (visited .entry)))) × (r .found ≡ true → Free blocks (r .order) (now (visited .exit))) ⌝ }
+{
+    if is_end(ia, ib, blocks, edges, visited, first) {
+        return walk(ia, ib, blocks, edges, visited, first, order);
+    }
+    PathOrder { found: true, order }
 }
 
 fn path_walks(ia: &[usize; 96], ib: &[usize; 96], blocks: Blocks, edges: &[usize; 32]) -> PathOrder
-    requires { ⌜ blocks .count ≤ 96 ⌝ }
+    requires { ⌜ (Blocked (now ia) (now ib) blocks) × (Linking (blocks .count) (now edges)) ⌝ }
+    ensures { λ r. ⌜ (orderAs r ≡ orderIn (pathWalks (listAt (now (ia .entry)) (rowsOf blocks)) (listAt (now (ib .entry)) (rowsOf blocks)) (rowsOf blocks) (startsOf blocks) (now (edges .entry)))) × (r .found ≡ true → Listed (r .order) (rowsOf blocks)) ⌝ }
 {
     let mut visited = [false; 96];
     let mut order = Order {
@@ -245,15 +281,13 @@ fn path_walks(ia: &[usize; 96], ib: &[usize; 96], blocks: Blocks, edges: &[usize
     };
     let count = blocks.count;
     for first in 0..count {
-        if is_end(ia, ib, blocks, edges, &visited, first) {
-            let walked = walk(ia, ib, blocks, edges, &mut visited, first, order);
-            order = walked.order;
-            if !walked.found {
-                return PathOrder {
-                    found: false,
-                    order,
-                };
-            }
+        let walked = walk_from(ia, ib, blocks, edges, &mut visited, first, order);
+        order = walked.order;
+        if !walked.found {
+            return PathOrder {
+                found: false,
+                order,
+            };
         }
     }
     PathOrder { found: true, order }
@@ -261,7 +295,8 @@ fn path_walks(ia: &[usize; 96], ib: &[usize; 96], blocks: Blocks, edges: &[usize
 
 // The rows along the path, if the graph is one.
 pub fn path_order(ia: &[usize; 96], ib: &[usize; 96], n: usize) -> PathOrder
-    requires { ⌜ n ≤ 96 ⌝ }
+    requires { ⌜ (n ≤ 96) × ((k : ℕ) → k < n → getD (now ia) k 0 < 16) × ((k : ℕ) → k < n → getD (now ib) k 0 < 16) ⌝ }
+    ensures { λ r. ⌜ (orderAs r ≡ pathOrder (listAt (now (ia .entry)) n) (listAt (now (ib .entry)) n) n) × (r .found ≡ true → (r .order .count ≡ n) × (Along (r .order .rows) n)) ⌝ }
 {
     let blocks = path_blocks(ia, ib, n);
     let mut edges = [NONE; 32];
@@ -304,10 +339,11 @@ fn path_scale(
     n: usize,
     count: usize,
 ) -> Part
-    requires { ⌜ (Rows (now s) (now ia) (now ib) rows n count) ⌝ }
+    requires { ⌜ (Rows (now s) (now ia) (now ib) rows n count) × (Along (now order) n) ⌝ }
+    ensures { λ r. ⌜ Does (Out PATH-SCALE 96) (now (s .entry)) (now (s .exit)) (partAs r (vecAt (now (s .exit)) PATH-SCALE n)) (pathScale (rowsOn (now (ia .entry)) (now (ib .entry)) (now (s .entry)) rows n) (massesAt (now (s .entry)) MASSES count) (listAt (now (order .entry)) n) n) ⌝ }
 {
     for i in 0..n {
-        let row = load_row(s, ia, ib, rows, below(order[i], n));
+        let row = load_row(s, ia, ib, rows, order[i]);
         let Sum::Value(value) = cross_mass(s, row, row, count) else {
             return Part::ArithmeticOverflow;
         };
@@ -321,7 +357,8 @@ fn path_scale(
 
 // The entry less the products of the columns before it.
 fn reduced(s: &[f64], entry: f64, i: usize, j: usize, n: usize) -> f64
-    requires { ⌜ (END ≤ length (now s)) × (n ≤ 96) × (i < n) × (j ≤ i) ⌝ }
+    requires { ⌜ (END ≤ length (now s)) × (n ≤ 96) × (i < n) × (j ≤ i) × (i ≤ j + 11) ⌝ }
+    ensures { λ r. ⌜ r ≡ reducedOf (bandAt (now (s .entry)) n) i j entry ⌝ }
 {
     let mut value = entry;
     for k in band_start(i)..j {
@@ -342,10 +379,11 @@ fn path_entry(
     i: usize,
     j: usize,
 ) -> Part
-    requires { ⌜ (Rows (now s) (now ia) (now ib) rows n count) × (i < n) × (j ≤ i) × (i ≤ j + 11) ⌝ }
+    requires { ⌜ (Rows (now s) (now ia) (now ib) rows n count) × (Along (now order) n) × (i < n) × (j ≤ i) × (i ≤ j + 11) ⌝ }
+    ensures { λ r. ⌜ Does (Out PATH-BAND 1152) (now (s .entry)) (now (s .exit)) (partAs r (bandAt (now (s .exit)) n)) (pathEntry (rowsOn (now (ia .entry)) (now (ib .entry)) (now (s .entry)) rows n) (massesAt (now (s .entry)) MASSES count) (listAt (now (order .entry)) n) (vecAt (now (s .entry)) PATH-SCALE n) i j (bandAt (now (s .entry)) n)) ⌝ }
 {
-    let a = load_row(s, ia, ib, rows, below(order[i], n));
-    let b = load_row(s, ia, ib, rows, below(order[j], n));
+    let a = load_row(s, ia, ib, rows, order[i]);
+    let b = load_row(s, ia, ib, rows, order[j]);
     let Sum::Value(entry) = cross_mass(s, a, b, count) else {
         return Part::ArithmeticOverflow;
     };
@@ -374,7 +412,8 @@ fn path_row(
     count: usize,
     i: usize,
 ) -> Part
-    requires { ⌜ (Rows (now s) (now ia) (now ib) rows n count) × (i < n) ⌝ }
+    requires { ⌜ (Rows (now s) (now ia) (now ib) rows n count) × (Along (now order) n) × (i < n) ⌝ }
+    ensures { λ r. ⌜ Does (Out PATH-BAND 1152) (now (s .entry)) (now (s .exit)) (partAs r (bandAt (now (s .exit)) n)) (pathRow (rowsOn (now (ia .entry)) (now (ib .entry)) (now (s .entry)) rows n) (massesAt (now (s .entry)) MASSES count) (listAt (now (order .entry)) n) (vecAt (now (s .entry)) PATH-SCALE n) i (bandAt (now (s .entry)) n)) ⌝ }
 {
     for j in band_start(i)..i + 1 {
         match path_entry(s, ia, ib, rows, order, n, count, i, j) {
@@ -399,7 +438,8 @@ fn path_factor(
     n: usize,
     count: usize,
 ) -> Part
-    requires { ⌜ (Rows (now s) (now ia) (now ib) rows n count) ⌝ }
+    requires { ⌜ (Rows (now s) (now ia) (now ib) rows n count) × (Along (now order) n) ⌝ }
+    ensures { λ r. ⌜ Does (Out PATH-BAND 1152) (now (s .entry)) (now (s .exit)) (partAs r (bandAt (now (s .exit)) n)) (pathFactor (rowsOn (now (ia .entry)) (now (ib .entry)) (now (s .entry)) rows n) (massesAt (now (s .entry)) MASSES count) (listAt (now (order .entry)) n) (vecAt (now (s .entry)) PATH-SCALE n) n) ⌝ }
 {
     clear(s, PATH_BAND, BAND_WIDTH * n);
     for i in 0..n {
@@ -418,6 +458,7 @@ fn path_factor(
 
 fn forward_sum(s: &[f64], start: f64, i: usize, n: usize) -> f64
     requires { ⌜ (END ≤ length (now s)) × (n ≤ 96) × (i < n) ⌝ }
+    ensures { λ r. ⌜ r ≡ forwardSum (bandAt (now (s .entry)) n) (vecAt (now (s .entry)) PATH-RHS i) i start ⌝ }
 {
     let mut value = start;
     for j in band_start(i)..i {
@@ -427,10 +468,11 @@ fn forward_sum(s: &[f64], start: f64, i: usize, n: usize) -> f64
 }
 
 fn forward(s: &mut [f64], order: &[usize; 96], n: usize)
-    requires { ⌜ (END ≤ length (now s)) × (n ≤ 96) ⌝ }
+    requires { ⌜ (END ≤ length (now s)) × (n ≤ 96) × (Along (now order) n) ⌝ }
+    ensures { λ _. ⌜ Does (Out PATH-RHS 96) (now (s .entry)) (now (s .exit)) (vecAt (now (s .exit)) PATH-RHS n) (forwardOf n (listAt (now (order .entry)) n) (vecAt (now (s .entry)) PATH-SCALE n) (bandAt (now (s .entry)) n) (vecAt (now (s .entry)) RESIDUAL n)) ⌝ }
 {
     for i in 0..n {
-        let start = s[RESIDUAL + below(order[i], n)] / s[PATH_SCALE + i];
+        let start = s[RESIDUAL + order[i]] / s[PATH_SCALE + i];
         let value = forward_sum(s, start, i, n);
         s[PATH_RHS + i] = value / s[PATH_BAND + BAND_WIDTH * i];
     }
@@ -448,6 +490,7 @@ fn band_end(i: usize, n: usize) -> usize
 
 fn backward_sum(s: &[f64], start: f64, i: usize, n: usize) -> f64
     requires { ⌜ (END ≤ length (now s)) × (n ≤ 96) × (i < n) ⌝ }
+    ensures { λ r. ⌜ r ≡ backwardSum n (bandAt (now (s .entry)) n) (vecAt (now (s .entry)) PATH-RHS n) i start ⌝ }
 {
     let mut value = start;
     for j in i + 1..band_end(i, n) {
@@ -458,13 +501,14 @@ fn backward_sum(s: &[f64], start: f64, i: usize, n: usize) -> f64
 
 // From the last row to the first, with the correction added to the solution.
 fn backward(s: &mut [f64], order: &[usize; 96], n: usize)
-    requires { ⌜ (END ≤ length (now s)) × (n ≤ 96) ⌝ }
+    requires { ⌜ (END ≤ length (now s)) × (n ≤ 96) × (Along (now order) n) ⌝ }
+    ensures { λ _. ⌜ Does (λ i. (Out PATH-RHS 96 i) × (Out SOLUTION 96 i)) (now (s .entry)) (now (s .exit)) (vecAt (now (s .exit)) SOLUTION n) (backwardOf n (listAt (now (order .entry)) n) (vecAt (now (s .entry)) PATH-SCALE n) (bandAt (now (s .entry)) n) (vecAt (now (s .entry)) PATH-RHS n) (vecAt (now (s .entry)) SOLUTION n)) ⌝ }
 {
     for k in 0..n {
         let i = n - 1 - k;
         let value = backward_sum(s, s[PATH_RHS + i], i, n) / s[PATH_BAND + BAND_WIDTH * i];
         s[PATH_RHS + i] = value;
-        let at = SOLUTION + below(order[i], n);
+        let at = SOLUTION + order[i];
         s[at] = s[at] + value / s[PATH_SCALE + i];
     }
 }
@@ -479,7 +523,8 @@ fn refine(
     n: usize,
     count: usize,
 ) -> Outcome
-    requires { ⌜ (Rows (now s) (now ia) (now ib) rows n count) ⌝ }
+    requires { ⌜ (Rows (now s) (now ia) (now ib) rows n count) × (Along (now order) n) ⌝ }
+    ensures { λ r. ⌜ Does Refining (now (s .entry)) (now (s .exit)) (ranAs r (refinedAt (now (s .exit)) n)) (refineOf (rowsOn (now (ia .entry)) (now (ib .entry)) (now (s .entry)) rows n) (massesAt (now (s .entry)) MASSES count) (vecAt (now (s .entry)) RHS n) n (listAt (now (order .entry)) n) (factorAt (now (s .entry)) n) (refinedAt (now (s .entry)) n)) ⌝ }
 {
     forward(s, order, n);
     backward(s, order, n);
@@ -501,8 +546,8 @@ fn refinements(
     count: usize,
     tolerance: f64,
 ) -> Ended
-    requires { ⌜ (Rows (now s) (now ia) (now ib) rows n count) ⌝ }
-    ensures { λ r. ⌜ r .passes ≤ 4 ⌝ }
+    requires { ⌜ (Rows (now s) (now ia) (now ib) rows n count) × (Along (now order) n) ⌝ }
+    ensures { λ r. ⌜ (Does Refining (now (s .entry)) (now (s .exit)) (solveAs r (vecAt (now (s .exit)) SOLUTION n)) (ended (spent 4 (loop 4 (refinement (rowsOn (now (ia .entry)) (now (ib .entry)) (now (s .entry)) rows n) (massesAt (now (s .entry)) MASSES count) (vecAt (now (s .entry)) RHS n) n (listAt (now (order .entry)) n) (factorAt (now (s .entry)) n) tolerance) (refinedAt (now (s .entry)) n))))) × (r .passes ≤ 4) ⌝ }
 {
     for k in 0..4usize {
         if let Outcome::ArithmeticOverflow = refine(s, ia, ib, rows, order, n, count) {
@@ -530,7 +575,8 @@ fn path_factored(
     n: usize,
     count: usize,
 ) -> Part
-    requires { ⌜ (Rows (now s) (now ia) (now ib) rows n count) ⌝ }
+    requires { ⌜ (Rows (now s) (now ia) (now ib) rows n count) × (Along (now order) n) ⌝ }
+    ensures { λ r. ⌜ Does Factoring (now (s .entry)) (now (s .exit)) (partAs r (factorAt (now (s .exit)) n)) (pathFactored (rowsOn (now (ia .entry)) (now (ib .entry)) (now (s .entry)) rows n) (massesAt (now (s .entry)) MASSES count) (listAt (now (order .entry)) n) n) ⌝ }
 {
     match path_scale(s, ia, ib, rows, order, n, count) {
         Part::Done => path_factor(s, ia, ib, rows, order, n, count),
@@ -548,7 +594,7 @@ pub fn path_solve(
     count: usize,
 ) -> Ended
     requires { ⌜ Rows (now s) (now ia) (now ib) rows n count ⌝ }
-    ensures { λ r. ⌜ r .passes ≤ 4 ⌝ }
+    ensures { λ r. ⌜ (Does Work (now (s .entry)) (now (s .exit)) (solveAs r (vecAt (now (s .exit)) SOLUTION n)) (pathSolve (rowsOn (now (ia .entry)) (now (ib .entry)) (now (s .entry)) rows n) (massesAt (now (s .entry)) MASSES count) (vecAt (now (s .entry)) RHS n) (vecAt (now (s .entry)) SOLUTION n))) × (r .end ≡ End.Declined → (now (s .exit)) ≡ (now (s .entry))) × (r .passes ≤ 4) ⌝ }
 {
     let path = path_order(ia, ib, n);
     if !path.found {

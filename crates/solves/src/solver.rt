@@ -10,7 +10,10 @@ use crate::path::path_solve;
 use crate::values::clear;
 use crate::values::copy;
 ghost use Prim.Native.Nat.{_+_, _*_, _≤_};
-ghost use Rattle.solves.specs.View.{Rows};
+ghost use Rattle.solves.specs.Path.{ended, linearSolve};
+ghost use Rattle.solves.specs.Answer.{solveAs};
+ghost use Rattle.solves.specs.Region.{vecAt, Does};
+ghost use Rattle.solves.specs.View.{rowsOn, massesAt, Rows, Work, MASSES, RHS, SOLUTION};
 
 pub fn linear_solve(
     s: &mut [f64],
@@ -22,7 +25,7 @@ pub fn linear_solve(
     cyclic: bool,
 ) -> Ended
     requires { ⌜ Rows (now s) (now ia) (now ib) rows n count ⌝ }
-    ensures { λ r. ⌜ r .passes ≤ 4 * n + 64 ⌝ }
+    ensures { λ r. ⌜ (Does Work (now (s .entry)) (now (s .exit)) (solveAs r (vecAt (now (s .exit)) SOLUTION n)) (ended (linearSolve cyclic (rowsOn (now (ia .entry)) (now (ib .entry)) (now (s .entry)) rows n) (massesAt (now (s .entry)) MASSES count) (vecAt (now (s .entry)) RHS n)))) × (r .passes ≤ 4 * n + 64) ⌝ }
 {
     clear(s, SOLUTION, n);
     copy(s, RESIDUAL, RHS, n);
@@ -33,6 +36,8 @@ pub fn linear_solve(
     let end = ended.end;
     match end {
         End::Declined => gradients(s, ia, ib, rows, n, count),
-        _ => ended,
+        End::Solved => ended,
+        End::NonConvergent => ended,
+        End::ArithmeticOverflow => ended,
     }
 }

@@ -10,11 +10,9 @@ use Rattle.arith.specs.Real.{ratio, isFinite, absOf}
 use Rattle.arith.specs.Angle.{PI}
 use Rattle.arith.specs.Flow.{every}
 use Rattle.vectors.specs.declared.vector.Vec3.{Vec3}
-use Rattle.vectors.specs.declared.matrix.CholeskyOutcome.{CholeskyOutcome}
-use Rattle.vectors.specs.declared.matrix.CholeskyOutcome.the-variants as Cholesky
 use Rattle.vectors.specs.Vector.{vec, finiteOf}
 use Rattle.vectors.specs.Quaternion.{quat, isNormalizedOf}
-use Rattle.vectors.specs.Matrix.{inverseSpdOf}
+use Rattle.vectors.specs.Matrix.{done, inverseSpdOf}
 use Rattle.rows.specs.declared.body.RigidBody.{RigidBody}
 use Rattle.rows.specs.declared.geometry.JointFrame.{JointFrame}
 use Rattle.rows.specs.declared.geometry.Joint.{Joint}
@@ -62,15 +60,8 @@ bodyInRange body =
     withinOf (body .origin) (ratio 8192 1) && withinOf (body .«center_of_mass») (ratio 64 1) && massInRange (body .mass) && isNormalizedOf (body .rotation)
 
 -- 7
-abbrev pub isDone : CholeskyOutcome → Bool
-isDone Cholesky.Done = true
-isDone Cholesky.NonFiniteInput = false
-isDone Cholesky.NotSymmetric = false
-isDone Cholesky.NotPositiveDefinite = false
-isDone Cholesky.ResultOutOfRange = false
-
 abbrev pub hasInverse : RigidBody → Bool
-hasInverse body = isDone (inverseSpdOf (body .inertia) .outcome)
+hasInverse body = done (inverseSpdOf (body .inertia) .outcome)
 
 -- 8
 abbrev pub joinsTwo : ℕ → Joint → Bool
@@ -92,13 +83,16 @@ twistOk lower upper =
     Ieee.le (absOf lower) (ratio 4 1) && Ieee.le (absOf upper) (ratio 4 1)
     && (Ieee.eq lower upper || Ieee.le lower (Ieee.neg PI) && Ieee.le PI upper)
 
+abbrev pub coneOk : Float → Float → Float → Float → Bool
+coneOk swingX swingY lower upper = swingOk swingX && swingOk swingY && twistOk lower upper
+
 abbrev pub kindOk : Kind → Bool
 kindOk Ball = true
 kindOk Hinge = true
 kindOk Cylindrical = true
 kindOk Planar = true
 kindOk (Distance length) = lengthOk length
-kindOk (ConeTwist swingX swingY lower upper) = swingOk swingX && swingOk swingY && twistOk lower upper
+kindOk (ConeTwist swingX swingY lower upper) = coneOk swingX swingY lower upper
 
 abbrev pub jointOk : Joint → Bool
 jointOk joint = frameOk (joint .«frame_a») && frameOk (joint .«frame_b») && kindOk (joint .kind)
@@ -110,16 +104,34 @@ noFrame = record { «local_anchor» = vec nan nan nan; «local_rotation» = quat
 abbrev pub jointIn : List Joint → ℕ → Joint
 jointIn joints k = getD joints k (record { «body_a» = 0; «body_b» = 0; «frame_a» = noFrame; «frame_b» = noFrame; kind = Ball })
 
+-- 1 to 4, by numbers and lengths alone, or else the refusal that comes after
+unfoldable pub sizesOr : ℕ → ℕ → Float → ℕ → Outcome → Outcome
+sizesOr doubles count dt scratch next =
+    cond (not (timeStepOk dt)) TimeStep
+    (cond (not (bodiesFit doubles)) Bodies
+    (cond (ltb 16 count) Joints
+    (cond (ltb scratch 6144) Scratch
+    next)))
+
+-- 5 to 7, of the n bodies
+unfoldable pub bodiesOr : List Float → ℕ → Outcome → Outcome
+bodiesOr bodies n next =
+    cond (not (every (length bodies) (λ k. isFinite (at bodies k)))) NotFinite
+    (cond (not (every n (λ k. bodyInRange (recordAt bodies k)))) OutOfRange
+    (cond (not (every n (λ k. hasInverse (recordAt bodies k)))) Inertia
+    next))
+
+-- 8 and 9, of the joints of n bodies
+unfoldable pub jointsOr : List Joint → ℕ → ℕ → Outcome → Outcome
+jointsOr joints count n next =
+    cond (not (every count (λ k. joinsTwo n (jointIn joints k)))) JointBodies
+    (cond (not (every count (λ k. jointOk (jointIn joints k)))) JointNumbers
+    next)
+
 -- the first refusal among 1 to 9, or Accepted
 unfoldable pub refusalOf : List Float → List Joint → ℕ → Float → ℕ → Outcome
 refusalOf bodies joints count dt scratch =
-    cond (not (timeStepOk dt)) TimeStep
-    (cond (not (bodiesFit (length bodies))) Bodies
-    (cond (ltb 16 count) Joints
-    (cond (ltb scratch 6144) Scratch
-    (cond (not (every (length bodies) (λ k. isFinite (at bodies k)))) NotFinite
-    (cond (not (every (bodyCount bodies) (λ k. bodyInRange (recordAt bodies k)))) OutOfRange
-    (cond (not (every (bodyCount bodies) (λ k. hasInverse (recordAt bodies k)))) Inertia
-    (cond (not (every count (λ k. joinsTwo (bodyCount bodies) (jointIn joints k)))) JointBodies
-    (cond (not (every count (λ k. jointOk (jointIn joints k)))) JointNumbers
-    Accepted))))))))
+    sizesOr (length bodies) count dt scratch
+    (bodiesOr bodies (bodyCount bodies)
+    (jointsOr joints count (bodyCount bodies)
+    Accepted))

@@ -14,13 +14,20 @@ use vectors::vector::Vec3;
 ghost use mathlib.Core.Path.{_≡_};
 ghost use Prim.Native.Nat.{_+_, _*_, _≤_, _<_};
 ghost use lib.ListN.{length};
-ghost use Rattle.solves.specs.View.{END};
+ghost use Rattle.arith.specs.Real.{ratio};
+ghost use Rattle.arith.specs.Flow.{every};
+ghost use Rattle.rows.specs.View.{vec3At, Out, Kept};
+ghost use Rattle.solves.specs.View.{START, CANDIDATE, END};
+ghost use Rattle.step.specs.Records.{quatAt, matAt, recordAt, stateAt};
+ghost use Rattle.step.specs.Checks.{withinOf};
+ghost use Rattle.step.specs.View.{colsOf, fixedAt, fixedOf, movingAt, movingOf, bodyFrom, startBodyAt, candidateAt, heldOf, movedTo, Handed};
 
 // What moves of a body in a step: centre, rotation, momentum and spin.
 pub const MOVING: usize = 13;
 
 fn load4(s: &[f64], i: usize) -> Quat
     requires { ⌜ i + 4 ≤ length (now s) ⌝ }
+    ensures { λ r. ⌜ r ≡ quatAt (now (s .entry)) i ⌝ }
 {
     Quat {
         x: s[i],
@@ -32,6 +39,7 @@ fn load4(s: &[f64], i: usize) -> Quat
 
 fn store4(s: &mut [f64], i: usize, q: Quat)
     requires { ⌜ i + 4 ≤ length (now s) ⌝ }
+    ensures { λ _. ⌜ (Kept (λ j. Out i 4 j) (now (s .entry)) (now (s .exit))) × (quatAt (now (s .exit)) i ≡ q) ⌝ }
 {
     s[i] = q.x;
     s[i + 1] = q.y;
@@ -41,6 +49,7 @@ fn store4(s: &mut [f64], i: usize, q: Quat)
 
 fn load_mat3(s: &[f64], i: usize) -> Mat3
     requires { ⌜ i + 9 ≤ length (now s) ⌝ }
+    ensures { λ r. ⌜ r ≡ matAt (now (s .entry)) i ⌝ }
 {
     let x = load3(s, i);
     let y = load3(s, i + 3);
@@ -50,6 +59,7 @@ fn load_mat3(s: &[f64], i: usize) -> Mat3
 
 fn store_mat3(s: &mut [f64], i: usize, m: Mat3)
     requires { ⌜ i + 9 ≤ length (now s) ⌝ }
+    ensures { λ _. ⌜ (Kept (λ j. Out i 9 j) (now (s .entry)) (now (s .exit))) × (matAt (now (s .exit)) i ≡ colsOf m) ⌝ }
 {
     let c = m.to_columns();
     store3(s, i, Vec3::new(c[0][0], c[0][1], c[0][2]));
@@ -60,6 +70,7 @@ fn store_mat3(s: &mut [f64], i: usize, m: Mat3)
 // Record k of a body slice.
 pub fn load_record(bodies: &[f64], k: usize) -> RigidBody
     requires { ⌜ 26 * k + 26 ≤ length (now bodies) ⌝ }
+    ensures { λ r. ⌜ r ≡ recordAt (now (bodies .entry)) k ⌝ }
 {
     let i = RECORD * k;
     RigidBody {
@@ -76,6 +87,7 @@ pub fn load_record(bodies: &[f64], k: usize) -> RigidBody
 // The 13 numbers at i as a state.
 pub fn load_state(s: &[f64], i: usize) -> BodyState
     requires { ⌜ i + 13 ≤ length (now s) ⌝ }
+    ensures { λ r. ⌜ r ≡ stateAt (now (s .entry)) i ⌝ }
 {
     BodyState {
         origin: load3(s, i),
@@ -87,6 +99,7 @@ pub fn load_state(s: &[f64], i: usize) -> BodyState
 
 pub fn store_state(s: &mut [f64], i: usize, state: BodyState)
     requires { ⌜ i + 13 ≤ length (now s) ⌝ }
+    ensures { λ _. ⌜ (Kept (λ j. Out i 13 j) (now (s .entry)) (now (s .exit))) × (stateAt (now (s .exit)) i ≡ state) ⌝ }
 {
     store3(s, i, state.origin);
     store4(s, i + 3, state.rotation);
@@ -96,6 +109,7 @@ pub fn store_state(s: &mut [f64], i: usize, state: BodyState)
 
 fn store_moving(s: &mut [f64], i: usize, body: MomentumBody)
     requires { ⌜ i + 13 ≤ length (now s) ⌝ }
+    ensures { λ _. ⌜ (Kept (λ j. Out i 13 j) (now (s .entry)) (now (s .exit))) × (movingAt (now (s .exit)) i ≡ movingOf body) ⌝ }
 {
     store3(s, i, body.center);
     store4(s, i + 3, body.rotation);
@@ -106,6 +120,7 @@ fn store_moving(s: &mut [f64], i: usize, body: MomentumBody)
 // What does not move: mass, local centre and inverse inertia.
 fn store_fixed(s: &mut [f64], i: usize, body: MomentumBody)
     requires { ⌜ i + 13 ≤ length (now s) ⌝ }
+    ensures { λ _. ⌜ (Kept (λ j. Out i 13 j) (now (s .entry)) (now (s .exit))) × (fixedAt (now (s .exit)) i ≡ fixedOf body) ⌝ }
 {
     store3(s, i + 1, body.center_of_mass);
     store_mat3(s, i + 4, body.inverse_inertia);
@@ -114,6 +129,7 @@ fn store_fixed(s: &mut [f64], i: usize, body: MomentumBody)
 
 pub fn store_start(s: &mut [f64], k: usize, body: MomentumBody)
     requires { ⌜ (END ≤ length (now s)) × (k < 16) ⌝ }
+    ensures { λ _. ⌜ (Kept (λ j. Out (START + 26 * k) 26 j) (now (s .entry)) (now (s .exit))) × (startBodyAt (now (s .exit)) k ≡ heldOf body) ⌝ }
 {
     let i = START + RECORD * k;
     store_moving(s, i, body);
@@ -122,6 +138,7 @@ pub fn store_start(s: &mut [f64], k: usize, body: MomentumBody)
 
 pub fn store_candidate(s: &mut [f64], k: usize, body: MomentumBody)
     requires { ⌜ (END ≤ length (now s)) × (k < 16) ⌝ }
+    ensures { λ _. ⌜ (Kept (λ j. Out (CANDIDATE + 13 * k) 13 j) (now (s .entry)) (now (s .exit))) × (candidateAt (now (s .exit)) k ≡ movedTo body (startBodyAt (now (s .entry)) k)) ⌝ }
 {
     store_moving(s, CANDIDATE + MOVING * k, body);
 }
@@ -129,6 +146,7 @@ pub fn store_candidate(s: &mut [f64], k: usize, body: MomentumBody)
 // The body whose moving numbers stand at i; mass and inertia are those of the start.
 fn load_body(s: &[f64], i: usize, k: usize) -> MomentumBody
     requires { ⌜ (i + 13 ≤ length (now s)) × (END ≤ length (now s)) × (k < 16) ⌝ }
+    ensures { λ r. ⌜ r ≡ bodyFrom (now (s .entry)) i (START + 26 * k) ⌝ }
 {
     let j = START + RECORD * k;
     MomentumBody {
@@ -144,12 +162,14 @@ fn load_body(s: &[f64], i: usize, k: usize) -> MomentumBody
 
 pub fn load_start(s: &[f64], k: usize) -> MomentumBody
     requires { ⌜ (END ≤ length (now s)) × (k < 16) ⌝ }
+    ensures { λ r. ⌜ r ≡ startBodyAt (now (s .entry)) k ⌝ }
 {
     load_body(s, START + RECORD * k, k)
 }
 
 pub fn load_candidate(s: &[f64], k: usize) -> MomentumBody
     requires { ⌜ (END ≤ length (now s)) × (k < 16) ⌝ }
+    ensures { λ r. ⌜ r ≡ candidateAt (now (s .entry)) k ⌝ }
 {
     load_body(s, CANDIDATE + MOVING * k, k)
 }
@@ -157,6 +177,7 @@ pub fn load_candidate(s: &[f64], k: usize) -> MomentumBody
 // Whether every resulting origin is on the plan's ground. The states stand where the candidates were.
 pub fn in_ground(s: &[f64], n: usize) -> bool
     requires { ⌜ (END ≤ length (now s)) × (n ≤ 16) ⌝ }
+    ensures { λ r. ⌜ r ≡ every n (λ k. withinOf (vec3At (now (s .entry)) (CANDIDATE + 13 * k)) (ratio 8192 1)) ⌝ }
 {
     for k in 0..n {
         if !within(load3(s, CANDIDATE + MOVING * k), 8192.0) {
@@ -169,6 +190,7 @@ pub fn in_ground(s: &[f64], n: usize) -> bool
 // Hands the states back: the first 13 numbers of each record.
 pub fn write_states(bodies: &mut [f64], s: &[f64], n: usize)
     requires { ⌜ (26 * n ≤ length (now bodies)) × (END ≤ length (now s)) × (n ≤ 16) ⌝ }
+    ensures { λ _. ⌜ Handed n (now (s .entry)) (now (bodies .entry)) (now (bodies .exit)) ⌝ }
 {
     for k in 0..n {
         store_state(bodies, RECORD * k, load_state(s, CANDIDATE + MOVING * k));

@@ -15,15 +15,20 @@ use vectors::matrix::CholeskyOutcome;
 use vectors::matrix::inverse_spd;
 use vectors::vector::Vec3;
 ghost use mathlib.Core.Path.{_≡_};
-ghost use mathlib.Core.Bool.{true};
-ghost use Prim.Native.Nat.{ℕ, _+_, _*_, _/_, _≤_, _<_};
+ghost use Prim.Native.Nat.{_*_, _≤_};
 ghost use lib.ListN.{length};
-ghost use Rattle.step.specs.declared.Outcome.the-variants as Outcome;
-ghost use Rattle.step.specs.Records.{bodyCount};
-ghost use Rattle.step.specs.Ready.{isAccepted, Joined, Joins, Sizes};
+ghost use Rattle.arith.specs.Real.{isFinite};
+ghost use Rattle.arith.specs.Flow.{every};
+ghost use Rattle.rows.specs.View.{at};
+ghost use Rattle.step.specs.declared.Outcome.the-variants.{Accepted};
+ghost use Rattle.step.specs.Records.{recordAt};
+ghost use Rattle.step.specs.Ready.{isAccepted};
+ghost use Rattle.step.specs.Checks.{withinOf, timeStepOk, bodiesFit, massInRange, bodyInRange, hasInverse, joinsTwo, frameOk, lengthOk, swingOk, twistOk, coneOk, kindOk, jointOk, jointIn, sizesOr, bodiesOr, jointsOr, refusalOf};
 
 // Whether no coordinate is above the limit in magnitude.
-pub fn within(v: Vec3, limit: f64) -> bool {
+pub fn within(v: Vec3, limit: f64) -> bool
+    ensures { λ r. ⌜ r ≡ withinOf v limit ⌝ }
+{
     if abs(v.x) <= limit {
         if abs(v.y) <= limit {
             return abs(v.z) <= limit;
@@ -32,7 +37,9 @@ pub fn within(v: Vec3, limit: f64) -> bool {
     false
 }
 
-fn all_finite(bodies: &[f64]) -> bool {
+fn all_finite(bodies: &[f64]) -> bool
+    ensures { λ r. ⌜ r ≡ every (length (now (bodies .entry))) (λ k. isFinite (at (now (bodies .entry)) k)) ⌝ }
+{
     for k in 0..bodies.len() {
         if !is_finite(bodies[k]) {
             return false;
@@ -42,14 +49,18 @@ fn all_finite(bodies: &[f64]) -> bool {
 }
 
 // Mass from 2^-10 to 2^20.
-fn mass_in_range(mass: f64) -> bool {
+fn mass_in_range(mass: f64) -> bool
+    ensures { λ r. ⌜ r ≡ massInRange mass ⌝ }
+{
     if mass >= 0.0009765625 {
         return mass <= 1048576.0;
     }
     false
 }
 
-fn body_in_range(body: RigidBody) -> bool {
+fn body_in_range(body: RigidBody) -> bool
+    ensures { λ r. ⌜ r ≡ bodyInRange body ⌝ }
+{
     if within(body.origin, 8192.0) {
         if within(body.center_of_mass, 64.0) {
             if mass_in_range(body.mass) {
@@ -62,6 +73,7 @@ fn body_in_range(body: RigidBody) -> bool {
 
 fn bodies_in_range(bodies: &[f64], n: usize) -> bool
     requires { ⌜ 26 * n ≤ length (now bodies) ⌝ }
+    ensures { λ r. ⌜ r ≡ every n (λ k. bodyInRange (recordAt (now (bodies .entry)) k)) ⌝ }
 {
     for k in 0..n {
         if !body_in_range(load_record(bodies, k)) {
@@ -71,18 +83,24 @@ fn bodies_in_range(bodies: &[f64], n: usize) -> bool
     true
 }
 
-fn has_inverse(body: RigidBody) -> bool {
+fn has_inverse(body: RigidBody) -> bool
+    ensures { λ r. ⌜ r ≡ hasInverse body ⌝ }
+{
     let inertia = body.inertia;
     let inverted = inverse_spd(inertia);
     let outcome = inverted.outcome;
     match outcome {
         CholeskyOutcome::Done => true,
-        _ => false,
+        CholeskyOutcome::NonFiniteInput => false,
+        CholeskyOutcome::NotSymmetric => false,
+        CholeskyOutcome::NotPositiveDefinite => false,
+        CholeskyOutcome::ResultOutOfRange => false,
     }
 }
 
 fn inertias_invert(bodies: &[f64], n: usize) -> bool
     requires { ⌜ 26 * n ≤ length (now bodies) ⌝ }
+    ensures { λ r. ⌜ r ≡ every n (λ k. hasInverse (recordAt (now (bodies .entry)) k)) ⌝ }
 {
     for k in 0..n {
         if !has_inverse(load_record(bodies, k)) {
@@ -93,7 +111,7 @@ fn inertias_invert(bodies: &[f64], n: usize) -> bool
 }
 
 fn joins_two(joint: Joint, n: usize) -> bool
-    ensures { λ r. ⌜ (r ≡ true → (joint .«body_a» < n) × (joint .«body_b» < n)) ⌝ }
+    ensures { λ r. ⌜ r ≡ joinsTwo n joint ⌝ }
 {
     if joint.body_a < n {
         if joint.body_b < n {
@@ -105,7 +123,7 @@ fn joins_two(joint: Joint, n: usize) -> bool
 
 fn joints_join(joints: [Joint; 16], count: usize, n: usize) -> bool
     requires { ⌜ count ≤ 16 ⌝ }
-    ensures { λ r. ⌜ (r ≡ true → Joins joints count n) ⌝ }
+    ensures { λ r. ⌜ r ≡ every count (λ k. joinsTwo n (jointIn joints k)) ⌝ }
 {
     for k in 0..count {
         if !joins_two(joints[k], n) {
@@ -115,7 +133,9 @@ fn joints_join(joints: [Joint; 16], count: usize, n: usize) -> bool
     true
 }
 
-fn frame_ok(frame: JointFrame) -> bool {
+fn frame_ok(frame: JointFrame) -> bool
+    ensures { λ r. ⌜ r ≡ frameOk frame ⌝ }
+{
     if frame.local_anchor.is_finite() {
         if within(frame.local_anchor, 64.0) {
             return frame.local_rotation.is_normalized();
@@ -125,14 +145,18 @@ fn frame_ok(frame: JointFrame) -> bool {
 }
 
 // From 1/8 to 8,192. A length that is not finite is in no range.
-fn length_ok(length: f64) -> bool {
+fn length_ok(length: f64) -> bool
+    ensures { λ r. ⌜ r ≡ lengthOk length ⌝ }
+{
     if length >= 0.125 {
         return length <= 8192.0;
     }
     false
 }
 
-fn swing_ok(swing: f64) -> bool {
+fn swing_ok(swing: f64) -> bool
+    ensures { λ r. ⌜ r ≡ swingOk swing ⌝ }
+{
     if swing == 0.0 {
         return true;
     }
@@ -140,7 +164,9 @@ fn swing_ok(swing: f64) -> bool {
 }
 
 // Equal limits, or a free twist, each within 4.
-fn twist_ok(lower: f64, upper: f64) -> bool {
+fn twist_ok(lower: f64, upper: f64) -> bool
+    ensures { λ r. ⌜ r ≡ twistOk lower upper ⌝ }
+{
     if abs(lower) <= 4.0 {
         if abs(upper) <= 4.0 {
             if lower == upper {
@@ -154,7 +180,9 @@ fn twist_ok(lower: f64, upper: f64) -> bool {
     false
 }
 
-fn cone_ok(swing_x: f64, swing_y: f64, lower: f64, upper: f64) -> bool {
+fn cone_ok(swing_x: f64, swing_y: f64, lower: f64, upper: f64) -> bool
+    ensures { λ r. ⌜ r ≡ coneOk «swing_x» «swing_y» lower upper ⌝ }
+{
     if swing_ok(swing_x) {
         if swing_ok(swing_y) {
             return twist_ok(lower, upper);
@@ -163,8 +191,14 @@ fn cone_ok(swing_x: f64, swing_y: f64, lower: f64, upper: f64) -> bool {
     false
 }
 
-fn kind_ok(kind: Kind) -> bool {
+fn kind_ok(kind: Kind) -> bool
+    ensures { λ r. ⌜ r ≡ kindOk kind ⌝ }
+{
     match kind {
+        Kind::Ball => true,
+        Kind::Hinge => true,
+        Kind::Cylindrical => true,
+        Kind::Planar => true,
         Kind::Distance(length) => length_ok(length),
         Kind::ConeTwist {
             swing_x,
@@ -172,11 +206,12 @@ fn kind_ok(kind: Kind) -> bool {
             twist_lower,
             twist_upper,
         } => cone_ok(swing_x, swing_y, twist_lower, twist_upper),
-        _ => true,
     }
 }
 
-fn joint_ok(joint: Joint) -> bool {
+fn joint_ok(joint: Joint) -> bool
+    ensures { λ r. ⌜ r ≡ jointOk joint ⌝ }
+{
     let kind = joint.kind;
     if frame_ok(joint.frame_a) {
         if frame_ok(joint.frame_b) {
@@ -188,6 +223,7 @@ fn joint_ok(joint: Joint) -> bool {
 
 fn joints_ok(joints: [Joint; 16], count: usize) -> bool
     requires { ⌜ count ≤ 16 ⌝ }
+    ensures { λ r. ⌜ r ≡ every count (λ k. jointOk (jointIn joints k)) ⌝ }
 {
     for k in 0..count {
         if !joint_ok(joints[k]) {
@@ -199,6 +235,7 @@ fn joints_ok(joints: [Joint; 16], count: usize) -> bool
 
 fn body_refusal(bodies: &[f64], n: usize) -> Outcome
     requires { ⌜ 26 * n ≤ length (now bodies) ⌝ }
+    ensures { λ r. ⌜ r ≡ bodiesOr (now (bodies .entry)) n Accepted ⌝ }
 {
     if !all_finite(bodies) {
         return Outcome::NotFinite;
@@ -214,7 +251,7 @@ fn body_refusal(bodies: &[f64], n: usize) -> Outcome
 
 fn joint_refusal(joints: [Joint; 16], count: usize, n: usize) -> Outcome
     requires { ⌜ count ≤ 16 ⌝ }
-    ensures { λ r. ⌜ (r ≡ Outcome.Accepted → Joins joints count n) ⌝ }
+    ensures { λ r. ⌜ r ≡ jointsOr joints count n Accepted ⌝ }
 {
     if !joints_join(joints, count, n) {
         return Outcome::JointBodies;
@@ -225,30 +262,32 @@ fn joint_refusal(joints: [Joint; 16], count: usize, n: usize) -> Outcome
     Outcome::Accepted
 }
 
-fn time_step_ok(dt: f64) -> bool {
+fn time_step_ok(dt: f64) -> bool
+    ensures { λ r. ⌜ r ≡ timeStepOk dt ⌝ }
+{
     if is_finite(dt) {
         return dt > 0.0;
     }
     false
 }
 
-fn bodies_fit(length: usize) -> bool
-    ensures { λ r. ⌜ (r ≡ true → length / 26 ≤ 16) ⌝ }
+fn bodies_fit(doubles: usize) -> bool
+    ensures { λ r. ⌜ r ≡ bodiesFit doubles ⌝ }
 {
-    if length % RECORD == 0 {
-        return length / RECORD <= 16;
+    if doubles % RECORD == 0 {
+        return doubles / RECORD <= 16;
     }
     false
 }
 
 // The refusal by numbers and lengths alone, 1 to 4.
-fn size_refusal(length: usize, count: usize, dt: f64, scratch: usize) -> Outcome
-    ensures { λ r. ⌜ (r ≡ Outcome.Accepted → Sizes length count scratch) ⌝ }
+fn size_refusal(doubles: usize, count: usize, dt: f64, scratch: usize) -> Outcome
+    ensures { λ r. ⌜ r ≡ sizesOr doubles count dt scratch Accepted ⌝ }
 {
     if !time_step_ok(dt) {
         return Outcome::TimeStep;
     }
-    if !bodies_fit(length) {
+    if !bodies_fit(doubles) {
         return Outcome::Bodies;
     }
     if 16 < count {
@@ -273,7 +312,7 @@ pub fn refusal(
     dt: f64,
     scratch: usize,
 ) -> Outcome
-    ensures { λ r. ⌜ (r ≡ Outcome.Accepted → (Joined joints count (bodyCount (now (bodies .entry)))) × (6144 ≤ scratch)) ⌝ }
+    ensures { λ r. ⌜ r ≡ refusalOf (now (bodies .entry)) joints count dt scratch ⌝ }
 {
     let sizes = size_refusal(bodies.len(), count, dt, scratch);
     if !accepted(sizes) {

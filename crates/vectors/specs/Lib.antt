@@ -3,3 +3,4 @@ pub mod Vector
 pub mod Matrix
 pub mod Quaternion
 pub mod VectorLaws
+pub mod Laws

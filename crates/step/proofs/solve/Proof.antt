@@ -3,6 +3,7 @@ use mathlib.Core.Path.{_≡_, refl, sym, ap, _∙_}
 use Prim.Native.Nat.{ℕ, _+_, _*_, _≤_, _<_, _-_}
 use lib.ListN.{length, getD, length-set}
 use borrow.Author.Needs.{counted-is}
+use Rattle.step.specs.CheckLaws.{accepted-run}
 use Rattle.step.proofs.StepLaws.{is-accepted, take-long}
 use borrow.Author.Needs.{needs}
 use Rattle.step.proofs.solve.Statement.{statement}
@@ -21,13 +22,13 @@ returns : tie.Need-returns
 returns c = search needs
 
 slice-relend-prefix-solve-in : tie.Need-slice-relend-prefix-solve-in
-slice-relend-prefix-solve-in c = (c .before .before .before .refusal .ensures (is-accepted _ (c .before .before .accepted .ensures) (c .before .if1 .left))) .1
+slice-relend-prefix-solve-in c = (accepted-run _ _ _ _ _ (c .before .before .before .refusal .ensures) (is-accepted _ (c .before .before .accepted .ensures) (c .before .if1 .left))) .1
 
 slice-aggregate-solve-in : tie.Need-slice-aggregate-solve-in
-slice-aggregate-solve-in c = sym (take-long 6144 (c .before .before .before .before .before .before .before .before .args .scratch .now) ((c .before .before .before .before .refusal .ensures (is-accepted _ (c .before .before .before .accepted .ensures) (c .before .before .if1 .left))) .1))
+slice-aggregate-solve-in c = sym (take-long 6144 (c .before .before .before .before .before .before .before .before .args .scratch .now) ((accepted-run _ _ _ _ _ (c .before .before .before .before .refusal .ensures) (is-accepted _ (c .before .before .before .accepted .ensures) (c .before .before .if1 .left))) .1))
 
 solve-in-requires : tie.Need-solve-in-requires
-solve-in-requires c κs = (take-long 6144 (c .before .before .before .before .before .before .before .before .args .scratch .now) ((c .before .before .before .before .refusal .ensures (is-accepted _ (c .before .before .before .accepted .ensures) (c .before .before .if1 .left))) .1), (c .before .before .before .before .refusal .ensures (is-accepted _ (c .before .before .before .accepted .ensures) (c .before .before .if1 .left))) .0)
+solve-in-requires c κs = (take-long 6144 (c .before .before .before .before .before .before .before .before .args .scratch .now) ((accepted-run _ _ _ _ _ (c .before .before .before .before .refusal .ensures) (is-accepted _ (c .before .before .before .accepted .ensures) (c .before .before .if1 .left))) .1), (accepted-run _ _ _ _ _ (c .before .before .before .before .refusal .ensures) (is-accepted _ (c .before .before .before .accepted .ensures) (c .before .before .if1 .left))) .0)
 
 same-length-2 : tie.Need-same-length-2
 same-length-2 c = search needs

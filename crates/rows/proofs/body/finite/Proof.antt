@@ -1,6 +1,5 @@
-use borrow.Author.Needs.{needs}
-use mathlib.Core.Path.{_≡_, refl, sym, _∙_, ap}
-use Rattle.rows.proofs.BodyLaws.{finite-yes, finite-no}
+-- `body::finite` meets its contract.
+use Rattle.rows.proofs.BodyLaws.{finite-no, finite-yes}
 use borrow.Author.Needs.{needs}
 use Rattle.rows.proofs.body.finite.Statement.{statement}
 use Rattle.rows.proofs.body.finite.Tie as tie

@@ -1,14 +1,20 @@
-use borrow.Author.Needs.{needs}
-use mathlib.Core.Path.{_≡_, refl, sym, _∙_, ap}
-use Rattle.rows.proofs.BodyLaws.{both-yes, both-no}
+-- `body::same_quat` meets its contract.
+use Rattle.rows.proofs.BodyLaws.{both-no, both-yes}
+use mathlib.Core.Path.{refl, sym}
 use Rattle.rows.proofs.body.same_quat.Statement.{statement}
 use Rattle.rows.proofs.body.same_quat.Tie as tie
 
 returns : tie.Need-returns
-returns c = both-yes (sym (both-yes (sym (both-yes (c .before .before .before .before .before .before .before .before .if1 .taken) (sym (c .before .before .before .before .before .if2 .taken)))) (sym (c .before .before .if3 .taken)))) refl
+returns c =
+    let c₆ = c .before .before .before .before .before .before in
+    both-yes
+    (sym (both-yes (sym (both-yes (c₆ .before .before .if1 .taken) (sym (c .before .before .before .before .before .if2 .taken)))) (sym (c .before .before .if3 .taken))))
+    refl
 
 returns-2 : tie.Need-returns-2
-returns-2 c = both-no _ (sym (both-yes (sym (both-yes (c .before .before .before .before .before .before .if1 .taken) (sym (c .before .before .before .if2 .taken)))) (sym (c .if3 .left))))
+returns-2 c =
+    both-no _
+    (sym (both-yes (sym (both-yes (c .before .before .before .before .before .before .if1 .taken) (sym (c .before .before .before .if2 .taken)))) (sym (c .if3 .left))))
 
 returns-3 : tie.Need-returns-3
 returns-3 c = both-no _ (sym (both-no _ (sym (both-yes (c .before .before .before .if1 .taken) (sym (c .if2 .left))))))

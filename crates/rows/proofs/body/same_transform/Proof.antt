@@ -1,7 +1,7 @@
+-- `body::same_transform` meets its contract.
+use Rattle.rows.proofs.BodyLaws.{both-no, both-yes}
 use borrow.Author.Needs.{needs}
-use mathlib.Core.Path.{_≡_, refl, sym, _∙_, ap}
-use Rattle.rows.proofs.BodyLaws.{both-yes, both-no}
-use borrow.Author.Needs.{needs}
+use mathlib.Core.Path.{_∙_, sym}
 use Rattle.rows.proofs.body.same_transform.Statement.{statement}
 use Rattle.rows.proofs.body.same_transform.Tie as tie
 

@@ -1,6 +1,6 @@
-use borrow.Author.Needs.{needs}
-use mathlib.Core.Path.{_≡_, refl, sym, _∙_, ap}
-use Rattle.rows.proofs.BodyLaws.{both-yes, both-no}
+-- `body::same_vec3` meets its contract.
+use Rattle.rows.proofs.BodyLaws.{both-no, both-yes}
+use mathlib.Core.Path.{refl, sym}
 use Rattle.rows.proofs.body.same_vec3.Statement.{statement}
 use Rattle.rows.proofs.body.same_vec3.Tie as tie
 

@@ -1,7 +1,6 @@
-use borrow.Author.Needs.{needs}
-use mathlib.Core.Path.{_≡_, refl, sym, _∙_, ap}
+-- `body::world_center_of_mass` meets its contract.
 use Rattle.rows.proofs.BodyLaws.{center-1, center-2}
-use Rattle.rows.specs.AnswerLaws.{some-go, none-stop}
+use Rattle.rows.specs.AnswerLaws.{none-stop, some-go}
 use Rattle.rows.specs.Fault.{arithmeticOverflow}
 use borrow.Author.Needs.{needs}
 use Rattle.rows.proofs.body.world_center_of_mass.Statement.{statement}
@@ -23,7 +22,10 @@ enum-told : tie.Need-enum-told
 enum-told c = search needs
 
 returns : tie.Need-returns
-returns c = center-2 _ _ _ (some-go arithmeticOverflow (c .before .before .before .before .before .rotate-vector .ensures) (c .before .before .before .turned .given .1)) (c .before .add .ensures) (c .finite .ensures)
+returns c =
+    center-2 _ _ _
+    (some-go arithmeticOverflow (c .before .before .before .before .before .rotate-vector .ensures) (c .before .before .before .turned .given .1))
+    (c .before .add .ensures) (c .finite .ensures)
 
 returns-2 : tie.Need-returns-2
 returns-2 c = center-1 _ _ _ (none-stop arithmeticOverflow (c .before .before .rotate-vector .ensures) (c .enum-told .given .1))

@@ -1,3 +1,4 @@
+-- `geometry::aligned` meets its contract.
 use Rattle.rows.proofs.RowLaws.{aligned-1, aligned-2, aligned-3, aligned-4, axis-turned}
 use Rattle.rows.specs.AnswerLaws.{none-stop, some-go}
 use Rattle.rows.specs.Fault.{arithmeticOverflow}
@@ -27,16 +28,29 @@ enum-told-2 : tie.Need-enum-told-2
 enum-told-2 c = search needs
 
 returns-2 : tie.Need-returns-2
-returns-2 c = aligned-2 _ _ (axis-turned _ (some-go arithmeticOverflow (c .before .before .before .before .before .before .rotate-vector .ensures) (c .before .before .before .before .z .given .1))) (axis-turned _ (none-stop arithmeticOverflow (c .before .before .rotate-vector2 .ensures) (c .enum-told2 .given .1)))
+returns-2 c =
+    aligned-2 _ _
+    (axis-turned _ (some-go arithmeticOverflow (c .before .before .before .before .before .before .rotate-vector .ensures) (c .before .before .before .before .z .given .1)))
+    (axis-turned _ (none-stop arithmeticOverflow (c .before .before .rotate-vector2 .ensures) (c .enum-told2 .given .1)))
 
 dot-requires : tie.Need-dot-requires
 dot-requires c κs = search needs
 
 returns-3 : tie.Need-returns-3
-returns-3 c = aligned-3 _ _ (axis-turned _ (some-go arithmeticOverflow (c .before .before .before .before .before .before .before .before .before .rotate-vector .ensures) (c .before .before .before .before .before .before .before .z .given .1))) (axis-turned _ (some-go arithmeticOverflow (c .before .before .before .before .before .rotate-vector2 .ensures) (c .before .before .before .za .given .1))) (c .before .dot .ensures) (c .if1 .taken)
+returns-3 c =
+    let c₆ = c .before .before .before .before .before .before in
+    aligned-3 _ _
+    (axis-turned _ (some-go arithmeticOverflow (c₆ .before .before .before .rotate-vector .ensures) (c₆ .before .z .given .1)))
+    (axis-turned _ (some-go arithmeticOverflow (c .before .before .before .before .before .rotate-vector2 .ensures) (c .before .before .before .za .given .1)))
+    (c .before .dot .ensures) (c .if1 .taken)
 
 returns-4 : tie.Need-returns-4
-returns-4 c = aligned-4 _ _ (axis-turned _ (some-go arithmeticOverflow (c .before .before .before .before .before .before .before .before .before .rotate-vector .ensures) (c .before .before .before .before .before .before .before .z .given .1))) (axis-turned _ (some-go arithmeticOverflow (c .before .before .before .before .before .rotate-vector2 .ensures) (c .before .before .before .za .given .1))) (c .before .dot .ensures) (c .if1 .left)
+returns-4 c =
+    let c₆ = c .before .before .before .before .before .before in
+    aligned-4 _ _
+    (axis-turned _ (some-go arithmeticOverflow (c₆ .before .before .before .rotate-vector .ensures) (c₆ .before .z .given .1)))
+    (axis-turned _ (some-go arithmeticOverflow (c .before .before .before .before .before .rotate-vector2 .ensures) (c .before .before .before .za .given .1)))
+    (c .before .dot .ensures) (c .if1 .left)
 
 pub aligned-spec : {M : Type 1} → statement M
 aligned-spec =

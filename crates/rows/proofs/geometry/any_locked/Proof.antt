@@ -1,5 +1,5 @@
+-- `geometry::any_locked` meets its contract.
 use Rattle.rows.proofs.RowLaws.{locked-1, locked-2, locked-3}
-use borrow.Author.Needs.{needs}
 use Rattle.rows.proofs.geometry.any_locked.Statement.{statement}
 use Rattle.rows.proofs.geometry.any_locked.Tie as tie
 

@@ -1,6 +1,7 @@
+-- `geometry::append` meets its contract.
 use Rattle.rows.proofs.AppendLaws.{append-nonconvergent, append-overflow, append-rows, count-rows}
-use native.Mathlib.Omega.{arith}
 use borrow.Author.Needs.{needs}
+use native.Mathlib.Omega.{arith}
 use Rattle.rows.proofs.geometry.append.Statement.{statement}
 use Rattle.rows.proofs.geometry.append.Tie as tie
 

@@ -1,8 +1,9 @@
+-- `geometry::append_row` meets its contract.
 use Rattle.rows.proofs.AppendLaws.{append-none, append-value}
 use Rattle.rows.specs.Append.{There}
+use borrow.Author.Needs.{needs}
 use mathlib.Core.Path.{refl}
 use Rattle.rows.specs.declared.geometry.RowAnswer.the-variants as Row
-use borrow.Author.Needs.{needs}
 use Rattle.rows.proofs.geometry.append_row.Statement.{statement}
 use Rattle.rows.proofs.geometry.append_row.Tie as tie
 

@@ -1,3 +1,4 @@
+-- `geometry::ends_of` meets its contract.
 use Rattle.rows.proofs.RowLaws.{ends-1, ends-2, ends-3, ends-4}
 use Rattle.rows.specs.AnswerLaws.{vector-go, vector-stop}
 use borrow.Author.Needs.{needs}
@@ -26,7 +27,10 @@ enum-told-2 : tie.Need-enum-told-2
 enum-told-2 c = search needs
 
 returns-2 : tie.Need-returns-2
-returns-2 c = ends-2 _ _ _ (vector-go (c .before .before .before .before .before .before .anchor .ensures) (c .before .before .before .before .pa .given .1)) (vector-stop (c .before .before .anchor2 .ensures) (c .enum-told2 .given .1))
+returns-2 c =
+    ends-2 _ _ _
+    (vector-go (c .before .before .before .before .before .before .anchor .ensures) (c .before .before .before .before .pa .given .1))
+    (vector-stop (c .before .before .anchor2 .ensures) (c .enum-told2 .given .1))
 
 sub-requires : tie.Need-sub-requires
 sub-requires c κs = search needs
@@ -41,7 +45,12 @@ enum-told-3 : tie.Need-enum-told-3
 enum-told-3 c = search needs
 
 returns-3 : tie.Need-returns-3
-returns-3 c = ends-3 _ _ _ (vector-go (c .before .before .before .before .before .before .before .before .before .before .before .anchor .ensures) (c .before .before .before .before .before .before .before .before .before .pa .given .1)) (vector-go (c .before .before .before .before .before .before .before .anchor2 .ensures) (c .before .before .before .before .before .pb .given .1)) (c .before .before .before .sub .ensures) (vector-stop (c .before .before .finite .ensures) (c .enum-told3 .given .1))
+returns-3 c =
+    let c₆ = c .before .before .before .before .before .before in
+    ends-3 _ _ _
+    (vector-go (c₆ .before .before .before .before .before .anchor .ensures) (c₆ .before .before .before .pa .given .1))
+    (vector-go (c₆ .before .anchor2 .ensures) (c .before .before .before .before .before .pb .given .1)) (c .before .before .before .sub .ensures)
+    (vector-stop (c .before .before .finite .ensures) (c .enum-told3 .given .1))
 
 sub-requires-2 : tie.Need-sub-requires-2
 sub-requires-2 c κs = search needs
@@ -56,7 +65,14 @@ product-requires-2 : tie.Need-product-requires-2
 product-requires-2 c κs = search needs
 
 returns-4 : tie.Need-returns-4
-returns-4 c = ends-4 _ _ _ (vector-go (c .before .before .before .before .before .before .before .before .before .before .before .before .before .before .before .before .anchor .ensures) (c .before .before .before .before .before .before .before .before .before .before .before .before .before .before .pa .given .1)) (vector-go (c .before .before .before .before .before .before .before .before .before .before .before .before .anchor2 .ensures) (c .before .before .before .before .before .before .before .before .before .before .pb .given .1)) (c .before .before .before .before .before .before .before .before .sub .ensures) (vector-go (c .before .before .before .before .before .before .before .finite .ensures) (c .before .before .before .before .before .delta .given .1)) (c .before .before .before .sub2 .ensures) (c .before .before .sub3 .ensures) (c .before .product .ensures) (c .product2 .ensures)
+returns-4 c =
+    let c₆ = c .before .before .before .before .before .before in
+    let c₁₂ = c₆ .before .before .before .before .before .before in
+    ends-4 _ _ _
+    (vector-go (c₁₂ .before .before .before .before .anchor .ensures) (c₁₂ .before .before .pa .given .1))
+    (vector-go (c₆ .before .before .before .before .before .before .anchor2 .ensures) (c₆ .before .before .before .before .pb .given .1))
+    (c₆ .before .before .sub .ensures) (vector-go (c₆ .before .finite .ensures) (c .before .before .before .before .before .delta .given .1))
+    (c .before .before .before .sub2 .ensures) (c .before .before .sub3 .ensures) (c .before .product .ensures) (c .product2 .ensures)
 
 pub ends-of-spec : {M : Type 1} → statement M
 ends-of-spec =

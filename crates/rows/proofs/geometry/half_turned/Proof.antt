@@ -1,3 +1,4 @@
+-- `geometry::half_turned` meets its contract.
 use Rattle.rows.proofs.RowLaws.{half-1, half-2}
 use borrow.Author.Needs.{needs}
 use Rattle.rows.proofs.geometry.half_turned.Statement.{statement}

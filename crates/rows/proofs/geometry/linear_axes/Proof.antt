@@ -1,6 +1,7 @@
+-- `geometry::linear_axes` meets its contract.
 use Rattle.rows.specs.Geometry.{linearAxes}
-use mathlib.Core.Path.{ap, sym}
 use borrow.Author.Needs.{needs}
+use mathlib.Core.Path.{ap, sym}
 use Rattle.rows.proofs.geometry.linear_axes.Statement.{statement}
 use Rattle.rows.proofs.geometry.linear_axes.Tie as tie
 

@@ -1,3 +1,4 @@
+-- `geometry::linear_row` meets its contract.
 use Rattle.rows.proofs.RowLaws.{linear-1, linear-2, linear-3, linear-4, single, single-stop}
 use Rattle.rows.specs.AnswerLaws.{none-stop, some-go, vector-go, vector-stop}
 use Rattle.rows.specs.Fault.{arithmeticOverflow}
@@ -36,7 +37,10 @@ enum-told-2 : tie.Need-enum-told-2
 enum-told-2 c = search needs
 
 returns-2 : tie.Need-returns-2
-returns-2 c = single-stop _ (linear-2 _ _ _ (some-go arithmeticOverflow (c .before .before .before .before .before .before .before .before .before .rotate-vector .ensures) (c .before .before .before .before .before .before .before .axis .given .1)) (c .before .before .before .before .before .cross .ensures) (c .before .before .before .before .cross2 .ensures) (c .before .before .before .sub .ensures) (vector-stop (c .before .before .finite .ensures) (c .enum-told2 .given .1)))
+returns-2 c =
+    let c₆ = c .before .before .before .before .before .before in
+    single-stop _
+    (linear-2 _ _ _ (some-go arithmeticOverflow (c₆ .before .before .before .rotate-vector .ensures) (c₆ .before .axis .given .1)) (c .before .before .before .before .before .cross .ensures) (c .before .before .before .before .cross2 .ensures) (c .before .before .before .sub .ensures) (vector-stop (c .before .before .finite .ensures) (c .enum-told2 .given .1)))
 
 cross-requires-3 : tie.Need-cross-requires-3
 cross-requires-3 c κs = search needs
@@ -51,7 +55,11 @@ enum-told-3 : tie.Need-enum-told-3
 enum-told-3 c = search needs
 
 returns-3 : tie.Need-returns-3
-returns-3 c = single-stop _ (linear-3 _ _ _ (some-go arithmeticOverflow (c .before .before .before .before .before .before .before .before .before .before .before .before .before .before .rotate-vector .ensures) (c .before .before .before .before .before .before .before .before .before .before .before .before .axis .given .1)) (c .before .before .before .before .before .before .before .before .before .before .cross .ensures) (c .before .before .before .before .before .before .before .before .before .cross2 .ensures) (c .before .before .before .before .before .before .before .before .sub .ensures) (vector-go (c .before .before .before .before .before .before .before .finite .ensures) (c .before .before .before .before .before .angular-a .given .1)) (c .before .before .before .cross3 .ensures) (vector-stop (c .before .before .finite2 .ensures) (c .enum-told3 .given .1)))
+returns-3 c =
+    let c₆ = c .before .before .before .before .before .before in
+    let c₁₂ = c₆ .before .before .before .before .before .before in
+    single-stop _
+    (linear-3 _ _ _ (some-go arithmeticOverflow (c₁₂ .before .before .rotate-vector .ensures) (c₆ .before .before .before .before .before .before .axis .given .1)) (c₆ .before .before .before .before .cross .ensures) (c₆ .before .before .before .cross2 .ensures) (c₆ .before .before .sub .ensures) (vector-go (c₆ .before .finite .ensures) (c .before .before .before .before .before .angular-a .given .1)) (c .before .before .before .cross3 .ensures) (vector-stop (c .before .before .finite2 .ensures) (c .enum-told3 .given .1)))
 
 neg-requires : tie.Need-neg-requires
 neg-requires c κs = search needs
@@ -60,7 +68,11 @@ dot-requires : tie.Need-dot-requires
 dot-requires c κs = search needs
 
 returns-4 : tie.Need-returns-4
-returns-4 c = single _ (linear-4 _ _ _ (some-go arithmeticOverflow (c .before .before .before .before .before .before .before .before .before .before .before .before .before .before .before .before .before .rotate-vector .ensures) (c .before .before .before .before .before .before .before .before .before .before .before .before .before .before .before .axis .given .1)) (c .before .before .before .before .before .before .before .before .before .before .before .before .before .cross .ensures) (c .before .before .before .before .before .before .before .before .before .before .before .before .cross2 .ensures) (c .before .before .before .before .before .before .before .before .before .before .before .sub .ensures) (vector-go (c .before .before .before .before .before .before .before .before .before .before .finite .ensures) (c .before .before .before .before .before .before .before .before .angular-a .given .1)) (c .before .before .before .before .before .before .cross3 .ensures) (vector-go (c .before .before .before .before .before .finite2 .ensures) (c .before .before .before .angular-b .given .1)) (c .before .before .before .before .before .before .before .before .before .before .before .before .before .before .before .before .before .before .pre) (c .before .neg .ensures) (c .dot .ensures))
+returns-4 c =
+    let c₆ = c .before .before .before .before .before .before in
+    let c₁₂ = c₆ .before .before .before .before .before .before in
+    single _
+    (linear-4 _ _ _ (some-go arithmeticOverflow (c₁₂ .before .before .before .before .before .rotate-vector .ensures) (c₁₂ .before .before .before .axis .given .1)) (c₁₂ .before .cross .ensures) (c₆ .before .before .before .before .before .before .cross2 .ensures) (c₆ .before .before .before .before .before .sub .ensures) (vector-go (c₆ .before .before .before .before .finite .ensures) (c₆ .before .before .angular-a .given .1)) (c .before .before .before .before .before .before .cross3 .ensures) (vector-go (c .before .before .before .before .before .finite2 .ensures) (c .before .before .before .angular-b .given .1)) (c₁₂ .before .before .before .before .before .before .pre) (c .before .neg .ensures) (c .dot .ensures))
 
 pub linear-row-spec : {M : Type 1} → statement M
 linear-row-spec =

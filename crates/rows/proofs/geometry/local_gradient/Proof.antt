@@ -1,3 +1,4 @@
+-- `geometry::local_gradient` meets its contract.
 use Rattle.rows.proofs.RowLaws.{local-is}
 use borrow.Author.Needs.{needs}
 use Rattle.rows.proofs.geometry.local_gradient.Statement.{statement}
@@ -25,7 +26,11 @@ scale-requires-3 : tie.Need-scale-requires-3
 scale-requires-3 c κs = search needs
 
 returns : tie.Need-returns
-returns c = local-is _ _ _ (c .before .before .before .before .before .before .new .ensures) (c .before .before .before .before .before .scale .ensures) (c .before .before .before .before .cross .ensures) (c .before .before .before .add .ensures) (c .before .before .scale2 .ensures) (c .before .sub .ensures) (c .scale3 .ensures)
+returns c =
+    local-is _ _ _
+    (c .before .before .before .before .before .before .new .ensures) (c .before .before .before .before .before .scale .ensures)
+    (c .before .before .before .before .cross .ensures) (c .before .before .before .add .ensures) (c .before .before .scale2 .ensures)
+    (c .before .sub .ensures) (c .scale3 .ensures)
 
 pub local-gradient-spec : {M : Type 1} → statement M
 local-gradient-spec =

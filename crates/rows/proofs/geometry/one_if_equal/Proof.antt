@@ -1,5 +1,5 @@
+-- `geometry::one_if_equal` meets its contract.
 use Rattle.rows.proofs.AppendLaws.{one-no, one-yes}
-use borrow.Author.Needs.{needs}
 use Rattle.rows.proofs.geometry.one_if_equal.Statement.{statement}
 use Rattle.rows.proofs.geometry.one_if_equal.Tie as tie
 

@@ -1,3 +1,4 @@
+-- `geometry::relative_of` meets its contract.
 use Rattle.rows.proofs.RowLaws.{relative-1, relative-2, relative-3}
 use Rattle.rows.specs.AnswerLaws.{quat-go, quat-stop}
 use Rattle.rows.specs.Fault.{arithmeticOverflow}
@@ -21,19 +22,32 @@ enum-told : tie.Need-enum-told
 enum-told c = search needs
 
 returns : tie.Need-returns
-returns c = relative-1 _ _ _ (c .before .before .before .before .conjugate .ensures) (c .before .before .before .product .ensures) (quat-stop arithmeticOverflow (c .before .before .try-normalize .ensures) (c .enum-told .given .1))
+returns c =
+    relative-1 _ _ _
+    (c .before .before .before .before .conjugate .ensures) (c .before .before .before .product .ensures)
+    (quat-stop arithmeticOverflow (c .before .before .try-normalize .ensures) (c .enum-told .given .1))
 
 half-turned-requires : tie.Need-half-turned-requires
 half-turned-requires c κs = search needs
 
 returns-2 : tie.Need-returns-2
-returns-2 c = relative-2 _ _ _ (c .before .before .before .before .before .before .before .before .before .conjugate .ensures) (c .before .before .before .before .before .before .before .before .product .ensures) (quat-go arithmeticOverflow (c .before .before .before .before .before .before .before .try-normalize .ensures) (c .before .before .before .before .before .q .given .1)) (c .before .half-turned .ensures) (c .if1 .taken)
+returns-2 c =
+    let c₆ = c .before .before .before .before .before .before in
+    relative-2 _ _ _
+    (c₆ .before .before .before .conjugate .ensures) (c₆ .before .before .product .ensures)
+    (quat-go arithmeticOverflow (c₆ .before .try-normalize .ensures) (c .before .before .before .before .before .q .given .1))
+    (c .before .half-turned .ensures) (c .if1 .taken)
 
 sqrt-requires : tie.Need-sqrt-requires
 sqrt-requires c κs = search needs
 
 returns-3 : tie.Need-returns-3
-returns-3 c = relative-3 _ _ _ (c .before .before .before .before .before .before .before .before .before .before .conjugate .ensures) (c .before .before .before .before .before .before .before .before .before .product .ensures) (quat-go arithmeticOverflow (c .before .before .before .before .before .before .before .before .try-normalize .ensures) (c .before .before .before .before .before .before .q .given .1)) (c .before .before .half-turned .ensures) (c .before .if1 .left) (c .sqrt .ensures)
+returns-3 c =
+    let c₆ = c .before .before .before .before .before .before in
+    relative-3 _ _ _
+    (c₆ .before .before .before .before .conjugate .ensures) (c₆ .before .before .before .product .ensures)
+    (quat-go arithmeticOverflow (c₆ .before .before .try-normalize .ensures) (c .before .before .before .before .before .before .q .given .1))
+    (c .before .before .half-turned .ensures) (c .before .if1 .left) (c .sqrt .ensures)
 
 pub relative-of-spec : {M : Type 1} → statement M
 relative-of-spec =

@@ -1,6 +1,7 @@
+-- `geometry::row_count` meets its contract.
 use Rattle.rows.proofs.AppendLaws.{count-cone, one-most}
-use native.Mathlib.Omega.{arith}
 use borrow.Author.Needs.{needs}
+use native.Mathlib.Omega.{arith}
 use Rattle.rows.proofs.geometry.row_count.Statement.{statement}
 use Rattle.rows.proofs.geometry.row_count.Tie as tie
 
@@ -38,7 +39,8 @@ one-if-equal-requires-3 : tie.Need-one-if-equal-requires-3
 one-if-equal-requires-3 c κs = search needs
 
 add-result-3 : tie.Need-add-result-3
-add-result-3 c = omega (arith, one-most _ (c .before .before .one-if-equal .ensures), one-most _ (c .before .one-if-equal2 .ensures), one-most _ (c .one-if-equal3 .ensures))
+add-result-3 c =
+    omega (arith, one-most _ (c .before .before .one-if-equal .ensures), one-most _ (c .before .one-if-equal2 .ensures), one-most _ (c .one-if-equal3 .ensures))
 
 returns : tie.Need-returns
 returns c = search needs
@@ -56,7 +58,10 @@ returns-5 : tie.Need-returns-5
 returns-5 c = search needs
 
 returns-6 : tie.Need-returns-6
-returns-6 c = count-cone (c .before .before .before .before .kind .given .1) (c .before .before .one-if-equal .ensures) (c .before .one-if-equal2 .ensures) (c .one-if-equal3 .ensures)
+returns-6 c =
+    count-cone
+    (c .before .before .before .before .kind .given .1) (c .before .before .one-if-equal .ensures) (c .before .one-if-equal2 .ensures)
+    (c .one-if-equal3 .ensures)
 
 pub row-count-spec : {M : Type 1} → statement M
 row-count-spec =

@@ -1,7 +1,8 @@
+-- `geometry::store2` meets its contract.
 use Rattle.rows.proofs.PlaceLaws.{stored2}
+use borrow.Author.Needs.{needs}
 use lib.ListN.{length-set}
 use native.Mathlib.Omega.{arith}
-use borrow.Author.Needs.{needs}
 use Rattle.rows.proofs.geometry.store2.Statement.{statement}
 use Rattle.rows.proofs.geometry.store2.Tie as tie
 

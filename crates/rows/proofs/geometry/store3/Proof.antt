@@ -1,7 +1,8 @@
+-- `geometry::store3` meets its contract.
 use Rattle.rows.proofs.PlaceLaws.{stored3}
+use borrow.Author.Needs.{needs}
 use lib.ListN.{length-set}
 use native.Mathlib.Omega.{arith}
-use borrow.Author.Needs.{needs}
 use Rattle.rows.proofs.geometry.store3.Statement.{statement}
 use Rattle.rows.proofs.geometry.store3.Tie as tie
 

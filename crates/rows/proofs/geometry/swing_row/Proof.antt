@@ -1,3 +1,4 @@
+-- `geometry::swing_row` meets its contract.
 use Rattle.rows.proofs.RowLaws.{swing-is}
 use borrow.Author.Needs.{needs}
 use Rattle.rows.proofs.geometry.swing_row.Statement.{statement}
@@ -16,7 +17,11 @@ gradient-row-requires : tie.Need-gradient-row-requires
 gradient-row-requires c κs = search needs
 
 returns : tie.Need-returns
-returns c = swing-is _ _ _ _ (c .before .before .before .before .before .before .before .before .before .scale .ensures) (c .before .before .before .before .before .before .scale2 .ensures) (c .before .before .before .before .before .sub .ensures) (c .gradient-row .ensures)
+returns c =
+    let c₆ = c .before .before .before .before .before .before in
+    swing-is _ _ _ _
+    (c₆ .before .before .before .scale .ensures) (c .before .before .before .before .before .before .scale2 .ensures)
+    (c .before .before .before .before .before .sub .ensures) (c .gradient-row .ensures)
 
 pub swing-row-spec : {M : Type 1} → statement M
 swing-row-spec =

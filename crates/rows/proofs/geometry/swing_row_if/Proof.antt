@@ -1,3 +1,4 @@
+-- `geometry::swing_row_if` meets its contract.
 use Rattle.rows.proofs.RowLaws.{row-free, row-locked, zero-test}
 use borrow.Author.Needs.{needs}
 use Rattle.rows.proofs.geometry.swing_row_if.Statement.{statement}

@@ -1,3 +1,4 @@
+-- `geometry::swing_y` meets its contract.
 use Rattle.rows.proofs.RowLaws.{swing-y-is}
 use borrow.Author.Needs.{needs}
 use Rattle.rows.proofs.geometry.swing_y.Statement.{statement}

@@ -1,3 +1,4 @@
+-- `geometry::tolerance` meets its contract.
 use Rattle.rows.proofs.RowLaws.{tolerance-1, tolerance-2, tolerance-3}
 use Rattle.rows.specs.AnswerLaws.{number-go, number-stop}
 use Rattle.rows.specs.Fault.{arithmeticOverflow}
@@ -27,13 +28,20 @@ enum-told-2 : tie.Need-enum-told-2
 enum-told-2 c = search needs
 
 returns-2 : tie.Need-returns-2
-returns-2 c = tolerance-2 _ _ (number-go arithmeticOverflow (c .before .before .before .before .before .before .checked-length .ensures) (c .before .before .before .before .la .given .1)) (number-stop arithmeticOverflow (c .before .before .checked-length2 .ensures) (c .enum-told2 .given .1))
+returns-2 c =
+    tolerance-2 _ _
+    (number-go arithmeticOverflow (c .before .before .before .before .before .before .checked-length .ensures) (c .before .before .before .before .la .given .1))
+    (number-stop arithmeticOverflow (c .before .before .checked-length2 .ensures) (c .enum-told2 .given .1))
 
 max-requires : tie.Need-max-requires
 max-requires c κs = search needs
 
 returns-3 : tie.Need-returns-3
-returns-3 c = tolerance-3 _ _ (number-go arithmeticOverflow (c .before .before .before .before .before .before .before .before .checked-length .ensures) (c .before .before .before .before .before .before .la .given .1)) (number-go arithmeticOverflow (c .before .before .before .before .checked-length2 .ensures) (c .before .before .lb .given .1)) (c .max .ensures)
+returns-3 c =
+    let c₆ = c .before .before .before .before .before .before in
+    tolerance-3 _ _
+    (number-go arithmeticOverflow (c₆ .before .before .checked-length .ensures) (c .before .before .before .before .before .before .la .given .1))
+    (number-go arithmeticOverflow (c .before .before .before .before .checked-length2 .ensures) (c .before .before .lb .given .1)) (c .max .ensures)
 
 pub tolerance-spec : {M : Type 1} → statement M
 tolerance-spec =

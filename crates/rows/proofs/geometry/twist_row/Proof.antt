@@ -1,3 +1,4 @@
+-- `geometry::twist_row` meets its contract.
 use Rattle.rows.proofs.RowLaws.{single-stop, twist-1, twist-2, twist-3}
 use borrow.Author.Needs.{needs}
 use Rattle.rows.proofs.geometry.twist_row.Statement.{statement}
@@ -22,7 +23,9 @@ abs-requires : tie.Need-abs-requires
 abs-requires c κs = search needs
 
 returns-2 : tie.Need-returns-2
-returns-2 c = single-stop _ (twist-2 _ _ _ _ (c .before .before .before .before .before .before .atan2 .ensures) (c .before .before .before .before .half .given .1) (c .before .before .rem-tau .ensures) (c .before .abs .ensures) (c .if1 .taken))
+returns-2 c =
+    single-stop _
+    (twist-2 _ _ _ _ (c .before .before .before .before .before .before .atan2 .ensures) (c .before .before .before .before .half .given .1) (c .before .before .rem-tau .ensures) (c .before .abs .ensures) (c .if1 .taken))
 
 scale-requires : tie.Need-scale-requires
 scale-requires c κs = search needs
@@ -31,7 +34,12 @@ gradient-row-requires : tie.Need-gradient-row-requires
 gradient-row-requires c κs = search needs
 
 returns-3 : tie.Need-returns-3
-returns-3 c = twist-3 _ _ _ _ (c .before .before .before .before .before .before .before .before .before .before .before .before .atan2 .ensures) (c .before .before .before .before .before .before .before .before .before .before .half .given .1) (c .before .before .before .before .before .before .before .before .rem-tau .ensures) (c .before .before .before .before .before .before .before .abs .ensures) (c .before .before .before .before .before .before .if1 .left) (c .before .before .before .scale .ensures) (c .gradient-row .ensures)
+returns-3 c =
+    let c₆ = c .before .before .before .before .before .before in
+    twist-3 _ _ _ _
+    (c₆ .before .before .before .before .before .before .atan2 .ensures) (c₆ .before .before .before .before .half .given .1)
+    (c₆ .before .before .rem-tau .ensures) (c₆ .before .abs .ensures) (c .before .before .before .before .before .before .if1 .left)
+    (c .before .before .before .scale .ensures) (c .gradient-row .ensures)
 
 pub twist-row-spec : {M : Type 1} → statement M
 twist-row-spec =

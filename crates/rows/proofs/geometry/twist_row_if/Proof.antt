@@ -1,3 +1,4 @@
+-- `geometry::twist_row_if` meets its contract.
 use Rattle.rows.proofs.RowLaws.{row-free, row-locked}
 use borrow.Author.Needs.{needs}
 use Rattle.rows.proofs.geometry.twist_row_if.Statement.{statement}

@@ -1,5 +1,5 @@
+-- `geometry::values_finite` meets its contract.
 use Prim.Native.Nat.{_-_, _≤_, ℕ}
-use Rattle.arith.specs.Flow.{loop}
 use Rattle.rows.proofs.WriteLaws.{finite-all, finite-more, finite-none, finite-stop}
 use Rattle.rows.specs.Geometry.{finiteValues}
 use Rattle.rows.specs.View.{rowsAt}
@@ -38,7 +38,10 @@ is-finite-requires : tie.Need-is-finite-requires Inv-loop μ-loop
 is-finite-requires c κs = omega arith
 
 returns : tie.Need-returns Inv-loop μ-loop
-returns c = finite-stop (now (c .before .before .before .before .before .before .args .s)) (c .before .before .before .before .before .before .args .at) _ _ (c .before .before .before .loop-test .taken) (c .before .is-finite .ensures) (c .if1 .taken)
+returns c =
+    finite-stop
+    (now (c .before .before .before .before .before .before .args .s)) (c .before .before .before .before .before .before .args .at) _ _
+    (c .before .before .before .loop-test .taken) (c .before .is-finite .ensures) (c .if1 .taken)
 
 add-k : tie.Need-add-k Inv-loop μ-loop
 add-k c = omega arith
@@ -47,10 +50,14 @@ loop-less : tie.Need-loop-less Inv-loop μ-loop
 loop-less c = omega arith
 
 loop-again : tie.Need-loop-again Inv-loop μ-loop
-loop-again c = (omega arith, finite-more (now (c .before .before .before .before .before .before .args .s)) (c .before .before .before .before .before .before .args .at) (c .before .before .before .before .loop .k) (c .before .before .before .before .loop .inv .1) (c .before .is-finite .ensures) (c .if1 .left))
+loop-again c =
+    (omega arith, finite-more (now (c .before .before .before .before .before .before .args .s)) (c .before .before .before .before .before .before .args .at) (c .before .before .before .before .loop .k) (c .before .before .before .before .loop .inv .1) (c .before .is-finite .ensures) (c .if1 .left))
 
 returns-2 : tie.Need-returns-2 Inv-loop μ-loop
-returns-2 c = finite-all (now (c .before .before .before .args .s)) (c .before .before .before .args .at) (c .before .loop .inv .0) (c .loop-test .left) (c .before .loop .inv .1)
+returns-2 c =
+    finite-all
+    (now (c .before .before .before .args .s)) (c .before .before .before .args .at) (c .before .loop .inv .0) (c .loop-test .left)
+    (c .before .loop .inv .1)
 
 pub values-finite-spec : {M : Type 1} → statement M
 values-finite-spec =

@@ -1,34 +1,24 @@
 use native.Mathlib.Omega.{arith}
+use borrow.Author.Needs.{needs}
 use mathlib.Core.Path.{_≡_, refl, sym, ap, _∙_}
-use mathlib.Core.Logic.{⊎-elim}
-use Prim.Native.Nat.{ℕ, _+_, _*_, _≤_, _<_, _-_, min}
-use lib.ListN.{length, getD, length-set}
-use Rattle.solves.proofs.RowLaws.{a-below, b-below, few-passes}
-use Rattle.solves.proofs.OperatorLaws.{rows-kept}
-use Rattle.rows.specs.declared.geometry.EqualityRow.{EqualityRow}
+use Prim.Native.Nat.{_+_, _*_, _≤_, _<_, _-_}
+use lib.ListN.{length, length-set}
+use denote.Ref.{now}
+use Rattle.solves.proofs.BlockLaws.{Starts, starts-none, starts-more, blocks-made}
 use Rattle.solves.proofs.path.path_blocks.Statement.{statement}
 use Rattle.solves.proofs.path.path_blocks.Tie as tie
 
 abbrev Inv-loop : tie.InvT-loop
-Inv-loop ia ib n starts₀ count₀ i₀ starts count i = (i ≤ n) × (count ≤ i)
+Inv-loop ia ib n starts₀ count₀ i₀ starts count i = (i ≤ n) × (Starts ia ib n i starts count)
 
 abbrev μ-loop : tie.MeasureT-loop
 μ-loop ia ib n starts₀ count₀ i₀ starts count i = n - i
 
 loop-holds : tie.Need-loop-holds Inv-loop μ-loop
-loop-holds c = (omega arith, omega arith)
+loop-holds c = (omega arith, starts-none _ _ _)
 
-begins-requires : tie.Need-begins-requires Inv-loop μ-loop
-begins-requires c κs = omega arith
-
-mul-starts : tie.Need-mul-starts Inv-loop μ-loop
-mul-starts c = omega arith
-
-array-write-starts : tie.Need-array-write-starts Inv-loop μ-loop
-array-write-starts c = omega arith
-
-add-count : tie.Need-add-count Inv-loop μ-loop
-add-count c = omega arith
+note-start-requires : tie.Need-note-start-requires Inv-loop μ-loop
+note-start-requires c κs = omega (arith, c .before .before .loop .inv .1 .few, c .before .loop-test .taken, c .before .before .before .pre .0)
 
 add-i : tie.Need-add-i Inv-loop μ-loop
 add-i c = omega arith
@@ -37,16 +27,16 @@ loop-less : tie.Need-loop-less Inv-loop μ-loop
 loop-less c = omega arith
 
 loop-again : tie.Need-loop-again Inv-loop μ-loop
-loop-again c = ⊎-elim (λ w. (omega arith, omega arith)) (λ w. (omega arith, omega arith)) (c .if1 .came)
+loop-again c = (omega arith, starts-more _ _ _ (c .before .before .before .loop .inv .1) (c .before .before .loop-test .taken) (c .before .before .before .before .pre .0) (c .note-start .ensures .0) (c .note-start .ensures .1))
 
-mul-starts-2 : tie.Need-mul-starts-2 Inv-loop μ-loop
-mul-starts-2 c = omega arith
+mul-starts : tie.Need-mul-starts Inv-loop μ-loop
+mul-starts c = omega (arith, c .before .loop .inv .1 .few, c .before .before .pre .0)
 
-array-write-starts-2 : tie.Need-array-write-starts-2 Inv-loop μ-loop
-array-write-starts-2 c = omega arith
+array-write-starts : tie.Need-array-write-starts Inv-loop μ-loop
+array-write-starts c = omega (arith, c .before .loop .inv .1 .few, c .before .before .pre .0)
 
 returns : tie.Need-returns Inv-loop μ-loop
-returns c = omega arith
+returns c = blocks-made _ _ _ (c .before .before .pre .0) (c .before .before .pre .1) (c .before .before .pre .2) (c .before .loop .inv .1) (c .before .loop .inv .0) (c .loop-test .left)
 
 pub path-blocks-spec : {M : Type 1} → statement M
 path-blocks-spec =
@@ -55,13 +45,10 @@ path-blocks-spec =
     Inv-loop
     μ-loop
     loop-holds
-    begins-requires
-    mul-starts
-    array-write-starts
-    add-count
+    note-start-requires
     add-i
     loop-less
     loop-again
-    mul-starts-2
-    array-write-starts-2
+    mul-starts
+    array-write-starts
     returns)

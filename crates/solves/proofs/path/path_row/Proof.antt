@@ -1,32 +1,40 @@
 use native.Mathlib.Omega.{arith}
-use mathlib.Core.Path.{_≡_, refl, sym, ap, _∙_}
-use mathlib.Core.Logic.{⊎-elim}
-use Prim.Native.Nat.{ℕ, _+_, _*_, _≤_, _<_, _-_, min}
-use lib.ListN.{length, getD, length-set}
-use Rattle.solves.proofs.RowLaws.{a-below, b-below, few-passes}
-use Rattle.solves.proofs.OperatorLaws.{rows-kept}
-use Rattle.rows.specs.declared.geometry.EqualityRow.{EqualityRow}
 use borrow.Author.Needs.{needs}
+use mathlib.Core.Path.{_≡_, refl, sym, ap, _∙_}
+use Prim.Native.Nat.{_+_, _*_, _≤_, _<_, _-_}
+use lib.ListN.{length, length-set}
+use denote.Ref.{now}
+use Rattle.arith.specs.Flow.{go, loop}
+use Rattle.rows.specs.View.{Out}
+use Rattle.solves.specs.declared.Part.{Part}
+use Rattle.solves.specs.Path.{pathEntry}
+use Rattle.solves.specs.Answer.{partAs}
+use Rattle.solves.specs.Region.{vecAt, Does}
+use Rattle.solves.specs.View.{rowsOn, massesAt, listAt, bandAt, MASSES, PATH-BAND, PATH-SCALE}
+use Rattle.solves.proofs.DoesLaws.{does-as}
+use Rattle.solves.proofs.OperatorLaws.{rows-kept}
+use Rattle.solves.proofs.FactorLaws.{entries-start, entries-more, entries-stop, entries-end}
+use Rattle.solves.proofs.RefineLaws.{does-eq}
 use Rattle.solves.proofs.path.path_row.Statement.{statement}
 use Rattle.solves.proofs.path.path_row.Tie as tie
 
 abbrev Inv-loop : tie.InvT-loop
-Inv-loop s₀ ia ib rows order n count i j₀ j-end s j = (i - 11 ≤ j) × (j ≤ j-end) × (j-end ≡ i + 1) × (length s ≡ length s₀)
+Inv-loop s₀ ia ib rows order n count i j₀ j-end s j = (i - 11 ≤ j) × (j ≤ i + 1) × (length s ≡ length s₀) × (Does (λ k. Out PATH-BAND 1152 k) s₀ s (go (bandAt s n)) (loop (j - (i - 11)) (λ t band. pathEntry (rowsOn ia ib s₀ rows n) (massesAt s₀ MASSES count) (listAt order n) (vecAt s₀ PATH-SCALE n) i (i - 11 + t) band) (bandAt s₀ n)))
 
 abbrev μ-loop : tie.MeasureT-loop
-μ-loop s₀ ia ib rows order n count i j₀ j-end s j = j-end - j
+μ-loop s₀ ia ib rows order n count i j₀ j-end s j = i + 1 - j
 
 band-start-requires : tie.Need-band-start-requires Inv-loop μ-loop
-band-start-requires c κs = omega arith
+band-start-requires c κs = search needs
 
 add-j-end : tie.Need-add-j-end Inv-loop μ-loop
-add-j-end c = omega arith
+add-j-end c = omega (arith, c .before .before .pre .2, c .before .before .pre .0 .most)
 
 loop-holds : tie.Need-loop-holds Inv-loop μ-loop
-loop-holds c = (omega arith, omega arith, omega arith, refl)
+loop-holds c = (omega (arith, c .band-start .ensures), omega (arith, c .band-start .ensures), refl, does-eq refl (entries-start (c .before .before .pre .0) (now (c .before .before .args .order)) (c .before .before .args .i) _ (c .band-start .ensures)))
 
 path-entry-requires : tie.Need-path-entry-requires Inv-loop μ-loop
-path-entry-requires c κs = (rows-kept (c .before .before .before .before .before .pre .0) (c .before .before .loop .inv .3), c .before .before .before .before .before .pre .1, omega arith, omega arith)
+path-entry-requires c κs = (rows-kept (c .before .before .before .before .before .pre .0) (c .before .before .loop .inv .2), c .before .before .before .before .before .pre .1, c .before .before .before .before .before .pre .2, omega (arith, c .before .loop-test .taken), omega (arith, c .before .before .loop .inv .0))
 
 enum-told : tie.Need-enum-told Inv-loop μ-loop
 enum-told c = search needs
@@ -35,34 +43,34 @@ enum-told-2 : tie.Need-enum-told-2 Inv-loop μ-loop
 enum-told-2 c = search needs
 
 same-length : tie.Need-same-length Inv-loop μ-loop
-same-length c = omega arith
+same-length c = c .before .before .before .before .path-entry .ensures .kept .size ∙ c .before .before .before .before .before .before .before .loop .inv .2
 
 returns : tie.Need-returns Inv-loop μ-loop
-returns c = omega arith
+returns c = entries-stop (c .before .before .before .before .before .before .before .before .before .before .pre .0) (now (c .before .before .before .before .before .before .before .before .before .before .args .order)) (c .before .before .before .before .before .before .before .before .before .before .args .i) _ (c .before .before .before .before .before .before .before .loop .inv .3) (c .before .before .before .before .before .before .before .loop .inv .0) (c .before .before .before .before .before .before .loop-test .taken) (does-as (λ (q : Part). partAs q (bandAt (c .before .before .before .before .path-entry .last .0) (c .before .before .before .before .before .before .before .before .before .before .args .n))) (c .enum-told2 .given .1) (c .before .before .before .before .path-entry .ensures))
 
 enum-told-3 : tie.Need-enum-told-3 Inv-loop μ-loop
 enum-told-3 c = search needs
 
 same-length-2 : tie.Need-same-length-2 Inv-loop μ-loop
-same-length-2 c = omega arith
+same-length-2 c = c .before .before .before .before .path-entry .ensures .kept .size ∙ c .before .before .before .before .before .before .before .loop .inv .2
 
 returns-2 : tie.Need-returns-2 Inv-loop μ-loop
-returns-2 c = omega arith
+returns-2 c = entries-stop (c .before .before .before .before .before .before .before .before .before .before .pre .0) (now (c .before .before .before .before .before .before .before .before .before .before .args .order)) (c .before .before .before .before .before .before .before .before .before .before .args .i) _ (c .before .before .before .before .before .before .before .loop .inv .3) (c .before .before .before .before .before .before .before .loop .inv .0) (c .before .before .before .before .before .before .loop-test .taken) (does-as (λ (q : Part). partAs q (bandAt (c .before .before .before .before .path-entry .last .0) (c .before .before .before .before .before .before .before .before .before .before .args .n))) (c .enum-told3 .given .1) (c .before .before .before .before .path-entry .ensures))
 
 add-j : tie.Need-add-j Inv-loop μ-loop
-add-j c = omega arith
+add-j c = omega (arith, c .before .before .before .before .before .before .loop-test .taken, c .before .before .before .before .before .before .before .before .before .before .pre .2, c .before .before .before .before .before .before .before .before .before .before .pre .0 .most)
 
 loop-less : tie.Need-loop-less Inv-loop μ-loop
-loop-less c = omega arith
+loop-less c = omega (arith, c .before .before .before .before .before .before .loop-test .taken)
 
 loop-again : tie.Need-loop-again Inv-loop μ-loop
-loop-again c = (omega arith, omega arith, omega arith, omega arith)
+loop-again c = (omega (arith, c .before .before .before .before .before .before .before .loop .inv .0), omega (arith, c .before .before .before .before .before .before .loop-test .taken), c .before .before .before .before .path-entry .ensures .kept .size ∙ c .before .before .before .before .before .before .before .loop .inv .2, entries-more (c .before .before .before .before .before .before .before .before .before .before .pre .0) (now (c .before .before .before .before .before .before .before .before .before .before .args .order)) (c .before .before .before .before .before .before .before .before .before .before .args .i) _ (c .before .before .before .before .before .before .before .loop .inv .3) (c .before .before .before .before .before .before .before .loop .inv .0) (does-as (λ (q : Part). partAs q (bandAt (c .before .before .before .before .path-entry .last .0) (c .before .before .before .before .before .before .before .before .before .before .args .n))) (c .enum-told .given .1) (c .before .before .before .before .path-entry .ensures)))
 
 same-length-3 : tie.Need-same-length-3 Inv-loop μ-loop
-same-length-3 c = omega arith
+same-length-3 c = c .before .loop .inv .2
 
 returns-3 : tie.Need-returns-3 Inv-loop μ-loop
-returns-3 c = omega arith
+returns-3 c = entries-end (c .before .before .before .before .pre .0) (now (c .before .before .before .before .args .order)) (c .before .before .before .before .args .i) _ (c .before .loop .inv .3) (c .before .loop .inv .1) (c .loop-test .left)
 
 pub path-row-spec : {M : Type 1} → statement M
 path-row-spec =

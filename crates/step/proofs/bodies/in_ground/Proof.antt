@@ -1,18 +1,26 @@
+use mathlib.Core.Path.{_≡_, sym, _∙_}
+use Rattle.step.proofs.CheckWays.{ground-is, within-at}
 use native.Mathlib.Omega.{arith}
-use mathlib.Core.Path.{_≡_, refl, sym, ap, _∙_}
-use Prim.Native.Nat.{ℕ, _+_, _*_, _≤_, _<_, _-_}
-use lib.ListN.{length, getD, length-set}
+use Prim.Native.Nat.{ℕ, _+_, _*_, _≤_, _-_}
+use mathlib.Core.Bool.{true}
+use denote.Ref.{now}
+use Rattle.arith.specs.Real.{ratio}
+use Rattle.arith.specs.Flow.{every}
+use Rattle.arith.specs.FlowLaws.{not-yes, not-no, every-none, every-more, every-fail, every-end}
+use Rattle.rows.specs.View.{vec3At}
+use Rattle.solves.specs.View.{CANDIDATE}
+use Rattle.step.specs.Checks.{withinOf}
 use Rattle.step.proofs.bodies.in_ground.Statement.{statement}
 use Rattle.step.proofs.bodies.in_ground.Tie as tie
 
 abbrev Inv-loop : tie.InvT-loop
-Inv-loop s n k₀ k = k ≤ n
+Inv-loop s n k₀ k = (k ≤ n) × (true ≡ every k (λ j. withinOf (vec3At s (CANDIDATE + 13 * j)) (ratio 8192 1)))
 
 abbrev μ-loop : tie.MeasureT-loop
 μ-loop s n k₀ k = n - k
 
 loop-holds : tie.Need-loop-holds Inv-loop μ-loop
-loop-holds c = omega arith
+loop-holds c = (omega arith, every-none _)
 
 mul-load3 : tie.Need-mul-load3 Inv-loop μ-loop
 mul-load3 c = omega arith
@@ -27,7 +35,7 @@ within-requires : tie.Need-within-requires Inv-loop μ-loop
 within-requires c κs = omega arith
 
 returns : tie.Need-returns Inv-loop μ-loop
-returns c = omega arith
+returns c = every-fail (λ (j : ℕ). withinOf (vec3At (now (c .before .before .before .before .before .before .args .s)) (CANDIDATE + 13 * j)) (ratio 8192 1)) _ (omega arith) (sym (within-at (c .before .within .ensures) (c .before .before .load3 .ensures) ground-is) ∙ not-yes _ (c .if1 .taken))
 
 add-k : tie.Need-add-k Inv-loop μ-loop
 add-k c = omega arith
@@ -36,10 +44,10 @@ loop-less : tie.Need-loop-less Inv-loop μ-loop
 loop-less c = omega arith
 
 loop-again : tie.Need-loop-again Inv-loop μ-loop
-loop-again c = omega arith
+loop-again c = (omega arith, every-more (λ (j : ℕ). withinOf (vec3At (now (c .before .before .before .before .before .before .args .s)) (CANDIDATE + 13 * j)) (ratio 8192 1)) (c .before .before .before .before .loop .inv .1) (sym (within-at (c .before .within .ensures) (c .before .before .load3 .ensures) ground-is) ∙ not-no _ (c .if1 .left)))
 
 returns-2 : tie.Need-returns-2 Inv-loop μ-loop
-returns-2 c = omega arith
+returns-2 c = every-end (λ (j : ℕ). withinOf (vec3At (now (c .before .before .before .args .s)) (CANDIDATE + 13 * j)) (ratio 8192 1)) (omega arith) (omega arith) (c .before .loop .inv .1)
 
 pub in-ground-spec : {M : Type 1} → statement M
 in-ground-spec =

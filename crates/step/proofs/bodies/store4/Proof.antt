@@ -1,7 +1,6 @@
+use Rattle.step.proofs.BodyLaws.{stored4}
 use native.Mathlib.Omega.{arith}
-use mathlib.Core.Path.{_≡_, refl, sym, ap, _∙_}
-use Prim.Native.Nat.{ℕ, _+_, _*_, _≤_, _<_, _-_}
-use lib.ListN.{length, getD, length-set}
+use lib.ListN.{length-set}
 use borrow.Author.Needs.{needs}
 use Rattle.step.proofs.bodies.store4.Statement.{statement}
 use Rattle.step.proofs.bodies.store4.Tie as tie
@@ -43,7 +42,7 @@ same-length : tie.Need-same-length
 same-length c = search needs
 
 returns : tie.Need-returns
-returns c = search needs
+returns c = stored4 _ _ _ (c .pre)
 
 pub store4-spec : {M : Type 1} → statement M
 store4-spec =

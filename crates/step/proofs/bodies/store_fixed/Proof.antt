@@ -1,7 +1,6 @@
+use Rattle.step.proofs.BodyLaws.{stored-fixed}
 use native.Mathlib.Omega.{arith}
-use mathlib.Core.Path.{_≡_, refl, sym, ap, _∙_}
-use Prim.Native.Nat.{ℕ, _+_, _*_, _≤_, _<_, _-_}
-use lib.ListN.{length, getD, length-set}
+use lib.ListN.{length-set}
 use borrow.Author.Needs.{needs}
 use Rattle.step.proofs.bodies.store_fixed.Statement.{statement}
 use Rattle.step.proofs.bodies.store_fixed.Tie as tie
@@ -28,7 +27,7 @@ same-length : tie.Need-same-length
 same-length c = simp length-set (omega arith)
 
 returns : tie.Need-returns
-returns c = search needs
+returns c = stored-fixed _ (c .before .before .before .before .before .before .before .before .before .args .body) (omega arith) (c .before .before .before .before .before .before .store3 .ensures) (c .before .before .store-mat3 .ensures)
 
 pub store-fixed-spec : {M : Type 1} → statement M
 store-fixed-spec =

@@ -1,18 +1,20 @@
+use mathlib.Core.Path.{_≡_, refl}
+use Rattle.step.proofs.BodyLaws.{handed-none, handed-more, handed-end}
 use native.Mathlib.Omega.{arith}
-use mathlib.Core.Path.{_≡_, refl, sym, ap, _∙_}
-use Prim.Native.Nat.{ℕ, _+_, _*_, _≤_, _<_, _-_}
-use lib.ListN.{length, getD, length-set}
+use Prim.Native.Nat.{_≤_, _-_}
+use lib.ListN.{length}
+use Rattle.step.specs.View.{Handed}
 use Rattle.step.proofs.bodies.write_states.Statement.{statement}
 use Rattle.step.proofs.bodies.write_states.Tie as tie
 
 abbrev Inv-loop : tie.InvT-loop
-Inv-loop bodies₀ s n k₀ bodies k = (k ≤ n) × (length bodies ≡ length bodies₀)
+Inv-loop bodies₀ s n k₀ bodies k = (k ≤ n) × (length bodies ≡ length bodies₀) × (Handed k s bodies₀ bodies)
 
 abbrev μ-loop : tie.MeasureT-loop
 μ-loop bodies₀ s n k₀ bodies k = n - k
 
 loop-holds : tie.Need-loop-holds Inv-loop μ-loop
-loop-holds c = (omega arith, refl)
+loop-holds c = (omega arith, refl, handed-none _ _)
 
 mul-store-state : tie.Need-mul-store-state Inv-loop μ-loop
 mul-store-state c = omega arith
@@ -36,13 +38,13 @@ loop-less : tie.Need-loop-less Inv-loop μ-loop
 loop-less c = omega arith
 
 loop-again : tie.Need-loop-again Inv-loop μ-loop
-loop-again c = (omega arith, omega arith)
+loop-again c = (omega arith, omega arith, handed-more (c .before .before .before .before .before .before .loop .inv .2) (c .before .before .store-state .ensures) (c .before .before .before .load-state .ensures))
 
 same-length : tie.Need-same-length Inv-loop μ-loop
 same-length c = omega arith
 
 returns : tie.Need-returns Inv-loop μ-loop
-returns c = omega arith
+returns c = handed-end (omega arith) (omega arith) (c .before .loop .inv .2)
 
 pub write-states-spec : {M : Type 1} → statement M
 write-states-spec =

@@ -1,7 +1,5 @@
-use native.Mathlib.Omega.{arith}
-use mathlib.Core.Path.{_≡_, refl, sym, ap, _∙_}
-use Prim.Native.Nat.{ℕ, _+_, _*_, _≤_, _<_, _-_}
-use lib.ListN.{length, getD, length-set}
+use mathlib.Core.Path.{ap}
+use Prim.Native.Nat.{ℕ}
 use lib.Dec.{eqb}
 use borrow.Author.Needs.{needs}
 use Rattle.step.proofs.checks.accepted.Statement.{statement}

@@ -1,18 +1,24 @@
+use mathlib.Core.Path.{_≡_, refl, sym, _∙_}
 use native.Mathlib.Omega.{arith}
-use mathlib.Core.Path.{_≡_, refl, sym, ap, _∙_}
-use Prim.Native.Nat.{ℕ, _+_, _*_, _≤_, _<_, _-_}
-use lib.ListN.{length, getD, length-set}
+use Prim.Native.Nat.{ℕ, _≤_, _-_}
+use mathlib.Core.Bool.{true}
+use lib.ListN.{length}
+use denote.Ref.{now}
+use Rattle.arith.specs.Real.{isFinite}
+use Rattle.arith.specs.Flow.{every}
+use Rattle.arith.specs.FlowLaws.{not-yes, not-no, every-none, every-more, every-fail, every-end}
+use Rattle.rows.specs.View.{at}
 use Rattle.step.proofs.checks.all_finite.Statement.{statement}
 use Rattle.step.proofs.checks.all_finite.Tie as tie
 
 abbrev Inv-loop : tie.InvT-loop
-Inv-loop bodies k₀ k-end k = (k ≤ k-end) × (k-end ≡ length bodies)
+Inv-loop bodies k₀ k-end k = (k ≤ k-end) × (k-end ≡ length bodies) × (true ≡ every k (λ j. isFinite (at bodies j)))
 
 abbrev μ-loop : tie.MeasureT-loop
 μ-loop bodies k₀ k-end k = k-end - k
 
 loop-holds : tie.Need-loop-holds Inv-loop μ-loop
-loop-holds c = omega arith
+loop-holds c = (omega arith, refl, every-none _)
 
 mul-is-finite : tie.Need-mul-is-finite Inv-loop μ-loop
 mul-is-finite c = omega arith
@@ -24,7 +30,7 @@ is-finite-requires : tie.Need-is-finite-requires Inv-loop μ-loop
 is-finite-requires c κs = omega arith
 
 returns : tie.Need-returns Inv-loop μ-loop
-returns c = omega arith
+returns c = every-fail (λ (j : ℕ). isFinite (at (now (c .before .before .before .before .before .before .args .bodies)) j)) _ (omega arith) (sym (c .before .is-finite .ensures) ∙ not-yes _ (c .if1 .taken))
 
 add-k : tie.Need-add-k Inv-loop μ-loop
 add-k c = omega arith
@@ -33,10 +39,10 @@ loop-less : tie.Need-loop-less Inv-loop μ-loop
 loop-less c = omega arith
 
 loop-again : tie.Need-loop-again Inv-loop μ-loop
-loop-again c = omega arith
+loop-again c = (omega arith, omega arith, every-more (λ (j : ℕ). isFinite (at (now (c .before .before .before .before .before .before .args .bodies)) j)) (c .before .before .before .before .loop .inv .2) (sym (c .before .is-finite .ensures) ∙ not-no _ (c .if1 .left)))
 
 returns-2 : tie.Need-returns-2 Inv-loop μ-loop
-returns-2 c = omega arith
+returns-2 c = every-end (λ (j : ℕ). isFinite (at (now (c .before .before .before .args .bodies)) j)) (omega arith) (omega arith) (c .before .loop .inv .2)
 
 pub all-finite-spec : {M : Type 1} → statement M
 all-finite-spec =

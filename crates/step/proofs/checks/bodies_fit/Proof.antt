@@ -1,18 +1,12 @@
-use native.Mathlib.Omega.{arith}
-use mathlib.Core.Path.{_≡_, refl, sym, ap, _∙_}
-use Prim.Native.Nat.{ℕ, _+_, _*_, _≤_, _<_, _-_}
-use lib.ListN.{length, getD, length-set}
-use Rattle.step.specs.Ready.{Joined, Joins, Sizes}
-use Rattle.step.proofs.StepLaws.{no-true, not-not, joins-none, joins-more, joins-end, time-step-refuses, bodies-refuse, joints-refuse, scratch-refuses, bodies-of-joints-refuse, numbers-refuse}
-use borrow.Author.Needs.{needs}
+use Rattle.step.proofs.CheckWays.{fit-yes, fit-no}
 use Rattle.step.proofs.checks.bodies_fit.Statement.{statement}
 use Rattle.step.proofs.checks.bodies_fit.Tie as tie
 
 returns : tie.Need-returns
-returns c = search needs
+returns c = fit-yes _ (c .if1 .taken)
 
 returns-2 : tie.Need-returns-2
-returns-2 c = λ h. no-true h
+returns-2 c = fit-no _ (c .if1 .left)
 
 pub bodies-fit-spec : {M : Type 1} → statement M
 bodies-fit-spec = tie.close (tie.spec returns returns-2)

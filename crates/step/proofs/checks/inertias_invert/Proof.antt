@@ -1,18 +1,23 @@
+use mathlib.Core.Path.{_≡_, sym, ap, _∙_}
 use native.Mathlib.Omega.{arith}
-use mathlib.Core.Path.{_≡_, refl, sym, ap, _∙_}
-use Prim.Native.Nat.{ℕ, _+_, _*_, _≤_, _<_, _-_}
-use lib.ListN.{length, getD, length-set}
+use Prim.Native.Nat.{ℕ, _≤_, _-_}
+use mathlib.Core.Bool.{true}
+use denote.Ref.{now}
+use Rattle.arith.specs.Flow.{every}
+use Rattle.arith.specs.FlowLaws.{not-yes, not-no, every-none, every-more, every-fail, every-end}
+use Rattle.step.specs.Records.{recordAt}
+use Rattle.step.specs.Checks.{hasInverse}
 use Rattle.step.proofs.checks.inertias_invert.Statement.{statement}
 use Rattle.step.proofs.checks.inertias_invert.Tie as tie
 
 abbrev Inv-loop : tie.InvT-loop
-Inv-loop bodies n k₀ k = k ≤ n
+Inv-loop bodies n k₀ k = (k ≤ n) × (true ≡ every k (λ j. hasInverse (recordAt bodies j)))
 
 abbrev μ-loop : tie.MeasureT-loop
 μ-loop bodies n k₀ k = n - k
 
 loop-holds : tie.Need-loop-holds Inv-loop μ-loop
-loop-holds c = omega arith
+loop-holds c = (omega arith, every-none _)
 
 load-record-requires : tie.Need-load-record-requires Inv-loop μ-loop
 load-record-requires c κs = omega arith
@@ -21,7 +26,7 @@ has-inverse-requires : tie.Need-has-inverse-requires Inv-loop μ-loop
 has-inverse-requires c κs = omega arith
 
 returns : tie.Need-returns Inv-loop μ-loop
-returns c = omega arith
+returns c = every-fail (λ (j : ℕ). hasInverse (recordAt (now (c .before .before .before .before .before .before .args .bodies)) j)) _ (omega arith) (sym (ap hasInverse (c .before .before .load-record .ensures)) ∙ sym (c .before .has-inverse .ensures) ∙ not-yes _ (c .if1 .taken))
 
 add-k : tie.Need-add-k Inv-loop μ-loop
 add-k c = omega arith
@@ -30,10 +35,10 @@ loop-less : tie.Need-loop-less Inv-loop μ-loop
 loop-less c = omega arith
 
 loop-again : tie.Need-loop-again Inv-loop μ-loop
-loop-again c = omega arith
+loop-again c = (omega arith, every-more (λ (j : ℕ). hasInverse (recordAt (now (c .before .before .before .before .before .before .args .bodies)) j)) (c .before .before .before .before .loop .inv .1) (sym (ap hasInverse (c .before .before .load-record .ensures)) ∙ sym (c .before .has-inverse .ensures) ∙ not-no _ (c .if1 .left)))
 
 returns-2 : tie.Need-returns-2 Inv-loop μ-loop
-returns-2 c = omega arith
+returns-2 c = every-end (λ (j : ℕ). hasInverse (recordAt (now (c .before .before .before .args .bodies)) j)) (omega arith) (omega arith) (c .before .loop .inv .1)
 
 pub inertias-invert-spec : {M : Type 1} → statement M
 inertias-invert-spec =

@@ -1,9 +1,6 @@
-use native.Mathlib.Omega.{arith}
-use mathlib.Core.Path.{_≡_, refl, sym, ap, _∙_}
-use Prim.Native.Nat.{ℕ, _+_, _*_, _≤_, _<_, _-_}
-use lib.ListN.{length, getD, length-set}
-use Rattle.step.specs.Ready.{Joined, Joins, Sizes}
-use Rattle.step.proofs.StepLaws.{no-true, not-not, bodies-of-joints-refuse, numbers-refuse}
+use mathlib.Core.Path.{refl}
+use Rattle.step.proofs.CheckWays.{refuses, passes}
+use Rattle.step.specs.Checks.{jointsOr}
 use borrow.Author.Needs.{needs}
 use Rattle.step.proofs.checks.joint_refusal.Statement.{statement}
 use Rattle.step.proofs.checks.joint_refusal.Tie as tie
@@ -12,16 +9,19 @@ joints-join-requires : tie.Need-joints-join-requires
 joints-join-requires c κs = search needs
 
 returns : tie.Need-returns
-returns c = λ h. bodies-of-joints-refuse h
+unfolding jointsOr
+returns c = refuses _ _ (c .before .joints-join .ensures) (c .if1 .taken)
 
 joints-ok-requires : tie.Need-joints-ok-requires
 joints-ok-requires c κs = search needs
 
 returns-2 : tie.Need-returns-2
-returns-2 c = λ h. numbers-refuse h
+unfolding jointsOr
+returns-2 c = passes _ (c .before .before .before .joints-join .ensures) (c .before .before .if1 .left) (refuses _ _ (c .before .joints-ok .ensures) (c .if2 .taken))
 
 returns-3 : tie.Need-returns-3
-returns-3 c = λ _. c .before .before .before .joints-join .ensures (not-not _ (c .before .before .if1 .left))
+unfolding jointsOr
+returns-3 c = passes _ (c .before .before .before .joints-join .ensures) (c .before .before .if1 .left) (passes _ (c .before .joints-ok .ensures) (c .if2 .left) refl)
 
 pub joint-refusal-spec : {M : Type 1} → statement M
 joint-refusal-spec =

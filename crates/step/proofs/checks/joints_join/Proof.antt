@@ -1,20 +1,21 @@
+use mathlib.Core.Path.{_≡_, sym, _∙_}
 use native.Mathlib.Omega.{arith}
-use mathlib.Core.Path.{_≡_, refl, sym, ap, _∙_}
-use Prim.Native.Nat.{ℕ, _+_, _*_, _≤_, _<_, _-_}
-use lib.ListN.{length, getD, length-set}
-use Rattle.step.specs.Ready.{Joined, Joins, Sizes}
-use Rattle.step.proofs.StepLaws.{no-true, not-not, joins-none, joins-more, joins-end, time-step-refuses, bodies-refuse, joints-refuse, scratch-refuses, bodies-of-joints-refuse, numbers-refuse}
+use Prim.Native.Nat.{ℕ, _≤_, _-_}
+use mathlib.Core.Bool.{true}
+use Rattle.arith.specs.Flow.{every}
+use Rattle.arith.specs.FlowLaws.{not-yes, not-no, every-none, every-more, every-fail, every-end}
+use Rattle.step.specs.Checks.{joinsTwo, jointIn}
 use Rattle.step.proofs.checks.joints_join.Statement.{statement}
 use Rattle.step.proofs.checks.joints_join.Tie as tie
 
 abbrev Inv-loop : tie.InvT-loop
-Inv-loop count n joints k₀ k = (k ≤ count) × (Joins joints k n)
+Inv-loop count n joints k₀ k = (k ≤ count) × (true ≡ every k (λ j. joinsTwo n (jointIn joints j)))
 
 abbrev μ-loop : tie.MeasureT-loop
 μ-loop count n joints k₀ k = count - k
 
 loop-holds : tie.Need-loop-holds Inv-loop μ-loop
-loop-holds c = (omega arith, joins-none _ _)
+loop-holds c = (omega arith, every-none _)
 
 mul-joins-two : tie.Need-mul-joins-two Inv-loop μ-loop
 mul-joins-two c = omega arith
@@ -26,7 +27,7 @@ joins-two-requires : tie.Need-joins-two-requires Inv-loop μ-loop
 joins-two-requires c κs = omega arith
 
 returns : tie.Need-returns Inv-loop μ-loop
-returns c = λ h. no-true h
+returns c = every-fail (λ (j : ℕ). joinsTwo (c .before .before .before .before .before .args .n) (jointIn (c .before .before .before .before .before .args .t1) j)) _ (omega arith) (sym (c .before .joins-two .ensures) ∙ not-yes _ (c .if1 .taken))
 
 add-k : tie.Need-add-k Inv-loop μ-loop
 add-k c = omega arith
@@ -35,10 +36,10 @@ loop-less : tie.Need-loop-less Inv-loop μ-loop
 loop-less c = omega arith
 
 loop-again : tie.Need-loop-again Inv-loop μ-loop
-loop-again c = (omega arith, joins-more (c .before .before .before .before .loop .inv .1) (c .if1 .left) (c .before .joins-two .ensures))
+loop-again c = (omega arith, every-more (λ (j : ℕ). joinsTwo (c .before .before .before .before .before .args .n) (jointIn (c .before .before .before .before .before .args .t1) j)) (c .before .before .before .before .loop .inv .1) (sym (c .before .joins-two .ensures) ∙ not-no _ (c .if1 .left)))
 
 returns-2 : tie.Need-returns-2 Inv-loop μ-loop
-returns-2 c = λ h. joins-end (omega arith) (omega arith) (c .before .loop .inv .1)
+returns-2 c = every-end (λ (j : ℕ). joinsTwo (c .before .before .args .n) (jointIn (c .before .before .args .t1) j)) (omega arith) (omega arith) (c .before .loop .inv .1)
 
 pub joints-join-spec : {M : Type 1} → statement M
 joints-join-spec =

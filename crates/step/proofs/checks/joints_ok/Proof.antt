@@ -1,18 +1,21 @@
+use mathlib.Core.Path.{_≡_, sym, _∙_}
 use native.Mathlib.Omega.{arith}
-use mathlib.Core.Path.{_≡_, refl, sym, ap, _∙_}
-use Prim.Native.Nat.{ℕ, _+_, _*_, _≤_, _<_, _-_}
-use lib.ListN.{length, getD, length-set}
+use Prim.Native.Nat.{ℕ, _≤_, _-_}
+use mathlib.Core.Bool.{true}
+use Rattle.arith.specs.Flow.{every}
+use Rattle.arith.specs.FlowLaws.{not-yes, not-no, every-none, every-more, every-fail, every-end}
+use Rattle.step.specs.Checks.{jointOk, jointIn}
 use Rattle.step.proofs.checks.joints_ok.Statement.{statement}
 use Rattle.step.proofs.checks.joints_ok.Tie as tie
 
 abbrev Inv-loop : tie.InvT-loop
-Inv-loop count joints k₀ k = k ≤ count
+Inv-loop count joints k₀ k = (k ≤ count) × (true ≡ every k (λ j. jointOk (jointIn joints j)))
 
 abbrev μ-loop : tie.MeasureT-loop
 μ-loop count joints k₀ k = count - k
 
 loop-holds : tie.Need-loop-holds Inv-loop μ-loop
-loop-holds c = omega arith
+loop-holds c = (omega arith, every-none _)
 
 mul-joint-ok : tie.Need-mul-joint-ok Inv-loop μ-loop
 mul-joint-ok c = omega arith
@@ -24,7 +27,7 @@ joint-ok-requires : tie.Need-joint-ok-requires Inv-loop μ-loop
 joint-ok-requires c κs = omega arith
 
 returns : tie.Need-returns Inv-loop μ-loop
-returns c = omega arith
+returns c = every-fail (λ (j : ℕ). jointOk (jointIn (c .before .before .before .before .before .args .t1) j)) _ (omega arith) (sym (c .before .joint-ok .ensures) ∙ not-yes _ (c .if1 .taken))
 
 add-k : tie.Need-add-k Inv-loop μ-loop
 add-k c = omega arith
@@ -33,10 +36,10 @@ loop-less : tie.Need-loop-less Inv-loop μ-loop
 loop-less c = omega arith
 
 loop-again : tie.Need-loop-again Inv-loop μ-loop
-loop-again c = omega arith
+loop-again c = (omega arith, every-more (λ (j : ℕ). jointOk (jointIn (c .before .before .before .before .before .args .t1) j)) (c .before .before .before .before .loop .inv .1) (sym (c .before .joint-ok .ensures) ∙ not-no _ (c .if1 .left)))
 
 returns-2 : tie.Need-returns-2 Inv-loop μ-loop
-returns-2 c = omega arith
+returns-2 c = every-end (λ (j : ℕ). jointOk (jointIn (c .before .before .args .t1) j)) (omega arith) (omega arith) (c .before .loop .inv .1)
 
 pub joints-ok-spec : {M : Type 1} → statement M
 joints-ok-spec =

@@ -1,9 +1,6 @@
-use native.Mathlib.Omega.{arith}
-use mathlib.Core.Path.{_≡_, refl, sym, ap, _∙_}
-use Prim.Native.Nat.{ℕ, _+_, _*_, _≤_, _<_, _-_}
-use lib.ListN.{length, getD, length-set}
-use Rattle.step.specs.Ready.{Joined, Joins, Sizes}
-use Rattle.step.proofs.StepLaws.{not-accepted, is-accepted, joined-from}
+use Rattle.step.specs.CheckLaws.{is-accepted, not-accepted, sizes-stop, sizes-go, sizes-ready, bodies-stop, bodies-go}
+use Rattle.step.specs.declared.Outcome.the-variants.{Accepted}
+use Rattle.step.specs.Checks.{refusalOf}
 use borrow.Author.Needs.{needs}
 use Rattle.step.proofs.checks.refusal.Statement.{statement}
 use Rattle.step.proofs.checks.refusal.Tie as tie
@@ -15,7 +12,8 @@ accepted-requires : tie.Need-accepted-requires
 accepted-requires c κs = search needs
 
 returns : tie.Need-returns
-returns c = λ h. not-accepted (c .before .accepted .ensures) (c .if1 .taken) h
+unfolding refusalOf
+returns c = sizes-stop _ _ _ _ _ (c .before .before .size-refusal .ensures) (not-accepted (c .before .accepted .ensures) (c .if1 .taken))
 
 body-refusal-requires : tie.Need-body-refusal-requires
 body-refusal-requires c κs = search needs
@@ -24,13 +22,15 @@ accepted-requires-2 : tie.Need-accepted-requires-2
 accepted-requires-2 c κs = search needs
 
 returns-2 : tie.Need-returns-2
-returns-2 c = λ h. not-accepted (c .before .accepted2 .ensures) (c .if2 .taken) h
+unfolding refusalOf
+returns-2 c = sizes-go _ _ _ _ _ (c .before .before .before .before .before .size-refusal .ensures) (is-accepted (c .before .before .before .before .accepted .ensures) (c .before .before .before .if1 .left)) (bodies-stop _ _ _ (c .before .before .body-refusal .ensures) (not-accepted (c .before .accepted2 .ensures) (c .if2 .taken)))
 
 joint-refusal-requires : tie.Need-joint-refusal-requires
-joint-refusal-requires c κs = omega (arith, c .before .before .before .before .before .size-refusal .ensures (is-accepted _ (c .before .before .before .before .accepted .ensures) (c .before .before .before .if1 .left)) .few)
+joint-refusal-requires c κs = sizes-ready _ _ _ _ Accepted (c .before .before .before .before .before .size-refusal .ensures) (is-accepted (c .before .before .before .before .accepted .ensures) (c .before .before .before .if1 .left)) .few
 
 returns-3 : tie.Need-returns-3
-returns-3 c = λ h. joined-from (c .before .before .before .before .before .before .size-refusal .ensures (is-accepted _ (c .before .before .before .before .before .accepted .ensures) (c .before .before .before .before .if1 .left))) (c .joint-refusal .ensures h)
+unfolding refusalOf
+returns-3 c = sizes-go _ _ _ _ _ (c .before .before .before .before .before .before .size-refusal .ensures) (is-accepted (c .before .before .before .before .before .accepted .ensures) (c .before .before .before .before .if1 .left)) (bodies-go _ _ _ (c .before .before .before .body-refusal .ensures) (is-accepted (c .before .before .accepted2 .ensures) (c .before .if2 .left)) (c .joint-refusal .ensures))
 
 pub refusal-spec : {M : Type 1} → statement M
 refusal-spec =

@@ -1,9 +1,8 @@
-use native.Mathlib.Omega.{arith}
-use mathlib.Core.Path.{_≡_, refl, sym, ap, _∙_}
-use Prim.Native.Nat.{ℕ, _+_, _*_, _≤_, _<_, _-_}
-use lib.ListN.{length, getD, length-set}
-use Rattle.step.specs.Ready.{Joined, Joins, Sizes}
-use Rattle.step.proofs.StepLaws.{no-true, not-not, joins-none, joins-more, joins-end, time-step-refuses, bodies-refuse, joints-refuse, scratch-refuses, bodies-of-joints-refuse, numbers-refuse}
+use mathlib.Core.Path.{refl}
+use Rattle.step.proofs.CheckWays.{refuses, passes, beyond}
+use borrow.Author.Tests.{lt-ltb, le-ltb}
+use Rattle.arith.specs.FlowLaws.{cond-yes}
+use Rattle.step.specs.Checks.{sizesOr}
 use borrow.Author.Needs.{needs}
 use Rattle.step.proofs.checks.size_refusal.Statement.{statement}
 use Rattle.step.proofs.checks.size_refusal.Tie as tie
@@ -12,22 +11,27 @@ time-step-ok-requires : tie.Need-time-step-ok-requires
 time-step-ok-requires c κs = search needs
 
 returns : tie.Need-returns
-returns c = λ h. time-step-refuses h
+unfolding sizesOr
+returns c = refuses _ _ (c .before .time-step-ok .ensures) (c .if1 .taken)
 
 bodies-fit-requires : tie.Need-bodies-fit-requires
 bodies-fit-requires c κs = search needs
 
 returns-2 : tie.Need-returns-2
-returns-2 c = λ h. bodies-refuse h
+unfolding sizesOr
+returns-2 c = passes _ (c .before .before .before .time-step-ok .ensures) (c .before .before .if1 .left) (refuses _ _ (c .before .bodies-fit .ensures) (c .if2 .taken))
 
 returns-3 : tie.Need-returns-3
-returns-3 c = λ h. joints-refuse h
+unfolding sizesOr
+returns-3 c = passes _ (c .before .before .before .before .time-step-ok .ensures) (c .before .before .before .if1 .left) (passes _ (c .before .before .bodies-fit .ensures) (c .before .if2 .left) (cond-yes _ _ (lt-ltb _ _ (c .if3 .taken))))
 
 returns-4 : tie.Need-returns-4
-returns-4 c = λ h. scratch-refuses h
+unfolding sizesOr
+returns-4 c = passes _ (c .before .before .before .before .before .time-step-ok .ensures) (c .before .before .before .before .if1 .left) (passes _ (c .before .before .before .bodies-fit .ensures) (c .before .before .if2 .left) (beyond _ (le-ltb _ _ (c .before .if3 .left)) (cond-yes _ _ (lt-ltb _ _ (c .if4 .taken)))))
 
 returns-5 : tie.Need-returns-5
-returns-5 c = λ _. record { small = c .before .before .before .bodies-fit .ensures (not-not _ (c .before .before .if2 .left)); few = omega arith; room = omega arith }
+unfolding sizesOr
+returns-5 c = passes _ (c .before .before .before .before .before .time-step-ok .ensures) (c .before .before .before .before .if1 .left) (passes _ (c .before .before .before .bodies-fit .ensures) (c .before .before .if2 .left) (beyond _ (le-ltb _ _ (c .before .if3 .left)) (beyond _ (le-ltb _ _ (c .if4 .left)) refl)))
 
 pub size-refusal-spec : {M : Type 1} → statement M
 size-refusal-spec =

@@ -1,7 +1,6 @@
-use borrow.Author.Needs.{needs}
-use mathlib.Core.Path.{_≡_, refl, sym, _∙_, ap}
+-- `body::MomentumBody::anchor` meets its contract.
 use Rattle.rows.proofs.BodyLaws.{anchor-1, anchor-2}
-use Rattle.rows.specs.AnswerLaws.{some-go, none-stop}
+use Rattle.rows.specs.AnswerLaws.{none-stop, some-go}
 use Rattle.rows.specs.Fault.{arithmeticOverflow}
 use borrow.Author.Needs.{needs}
 use Rattle.rows.proofs.body.MomentumBody.anchor.Statement.{statement}
@@ -26,7 +25,11 @@ enum-told : tie.Need-enum-told
 enum-told c = search needs
 
 returns : tie.Need-returns
-returns c = anchor-2 _ _ (c .before .before .before .before .before .before .sub .ensures) (some-go arithmeticOverflow (c .before .before .before .before .before .rotate-vector .ensures) (c .before .before .before .arm .given .1)) (c .before .add .ensures) (c .finite .ensures)
+returns c =
+    anchor-2 _ _
+    (c .before .before .before .before .before .before .sub .ensures)
+    (some-go arithmeticOverflow (c .before .before .before .before .before .rotate-vector .ensures) (c .before .before .before .arm .given .1))
+    (c .before .add .ensures) (c .finite .ensures)
 
 returns-2 : tie.Need-returns-2
 returns-2 c = anchor-1 _ _ (c .before .before .before .sub .ensures) (none-stop arithmeticOverflow (c .before .before .rotate-vector .ensures) (c .enum-told .given .1))

@@ -1,7 +1,6 @@
-use borrow.Author.Needs.{needs}
-use mathlib.Core.Path.{_≡_, refl, sym, _∙_, ap}
+-- `body::MomentumBody::origin` meets its contract.
 use Rattle.rows.proofs.BodyLaws.{origin-1, origin-2, origin-3, origin-4, origin-5}
-use Rattle.rows.specs.AnswerLaws.{vector-go, vector-stop, some-go, none-stop}
+use Rattle.rows.specs.AnswerLaws.{none-stop, some-go, vector-go, vector-stop}
 use Rattle.rows.specs.Fault.{arithmeticOverflow}
 use borrow.Author.Needs.{needs}
 use Rattle.rows.proofs.body.MomentumBody.origin.Statement.{statement}
@@ -32,13 +31,23 @@ enum-told-2 : tie.Need-enum-told-2
 enum-told-2 c = search needs
 
 returns-2 : tie.Need-returns-2
-returns-2 c = origin-2 _ (some-go arithmeticOverflow (c .before .before .before .before .before .before .before .rotate-vector .ensures) (c .before .before .before .before .before .turned .given .1)) (c .before .before .before .sub .ensures) (vector-stop (c .before .before .finite .ensures) (c .enum-told2 .given .1))
+returns-2 c =
+    let c₆ = c .before .before .before .before .before .before in
+    origin-2 _
+    (some-go arithmeticOverflow (c₆ .before .rotate-vector .ensures) (c .before .before .before .before .before .turned .given .1))
+    (c .before .before .before .sub .ensures) (vector-stop (c .before .before .finite .ensures) (c .enum-told2 .given .1))
 
 is-normalized-requires : tie.Need-is-normalized-requires
 is-normalized-requires c κs = search needs
 
 returns-3 : tie.Need-returns-3
-returns-3 c = origin-3 _ (some-go arithmeticOverflow (c .before .before .before .before .before .before .before .before .before .before .rotate-vector .ensures) (c .before .before .before .before .before .before .before .before .turned .given .1)) (c .before .before .before .before .before .before .sub .ensures) (vector-go (c .before .before .before .before .before .finite .ensures) (c .before .before .before .origin .given .1)) (c .before .is-normalized .ensures) (c .if1 .taken)
+returns-3 c =
+    let c₆ = c .before .before .before .before .before .before in
+    origin-3 _
+    (some-go arithmeticOverflow (c₆ .before .before .before .before .rotate-vector .ensures) (c₆ .before .before .turned .given .1))
+    (c .before .before .before .before .before .before .sub .ensures)
+    (vector-go (c .before .before .before .before .before .finite .ensures) (c .before .before .before .origin .given .1))
+    (c .before .is-normalized .ensures) (c .if1 .taken)
 
 world-center-of-mass-requires : tie.Need-world-center-of-mass-requires
 world-center-of-mass-requires c κs = search needs
@@ -50,10 +59,26 @@ enum-told-4 : tie.Need-enum-told-4
 enum-told-4 c = search needs
 
 returns-4 : tie.Need-returns-4
-returns-4 c = origin-5 _ (some-go arithmeticOverflow (c .before .before .before .before .before .before .before .before .before .before .before .before .before .rotate-vector .ensures) (c .before .before .before .before .before .before .before .before .before .before .before .turned .given .1)) (c .before .before .before .before .before .before .before .before .before .sub .ensures) (vector-go (c .before .before .before .before .before .before .before .before .finite .ensures) (c .before .before .before .before .before .before .origin .given .1)) (c .before .before .before .before .is-normalized .ensures) (c .before .before .before .if1 .left) (vector-go (c .before .before .world-center-of-mass .ensures) (c .enum-told3 .given .1))
+returns-4 c =
+    let c₆ = c .before .before .before .before .before .before in
+    let c₁₂ = c₆ .before .before .before .before .before .before in
+    origin-5 _
+    (some-go arithmeticOverflow (c₁₂ .before .rotate-vector .ensures) (c₆ .before .before .before .before .before .turned .given .1))
+    (c₆ .before .before .before .sub .ensures)
+    (vector-go (c₆ .before .before .finite .ensures) (c .before .before .before .before .before .before .origin .given .1))
+    (c .before .before .before .before .is-normalized .ensures) (c .before .before .before .if1 .left)
+    (vector-go (c .before .before .world-center-of-mass .ensures) (c .enum-told3 .given .1))
 
 returns-5 : tie.Need-returns-5
-returns-5 c = origin-4 _ (some-go arithmeticOverflow (c .before .before .before .before .before .before .before .before .before .before .before .before .before .rotate-vector .ensures) (c .before .before .before .before .before .before .before .before .before .before .before .turned .given .1)) (c .before .before .before .before .before .before .before .before .before .sub .ensures) (vector-go (c .before .before .before .before .before .before .before .before .finite .ensures) (c .before .before .before .before .before .before .origin .given .1)) (c .before .before .before .before .is-normalized .ensures) (c .before .before .before .if1 .left) (vector-stop (c .before .before .world-center-of-mass .ensures) (c .enum-told4 .given .1))
+returns-5 c =
+    let c₆ = c .before .before .before .before .before .before in
+    let c₁₂ = c₆ .before .before .before .before .before .before in
+    origin-4 _
+    (some-go arithmeticOverflow (c₁₂ .before .rotate-vector .ensures) (c₆ .before .before .before .before .before .turned .given .1))
+    (c₆ .before .before .before .sub .ensures)
+    (vector-go (c₆ .before .before .finite .ensures) (c .before .before .before .before .before .before .origin .given .1))
+    (c .before .before .before .before .is-normalized .ensures) (c .before .before .before .if1 .left)
+    (vector-stop (c .before .before .world-center-of-mass .ensures) (c .enum-told4 .given .1))
 
 pub origin-spec : {M : Type 1} → statement M
 origin-spec =

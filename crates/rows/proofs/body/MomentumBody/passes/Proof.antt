@@ -1,11 +1,12 @@
-use borrow.Author.Needs.{needs}
-use mathlib.Core.Path.{_≡_, refl, sym, _∙_, ap}
-use Rattle.rows.proofs.BodyLaws.{pass-as}
-use native.Mathlib.Omega.{arith}
-use Prim.Native.Nat.{ℕ, _≤_, _-_}
+-- `body::MomentumBody::passes` meets its contract.
+use Prim.Native.Nat.{_-_, _≤_, ℕ}
 use Rattle.arith.specs.Flow.{go, loop}
-use Rattle.arith.specs.FlowLaws.{loop-none, loop-more, loop-stop, loop-end}
+use Rattle.arith.specs.FlowLaws.{loop-end, loop-more, loop-none, loop-stop}
+use Rattle.rows.proofs.BodyLaws.{pass-as}
 use Rattle.rows.specs.Body.{passOf}
+use borrow.Author.Needs.{needs}
+use mathlib.Core.Path.{_≡_}
+use native.Mathlib.Omega.{arith}
 use Rattle.rows.proofs.body.MomentumBody.passes.Statement.{statement}
 use Rattle.rows.proofs.body.MomentumBody.passes.Tie as tie
 
@@ -28,13 +29,19 @@ enum-known-rotation : tie.Need-enum-known-rotation Inv-loop μ-loop
 enum-known-rotation c = search needs
 
 returns : tie.Need-returns Inv-loop μ-loop
-returns c = loop-stop _ _ 32 (c .before .before .before .before .loop-test .taken) (c .before .before .before .before .before .loop .inv .1) (pass-as (c .before .before .before .pass .ensures) (c .before .rotation .given .1))
+returns c =
+    loop-stop _ _ 32
+    (c .before .before .before .before .loop-test .taken) (c .before .before .before .before .before .loop .inv .1)
+    (pass-as (c .before .before .before .pass .ensures) (c .before .rotation .given .1))
 
 enum-told : tie.Need-enum-told Inv-loop μ-loop
 enum-told c = search needs
 
 returns-2 : tie.Need-returns-2 Inv-loop μ-loop
-returns-2 c = loop-stop _ _ 32 (c .before .before .before .loop-test .taken) (c .before .before .before .before .loop .inv .1) (pass-as (c .before .before .pass .ensures) (c .enum-told .given .1))
+returns-2 c =
+    loop-stop _ _ 32
+    (c .before .before .before .loop-test .taken) (c .before .before .before .before .loop .inv .1)
+    (pass-as (c .before .before .pass .ensures) (c .enum-told .given .1))
 
 add-k : tie.Need-add-k Inv-loop μ-loop
 add-k c = omega arith
@@ -43,7 +50,8 @@ loop-less : tie.Need-loop-less Inv-loop μ-loop
 loop-less c = omega arith
 
 loop-again : tie.Need-loop-again Inv-loop μ-loop
-loop-again c = (omega arith, loop-more _ _ (c .before .before .before .before .before .loop .inv .1) (pass-as (c .before .before .before .pass .ensures) (c .before .next .given .1)))
+loop-again c =
+    (omega arith, loop-more _ _ (c .before .before .before .before .before .loop .inv .1) (pass-as (c .before .before .before .pass .ensures) (c .before .next .given .1)))
 
 returns-3 : tie.Need-returns-3 Inv-loop μ-loop
 returns-3 c = loop-end _ _ (c .before .loop .inv .0) (c .loop-test .left) (c .before .loop .inv .1)

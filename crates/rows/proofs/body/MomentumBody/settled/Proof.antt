@@ -1,9 +1,9 @@
-use borrow.Author.Needs.{needs}
-use mathlib.Core.Path.{_≡_, refl, sym, _∙_, ap}
+-- `body::MomentumBody::settled` meets its contract.
 use Rattle.arith.specs.Flow.{stop}
 use Rattle.rows.specs.AnswerLaws.{quat-go, quat-stop}
 use Rattle.rows.specs.Fault.{arithmeticOverflow}
 use borrow.Author.Needs.{needs}
+use mathlib.Core.Path.{ap}
 use Rattle.rows.proofs.body.MomentumBody.settled.Statement.{statement}
 use Rattle.rows.proofs.body.MomentumBody.settled.Tie as tie
 

@@ -1,3 +1,4 @@
+-- `geometry::EqualityRow::load` meets its contract.
 use borrow.Author.Needs.{needs}
 use Rattle.rows.proofs.geometry.EqualityRow.load.Statement.{statement}
 use Rattle.rows.proofs.geometry.EqualityRow.load.Tie as tie

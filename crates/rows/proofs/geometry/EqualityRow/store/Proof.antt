@@ -1,3 +1,4 @@
+-- `geometry::EqualityRow::store` meets its contract.
 use Rattle.rows.proofs.PlaceLaws.{stored-row}
 use borrow.Author.Needs.{needs}
 use Rattle.rows.proofs.geometry.EqualityRow.store.Statement.{statement}
@@ -34,7 +35,15 @@ same-length : tie.Need-same-length
 same-length c = search needs
 
 returns : tie.Need-returns
-returns c = stored-row (c .before .before .before .before .before .before .before .before .before .before .before .before .before .before .before .before .before .before .before .before .before .args .at) (c .before .before .before .before .before .before .before .before .before .before .before .before .before .before .before .before .before .before .before .before .before .args .self) (c .before .before .before .before .before .before .before .before .before .before .before .before .before .before .before .before .before .before .store3 .ensures) (c .before .before .before .before .before .before .before .before .before .before .before .before .before .before .store32 .ensures) (c .before .before .before .before .before .before .before .before .before .before .store33 .ensures) (c .before .before .before .before .before .before .store34 .ensures) (c .before .before .store2 .ensures)
+returns c =
+    let c₆ = c .before .before .before .before .before .before in
+    let c₁₂ = c₆ .before .before .before .before .before .before in
+    let c₁₈ = c₁₂ .before .before .before .before .before .before in
+    stored-row
+    (c₁₈ .before .before .before .args .at) (c₁₈ .before .before .before .args .self)
+    (c₁₂ .before .before .before .before .before .before .store3 .ensures) (c₁₂ .before .before .store32 .ensures)
+    (c₆ .before .before .before .before .store33 .ensures) (c .before .before .before .before .before .before .store34 .ensures)
+    (c .before .before .store2 .ensures)
 
 pub store-spec : {M : Type 1} → statement M
 store-spec =

@@ -1,5 +1,5 @@
+-- `geometry::EqualityRow::turning` meets its contract.
 use Rattle.rows.proofs.RowLaws.{turning-is}
-use borrow.Author.Needs.{needs}
 use Rattle.rows.proofs.geometry.EqualityRow.turning.Statement.{statement}
 use Rattle.rows.proofs.geometry.EqualityRow.turning.Tie as tie
 

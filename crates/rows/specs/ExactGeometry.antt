@@ -1,0 +1,142 @@
+-- Document 01, "Exact geometry of demand 3", in exact fractions and in the paper's letters. It reads the origin and rotation of body records, and a joint; nothing of the solver occurs in it.
+use Prim.Native.Nat.{_^_}
+use lib.Dec.{T, lit<}
+use Rattle.exact.specs.Rat.{ℚ, mk, qn, _+q_, _-q_, _*q_, negq, _≤q_, _<q_, inv}
+use Rattle.exact.specs.Val.{val}
+use Rattle.vectors.specs.declared.vector.Vec3.{Vec3}
+use Rattle.vectors.specs.declared.quaternion.Quat.{Quat}
+use Rattle.vectors.specs.Vector.{finiteOf}
+use Rattle.vectors.specs.Quaternion.{quatFiniteOf}
+use Rattle.rows.specs.declared.body.RigidBody.{RigidBody}
+use Rattle.rows.specs.declared.body.BodyState.{BodyState}
+use Rattle.rows.specs.declared.geometry.JointFrame.{JointFrame}
+use Rattle.rows.specs.declared.geometry.Joint.{Joint}
+use Rattle.rows.specs.declared.geometry.Kind.{Kind}
+use Rattle.rows.specs.declared.geometry.Kind.the-variants.{Ball, Hinge, Cylindrical, Planar, Distance, ConeTwist}
+
+-- ---- vectors and quaternions of fractions
+pub record Vector : Type 0 where
+  pub x : ℚ
+  pub y : ℚ
+  pub z : ℚ
+
+pub record Quaternion : Type 0 where
+  pub x : ℚ
+  pub y : ℚ
+  pub z : ℚ
+  pub w : ℚ
+
+infixl 65 _+v_
+infixl 65 _-v_
+infixl 70 _×v_
+infixl 70 _·_
+abbrev pub _+v_ : Vector → Vector → Vector
+v +v w = record { x = v .x +q w .x; y = v .y +q w .y; z = v .z +q w .z }
+
+abbrev pub _-v_ : Vector → Vector → Vector
+v -v w = record { x = v .x -q w .x; y = v .y -q w .y; z = v .z -q w .z }
+
+abbrev pub _·_ : Vector → Vector → ℚ
+v · w = v .x *q w .x +q v .y *q w .y +q v .z *q w .z
+
+abbrev pub _×v_ : Vector → Vector → Vector
+v ×v w = record { x = v .y *q w .z -q v .z *q w .y; y = v .z *q w .x -q v .x *q w .z; z = v .x *q w .y -q v .y *q w .x }
+
+abbrev pub times : ℚ → Vector → Vector
+times k v = record { x = k *q v .x; y = k *q v .y; z = k *q v .z }
+
+-- v / n, for n above 0
+abbrev pub over : Vector → ℚ → Vector
+over v n = record { x = v .x *q inv n; y = v .y *q inv n; z = v .z *q inv n }
+
+-- the numbers that doubles stand for
+abbrev pub vector : Vec3 → Vector
+vector v = record { x = val (v .x); y = val (v .y); z = val (v .z) }
+
+abbrev pub quaternion : Quat → Quaternion
+quaternion q = record { x = val (q .x); y = val (q .y); z = val (q .z); w = val (q .w) }
+
+-- ---- rotations
+-- N, the sum of the four squares
+abbrev pub N : Quaternion → ℚ
+N q = q .x *q q .x +q q .y *q q .y +q q .z *q q .z +q q .w *q q .w
+
+-- v turned: v + 2 (w (u × v) + u × (u × v)) / N
+abbrev pub turned : Quaternion → Vector → Vector
+turned q v =
+    let u : Vector = record { x = q .x; y = q .y; z = q .z } in
+    v +v over (times (qn 2) (times (q .w) (u ×v v) +v u ×v (u ×v v))) (N q)
+
+-- the quaternion product, first b and then a
+abbrev pub product : Quaternion → Quaternion → Quaternion
+product a b = record {
+  x = a .w *q b .x +q a .x *q b .w +q a .y *q b .z -q a .z *q b .y;
+  y = a .w *q b .y -q a .x *q b .z +q a .y *q b .w +q a .z *q b .x;
+  z = a .w *q b .z +q a .x *q b .y -q a .y *q b .x +q a .z *q b .w;
+  w = a .w *q b .w -q a .x *q b .x -q a .y *q b .y -q a .z *q b .z;
+}
+
+abbrev pub X : Quaternion → Vector
+X q = turned q (record { x = qn 1; y = qn 0; z = qn 0 })
+
+abbrev pub Y : Quaternion → Vector
+Y q = turned q (record { x = qn 0; y = qn 1; z = qn 0 })
+
+abbrev pub Z : Quaternion → Vector
+Z q = turned q (record { x = qn 0; y = qn 0; z = qn 1 })
+
+-- ---- a body record's place, and a joint's frame there
+pub record Place : Type 0 where
+  pub origin : Vector
+  pub rotation : Quaternion
+
+abbrev pub placeOf : Vec3 → Quat → Place
+placeOf origin rotation = record { origin = vector origin; rotation = quaternion rotation }
+
+abbrev pub recordPlace : RigidBody → Place
+recordPlace body = placeOf (body .origin) (body .rotation)
+
+abbrev pub statePlace : BodyState → Place
+statePlace state = placeOf (state .origin) (state .rotation)
+
+abbrev pub anchor : Place → JointFrame → Vector
+anchor p f = p .origin +v turned (p .rotation) (vector (f .«local_anchor»))
+
+abbrev pub frame : Place → JointFrame → Quaternion
+frame p f = product (p .rotation) (quaternion (f .«local_rotation»))
+
+-- ---- what the archive promises of a joint
+abbrev pub squared : ℚ → ℚ
+squared s = s *q s
+
+-- 10^-6, and 10^-11
+abbrev pub micrometre : ℚ
+micrometre = mk (record { p = 1; n = 0; d = 10 ^ 6; dp = lit< tt })
+
+abbrev pub across : ℚ
+across = mk (record { p = 1; n = 0; d = 10 ^ 11; dp = lit< tt })
+
+-- b's Z on the axes of frame a: at most 10^-11 in magnitude on X and on Y, above 0 on Z
+pub record Aligned (a : Quaternion) (z : Vector) : Type 0 where
+  pub on-x : (negq across ≤q z · X a) × (z · X a ≤q across)
+  pub on-y : (negq across ≤q z · Y a) × (z · Y a ≤q across)
+  pub on-z : qn 0 <q z · Z a
+
+-- d is anchor b less anchor a; a is frame a, and z is frame b's Z; t is d · Z a
+abbrev pub MetBy : Kind → Vector → Quaternion → Vector → Type 0
+MetBy Ball d a z = d · d ≤q squared micrometre
+MetBy Hinge d a z = (d · d ≤q squared micrometre) × Aligned a z
+MetBy Cylindrical d a z = (d · d -q squared (d · Z a) ≤q squared micrometre) × Aligned a z
+MetBy Planar d a z = (squared (d · Z a) ≤q squared micrometre) × Aligned a z
+MetBy (Distance L) d a z = (squared (val L -q micrometre) ≤q d · d) × (d · d ≤q squared (val L +q micrometre))
+MetBy (ConeTwist swingX swingY twistLower twistUpper) d a z = d · d ≤q squared micrometre
+
+-- the sections that a joint joins meet there, for bodies at the places a and b
+abbrev pub Met : Joint → Place → Place → Type 0
+Met joint a b = MetBy (joint .kind) (anchor b (joint .«frame_b») -v anchor a (joint .«frame_a»)) (frame a (joint .«frame_a»)) (Z (frame b (joint .«frame_b»)))
+
+-- a record's place is one: its numbers are finite, and N is above 0
+pub record Stands (origin : Vec3) (rotation : Quat) : Type 0 where
+  pub origin-finite : T (finiteOf origin)
+  pub rotation-finite : T (quatFiniteOf rotation)
+  pub N-above : qn 0 <q N (quaternion rotation)

@@ -1,0 +1,506 @@
+-- The solves of the path's factor, a refinement, and the path's solve as a whole.
+use Prim.Native.Nat.{ℕ, zero, suc, _+_, _*_, _-_, _≤_, _<_, _^_, min}
+use mathlib.Core.Path.{_≡_, refl, sym, _∙_, ap, subst}
+use mathlib.Core.Bool.{Bool, true, false, cond}
+use mathlib.Core.List.{List, [], _∷_, _++_}
+use native.Mathlib.Omega.{arith}
+use lib.ListN.{length, getD, set, replicate, length-set, length-replicate, getD-replicate}
+use lib.Seq.{getD-set-same}
+use lib.Ieee as Ieee
+use lib.Ieee.{Float, nan, binary64}
+use Rattle.arith.specs.Real.{ratio, _⊕_, _⊖_, _⊗_, _⊘_}
+use Rattle.arith.specs.Flow.{Turn, go, stop, _>>=_, turns, tab, loop, returnIf}
+use Rattle.arith.specs.FlowLaws.{turns-none, turns-more, turns-end, then-go, then-stop, loop-none, loop-more, loop-stop, loop-end, cond-yes, cond-no}
+use Rattle.rows.specs.declared.geometry.EqualityRow.{EqualityRow}
+use Rattle.rows.specs.Fault.{Fault, nonConvergent, arithmeticOverflow, Result, try}
+use Rattle.rows.specs.View.{at, Out, Kept}
+use Rattle.rows.specs.Region.{tab-length, tab-ext, tab-at, is-tab, kept-refl, kept-then, kept-more, kept-set}
+use Rattle.solves.specs.declared.places.MassResponse.{MassResponse}
+use Rattle.solves.specs.declared.gradients.Test.{Test}
+use Rattle.solves.specs.Region.{vecAt, Filled, Does}
+use Rattle.solves.specs.RegionLaws.{vec-at, vec-in, kept-vec, vec-set, vec-more, filled-vec}
+use Rattle.solves.specs.Solver.{rowIn, noRow, operator, difference, within, toleranceFor, Solve, after, spent, leastSquares, gradients}
+use Rattle.solves.specs.Path.{index, cell, bandStart, Factor, forwardSum, forwardTurn, forward, backwardSum, Back, backwardTurn, backward, Refined, refine, refinement, pathOrder, pathFactored, Ending, declined, ended, pathAlong, pathOn, pathSolve, orElse, linearSolve}
+use Rattle.solves.specs.declared.End.{End}
+use Rattle.solves.specs.declared.End.the-variants as Ends
+use Rattle.solves.specs.declared.path.PathOrder.{PathOrder}
+use Rattle.solves.specs.declared.Ended.{Ended}
+use Rattle.solves.specs.Answer.{ranAs, partAs, orderAs, endAs, endedWith, solveAs}
+use Rattle.solves.specs.View.{rowOn, rowsOn, massesAt, listAt, bandAt, factorAt, refinedAt, Along, Passing, Factoring, Refining, Rows, Shares, Work, MASSES, RHS, SOLUTION, RESIDUAL, PRODUCT, PATH-BAND, PATH-SCALE, PATH-RHS, DIAGONAL}
+use Rattle.solves.proofs.DoesLaws.{goes-on, returns-if, try-go, try-stop}
+use Rattle.solves.proofs.PlaceLaws.{kept-rows, kept-masses}
+use Rattle.solves.proofs.OperatorLaws.{Moves}
+use Rattle.solves.proofs.SearchLaws.{first-go, first-stop, new-ended}
+use Rattle.solves.proofs.BlockLaws.{list-at}
+use Rattle.solves.proofs.FactorLaws.{cell-at, cell-first, from-turn, from-none}
+
+-- forward_sum
+abbrev pub forwardPart : List Float → List Float → ℕ → ℕ → Float → Float
+forwardPart band y i j value = value ⊖ cell band i (i - j) ⊗ at y j
+
+module _ (s : List Float) (n i : ℕ) (hi : i < n) where
+  pub forward-more : {j : ℕ} (a : Float) {value : Float} → i - 11 ≤ j → j < i → value ≡ turns (λ t. forwardPart (bandAt s n) (vecAt s PATH-RHS i) i (i - 11 + t)) (j - (i - 11)) a
+      → value ⊖ at s (PATH-BAND + 12 * i + (i - j)) ⊗ at s (PATH-RHS + j) ≡ turns (λ t. forwardPart (bandAt s n) (vecAt s PATH-RHS i) i (i - 11 + t)) (j + 1 - (i - 11)) a
+  forward-more {j} a {value} l m e =
+      from-turn (forwardPart (bandAt s n) (vecAt s PATH-RHS i) i) a l e (λ x. value ⊖ cell-at s n i (i - j) hi (omega arith) x ⊗ vec-at s PATH-RHS i j m x)
+
+  pub forward-ends : {j : ℕ} (a : Float) {value : Float} → j ≡ i → value ≡ turns (λ t. forwardPart (bandAt s n) (vecAt s PATH-RHS i) i (i - 11 + t)) (j - (i - 11)) a → value ≡ forwardSum (bandAt s n) (vecAt s PATH-RHS i) i a
+  unfolding forwardSum
+  forward-ends {j} a l e = e ∙ ap (λ (x : ℕ). turns (λ t. forwardPart (bandAt s n) (vecAt s PATH-RHS i) i (i - 11 + t)) (x - (i - 11)) a) l
+
+-- forward
+module _ (n : ℕ) (most : n ≤ 96) (order : List ℕ) (along : Along order n) (s₀ : List Float) where
+  abbrev O : List ℕ
+  O = listAt order n
+
+  abbrev Sc : List Float
+  Sc = vecAt s₀ PATH-SCALE n
+
+  abbrev Bd : List Float
+  Bd = bandAt s₀ n
+
+  abbrev Re : List Float
+  Re = vecAt s₀ RESIDUAL n
+
+  abbrev pub ForwardSo : ℕ → List Float → Type 0
+  ForwardSo i s = Does (λ j. Out PATH-RHS 96 j) s₀ s (vecAt s PATH-RHS i) (turns (forwardTurn n O Sc Bd Re) i [])
+
+  pub forwards-none : ForwardSo 0 s₀
+  unfolding tab
+  forwards-none = record { kept = kept-refl _ s₀; is = turns-none (forwardTurn n O Sc Bd Re) [] }
+
+  module _ {i : ℕ} {s : List Float} (inv : ForwardSo i s) (h : i < n) (l : PATH-RHS + 96 ≤ length s) {value : Float}
+      (ev : value ≡ forwardSum (bandAt s n) (vecAt s PATH-RHS i) i (at s (RESIDUAL + getD order i 0) ⊘ at s (PATH-SCALE + i))) where
+    band-is : bandAt s n ≡ Bd
+    band-is = kept-vec (inv .kept) PATH-BAND (12 * n) (λ j x y. omega arith)
+
+    start-is : at s (RESIDUAL + getD order i 0) ≡ at Re (index O i)
+    start-is = vec-in (inv .kept) RESIDUAL n (getD order i 0) (λ j x y. omega arith) (along i h) refl ∙ ap (at Re) (list-at order n i h)
+
+    scale-is : at s (PATH-SCALE + i) ≡ at Sc i
+    scale-is = vec-in (inv .kept) PATH-SCALE n i (λ j x y. omega arith) h refl
+
+    abbrev new : Float
+    new = value ⊘ at s (PATH-BAND + 12 * i)
+
+    new-is : new ≡ forwardSum Bd (vecAt s PATH-RHS i) i (at Re (index O i) ⊘ at Sc i) ⊘ cell Bd i 0
+    new-is = (λ j. (ev ∙ λ k. forwardSum (band-is k) (vecAt s PATH-RHS i) i (start-is k ⊘ scale-is k)) j ⊘ (cell-first s n i h ∙ λ k. cell (band-is k) i 0) j)
+
+    pub forwards-more : ForwardSo (i + 1) (set s (PATH-RHS + i) new)
+    forwards-more = record {
+      kept = kept-then (inv .kept) (kept-set s (PATH-RHS + i) new) (λ j x. omega arith);
+      is = vec-more s PATH-RHS i new (omega arith) ∙ ap (λ (x : Float). vecAt s PATH-RHS i ++ (x ∷ [])) new-is ∙ turns-more (forwardTurn n O Sc Bd Re) i [] (inv .is);
+    }
+
+  pub forwards-end : {i : ℕ} {s : List Float} → ForwardSo i s → i ≤ n → n ≤ i → Does (λ j. Out PATH-RHS 96 j) s₀ s (vecAt s PATH-RHS n) (forward n O Sc Bd Re)
+  unfolding forward
+  forwards-end {i} {s} inv a b =
+      let same : i ≡ n = omega arith in
+      record { kept = inv .kept; is = ap (vecAt s PATH-RHS) (sym same) ∙ turns-end (forwardTurn n O Sc Bd Re) [] a b (inv .is) }
+
+-- backward_sum
+abbrev pub backwardPart : List Float → List Float → ℕ → ℕ → Float → Float
+backwardPart band y i j value = value ⊖ cell band j (j - i) ⊗ at y j
+
+module _ (s : List Float) (n i : ℕ) (hi : i < n) where
+  pub backward-more : {j : ℕ} (a : Float) {value : Float} → i + 1 ≤ j → j < n → j < i + 12 → value ≡ turns (λ t. backwardPart (bandAt s n) (vecAt s PATH-RHS n) i (i + 1 + t)) (j - (i + 1)) a
+      → value ⊖ at s (PATH-BAND + 12 * j + (j - i)) ⊗ at s (PATH-RHS + j) ≡ turns (λ t. backwardPart (bandAt s n) (vecAt s PATH-RHS n) i (i + 1 + t)) (j + 1 - (i + 1)) a
+  backward-more {j} a {value} l m q e =
+      from-turn (backwardPart (bandAt s n) (vecAt s PATH-RHS n) i) a l e (λ x. value ⊖ cell-at s n j (j - i) m (omega arith) x ⊗ vec-at s PATH-RHS n j m x)
+
+  pub backward-ends : {j : ℕ} (a : Float) {value : Float} → j ≡ min n (i + 12) → value ≡ turns (λ t. backwardPart (bandAt s n) (vecAt s PATH-RHS n) i (i + 1 + t)) (j - (i + 1)) a → value ≡ backwardSum n (bandAt s n) (vecAt s PATH-RHS n) i a
+  unfolding backwardSum
+  backward-ends {j} a l e = e ∙ ap (λ (x : ℕ). turns (λ t. backwardPart (bandAt s n) (vecAt s PATH-RHS n) i (i + 1 + t)) (x - (i + 1)) a) l
+
+-- backward
+abbrev pub Backs : ℕ → Type 0
+Backs i = (Out PATH-RHS 96 i) × (Out SOLUTION 96 i)
+
+abbrev pub backAt : List Float → ℕ → Back
+backAt s n = record { y = vecAt s PATH-RHS n; solution = vecAt s SOLUTION n }
+
+backs-rhs : (i k : ℕ) → k < 96 → Out PATH-RHS 96 i → Out (PATH-RHS + k) 1 i
+backs-rhs i k h x = omega arith
+
+backs-solution : (i k : ℕ) → k < 96 → Out SOLUTION 96 i → Out (SOLUTION + k) 1 i
+backs-solution i k h x = omega arith
+
+module _ (n : ℕ) (most : n ≤ 96) (order : List ℕ) (along : Along order n) (s₀ : List Float) where
+  abbrev O₁ : List ℕ
+  O₁ = listAt order n
+
+  abbrev Sc₁ : List Float
+  Sc₁ = vecAt s₀ PATH-SCALE n
+
+  abbrev Bd₁ : List Float
+  Bd₁ = bandAt s₀ n
+
+  abbrev Turned : ℕ → Back → Back
+  Turned = backwardTurn n O₁ Sc₁ Bd₁
+
+  abbrev pub BackwardSo : ℕ → List Float → Type 0
+  BackwardSo k s = Does Backs s₀ s (backAt s n) (turns (backwardTurn n (listAt order n) (vecAt s₀ PATH-SCALE n) (bandAt s₀ n)) k (backAt s₀ n))
+
+  pub backwards-none : BackwardSo 0 s₀
+  backwards-none = record { kept = kept-refl _ s₀; is = turns-none Turned (backAt s₀ n) }
+
+  module _ {k : ℕ} {s : List Float} (inv : BackwardSo k s) (h : k < n) (l : PATH-RHS + 96 ≤ length s) {sum : Float}
+      (es : sum ≡ backwardSum n (bandAt s n) (vecAt s PATH-RHS n) (n - 1 - k) (at s (PATH-RHS + (n - 1 - k)))) where
+    abbrev i : ℕ
+    i = n - 1 - k
+
+    i-there : i < n
+    i-there = omega arith
+
+    band₁ : bandAt s n ≡ Bd₁
+    band₁ = kept-vec (inv .kept) PATH-BAND (12 * n) (λ j x y. omega arith)
+
+    abbrev value : Float
+    value = sum ⊘ at s (PATH-BAND + 12 * i)
+
+    value-is : value ≡ backwardSum n Bd₁ (vecAt s PATH-RHS n) i (at (vecAt s PATH-RHS n) i) ⊘ cell Bd₁ i 0
+    value-is = λ j. (es ∙ λ x. backwardSum n (band₁ x) (vecAt s PATH-RHS n) i (vec-at s PATH-RHS n i i-there x)) j ⊘ (cell-first s n i i-there ∙ λ x. cell (band₁ x) i 0) j
+
+    abbrev s₁ : List Float
+    s₁ = set s (PATH-RHS + i) value
+
+    abbrev m : ℕ
+    m = getD order i 0
+
+    m-there : m < n
+    m-there = along i i-there
+
+    k₁ : Kept (λ j. Out (PATH-RHS + i) 1 j) s s₁
+    k₁ = kept-set s (PATH-RHS + i) value
+
+    sol₁ : vecAt s₁ SOLUTION n ≡ vecAt s SOLUTION n
+    sol₁ = kept-vec k₁ SOLUTION n (λ j x y. omega arith)
+
+    abbrev moved : Float
+    moved = at s₁ (SOLUTION + m) ⊕ value ⊘ at s₁ (PATH-SCALE + i)
+
+    abbrev s₂ : List Float
+    s₂ = set s₁ (SOLUTION + m) moved
+
+    scale₁ : at s₁ (PATH-SCALE + i) ≡ at Sc₁ i
+    scale₁ = k₁ .same (PATH-SCALE + i) (omega arith) ∙ vec-in (inv .kept) PATH-SCALE n i (λ j x y. omega arith) i-there refl
+
+    old-is : at s₁ (SOLUTION + m) ≡ at (vecAt s SOLUTION n) (index O₁ i)
+    old-is = vec-at s₁ SOLUTION n m m-there ∙ λ j. at (sol₁ j) (list-at order n i i-there j)
+
+    abbrev want : Float
+    want = backwardSum n Bd₁ (vecAt s PATH-RHS n) i (at (vecAt s PATH-RHS n) i) ⊘ cell Bd₁ i 0
+
+    y₂ : vecAt s₂ PATH-RHS n ≡ set (vecAt s PATH-RHS n) i want
+    y₂ = kept-vec (kept-set s₁ (SOLUTION + m) moved) PATH-RHS n (λ j x y. omega (arith, m-there)) ∙ vec-set s PATH-RHS n i value i-there (omega arith) ∙ ap (set (vecAt s PATH-RHS n) i) value-is
+
+    solution₂ : vecAt s₂ SOLUTION n ≡ set (vecAt s SOLUTION n) (index O₁ i) (at (vecAt s SOLUTION n) (index O₁ i) ⊕ want ⊘ at Sc₁ i)
+    solution₂ = vec-set s₁ SOLUTION n m moved m-there (omega (arith, k₁ .size)) ∙ λ j. set (sol₁ j) (list-at order n i i-there j) (old-is j ⊕ value-is j ⊘ scale₁ j)
+
+    pub backwards-more : BackwardSo (k + 1) s₂
+    unfolding backwardTurn
+    backwards-more = record {
+      kept = kept-then (kept-then (inv .kept) k₁ (λ j x. backs-rhs j i (omega arith) (x .0))) (kept-set s₁ (SOLUTION + m) moved) (λ j x. backs-solution j m (omega (arith, m-there)) (x .1));
+      is = (λ j. record { y = y₂ j; solution = solution₂ j }) ∙ turns-more Turned k (backAt s₀ n) (inv .is);
+    }
+
+  pub backwards-end : {k : ℕ} {s : List Float} → BackwardSo k s → k ≤ n → n ≤ k → Does Backs s₀ s (vecAt s SOLUTION n) (backward n O₁ Sc₁ Bd₁ (vecAt s₀ PATH-RHS n) (vecAt s₀ SOLUTION n))
+  unfolding backward
+  backwards-end inv a b = record { kept = inv .kept; is = ap (λ (x : Back). x .solution) (turns-end Turned (backAt s₀ n) a b (inv .is)) }
+
+-- refine
+refining-product : (i : ℕ) → Refining i → Moves PRODUCT i
+refining-product i x = (x .0 .1, within i (x .0 .0))
+  where
+    within : (i : ℕ) → Out SOLUTION (DIAGONAL - SOLUTION) i → Out PRODUCT 96 i
+    within i x = omega arith
+
+refining-residual : (i : ℕ) → Refining i → Out RESIDUAL 96 i
+refining-residual i x = within i (x .0 .0)
+  where
+    within : (i : ℕ) → Out SOLUTION (DIAGONAL - SOLUTION) i → Out RESIDUAL 96 i
+    within i x = omega arith
+
+refining-solution : (i : ℕ) → Refining i → Out SOLUTION 96 i
+refining-solution i x = within i (x .0 .0)
+  where
+    within : (i : ℕ) → Out SOLUTION (DIAGONAL - SOLUTION) i → Out SOLUTION 96 i
+    within i x = omega arith
+
+module _ {s : List Float} {ia ib : List ℕ} {rows n count : ℕ} (pre : Rows s ia ib rows n count) (order : List ℕ) where
+  abbrev R : List EqualityRow
+  R = rowsOn ia ib s rows n
+
+  abbrev M : List MassResponse
+  M = massesAt s MASSES count
+
+  abbrev Fine : Result Refined
+  Fine = refine R M (vecAt s RHS n) n (listAt order n) (factorAt s n) (refinedAt s n)
+
+  module _ {s₁ s₂ : List Float} (d₁ : Does (λ j. Out PATH-RHS 96 j) s s₁ (vecAt s₁ PATH-RHS n) (forward n (listAt order n) (vecAt s PATH-SCALE n) (bandAt s n) (vecAt s RESIDUAL n)))
+      (d₂ : Does Backs s₁ s₂ (vecAt s₂ SOLUTION n) (backward n (listAt order n) (vecAt s₁ PATH-SCALE n) (bandAt s₁ n) (vecAt s₁ PATH-RHS n) (vecAt s₁ SOLUTION n))) where
+    k₂ : Kept Refining s s₂
+    k₂ = kept-then (kept-more (d₁ .kept) (λ i x. x .1)) (d₂ .kept) (λ i x. (x .1, refining-solution i x))
+
+    solution-is : vecAt s₂ SOLUTION n ≡ backward n (listAt order n) (vecAt s PATH-SCALE n) (bandAt s n) (forward n (listAt order n) (vecAt s PATH-SCALE n) (bandAt s n) (vecAt s RESIDUAL n)) (vecAt s SOLUTION n)
+    solution-is = d₂ .is ∙ λ j. backward n (listAt order n) (kept-vec (d₁ .kept) PATH-SCALE n (λ i x y. omega (arith, pre .most)) j) (kept-vec (d₁ .kept) PATH-BAND (12 * n) (λ i x y. omega (arith, pre .most)) j) (d₁ .is j)
+        (kept-vec (d₁ .kept) SOLUTION n (λ i x y. omega (arith, pre .most)) j)
+
+    abbrev Op : Result (List Float)
+    Op = operator (rowsOn ia ib s₂ rows n) (massesAt s₂ MASSES count) (vecAt s₂ SOLUTION n)
+
+    op-is : Op ≡ operator R M (backward n (listAt order n) (vecAt s PATH-SCALE n) (bandAt s n) (forward n (listAt order n) (vecAt s PATH-SCALE n) (bandAt s n) (vecAt s RESIDUAL n)) (vecAt s SOLUTION n))
+    op-is = λ j. operator (kept-rows k₂ ia ib rows n (λ i x y. omega (arith, pre .table, pre .most)) j) (kept-masses k₂ MASSES count (λ i x y. omega (arith, pre .bodies)) j) (solution-is j)
+
+    pub refine-lost : {s₃ : List Float} → Does (Moves PRODUCT) s₂ s₃ (stop arithmeticOverflow) Op → Does Refining s s₃ (stop arithmeticOverflow) Fine
+    unfolding refine
+    refine-lost d = record { kept = kept-then k₂ (d .kept) refining-product; is = then-stop _ (d .is ∙ op-is) }
+
+    pub refine-done : {s₃ s₄ : List Float} → Does (Moves PRODUCT) s₂ s₃ (go (vecAt s₃ PRODUCT n)) Op → Does (λ i. Out RESIDUAL 96 i) s₃ s₄ (vecAt s₄ RESIDUAL n) (difference (vecAt s₃ RHS n) (vecAt s₃ PRODUCT n))
+        → Does Refining s s₄ (go (refinedAt s₄ n)) Fine
+    unfolding refine
+    refine-done {s₃} {s₄} d e = record {
+      kept = kept-then k₃ (e .kept) refining-residual;
+      is = (λ j. go (record { solution = sol₄ j; residual = res₄ j })) ∙ then-go _ (d .is ∙ op-is);
+    }
+      where
+        k₃ : Kept Refining s s₃
+        k₃ = kept-then k₂ (d .kept) refining-product
+
+        sol₄ : vecAt s₄ SOLUTION n ≡ backward n (listAt order n) (vecAt s PATH-SCALE n) (bandAt s n) (forward n (listAt order n) (vecAt s PATH-SCALE n) (bandAt s n) (vecAt s RESIDUAL n)) (vecAt s SOLUTION n)
+        sol₄ = kept-vec (e .kept) SOLUTION n (λ i x y. omega (arith, pre .most)) ∙ kept-vec (d .kept) SOLUTION n (λ i x y. omega (arith, pre .most)) ∙ solution-is
+
+        res₄ : vecAt s₄ RESIDUAL n ≡ difference (vecAt s RHS n) (vecAt s₃ PRODUCT n)
+        res₄ = e .is ∙ ap (λ (l : List Float). difference l (vecAt s₃ PRODUCT n)) (kept-vec k₃ RHS n (λ i x y. omega (arith, pre .most)))
+
+-- refinements
+module _ {z : List Float} {ia ib : List ℕ} {rows n count : ℕ} (pre : Rows z ia ib rows n count) (order : List ℕ) (tolerance : Float) (s₀ : List Float) where
+  abbrev Refines : ℕ → Refined → Turn Refined Solve
+  Refines = refinement (rowsOn ia ib s₀ rows n) (massesAt s₀ MASSES count) (vecAt s₀ RHS n) n (listAt order n) (factorAt s₀ n) tolerance
+
+  abbrev All : Ending
+  All = ended (spent 4 (loop 4 Refines (refinedAt s₀ n)))
+
+  pub refined-none : Does Refining s₀ s₀ (go (refinedAt s₀ n)) (loop 0 Refines (refinedAt s₀ n))
+  refined-none = record { kept = kept-refl _ s₀; is = loop-none Refines (refinedAt s₀ n) }
+
+  module _ {k : ℕ} {s : List Float} (inv : Does Refining s₀ s (go (refinedAt s n)) (loop k Refines (refinedAt s₀ n))) (h : k < 4) where
+    fine-is : {d : Result Refined} → d ≡ refine (rowsOn ia ib s rows n) (massesAt s MASSES count) (vecAt s RHS n) n (listAt order n) (factorAt s n) (refinedAt s n)
+        → d ≡ refine (rowsOn ia ib s₀ rows n) (massesAt s₀ MASSES count) (vecAt s₀ RHS n) n (listAt order n) (factorAt s₀ n) (refinedAt s n)
+    fine-is e = e ∙ λ j. refine (kept-rows (inv .kept) ia ib rows n (λ i x y. omega (arith, pre .table, pre .most)) j) (kept-masses (inv .kept) MASSES count (λ i x y. omega (arith, pre .bodies)) j)
+        (kept-vec (inv .kept) RHS n (λ i x y. omega (arith, pre .most)) j) n (listAt order n)
+        (record { scale = kept-vec (inv .kept) PATH-SCALE n (λ i x y. omega (arith, pre .most)) j; band = kept-vec (inv .kept) PATH-BAND (12 * n) (λ i x y. omega (arith, pre .most)) j }) (refinedAt s n)
+
+    abbrev FineOf : Result Refined
+    FineOf = refine (rowsOn ia ib s rows n) (massesAt s MASSES count) (vecAt s RHS n) n (listAt order n) (factorAt s n) (refinedAt s n)
+
+    pub refined-lost : {t : List Float} → Does Refining s t (stop arithmeticOverflow) FineOf → Does Refining s₀ t (ended (record { answer = stop arithmeticOverflow; passes = k })) All
+    unfolding refinement
+    refined-lost d = record { kept = kept-then (inv .kept) (d .kept) (λ i x. x); is = ap (λ x. ended (spent 4 x)) (loop-stop Refines (refinedAt s₀ n) 4 h (inv .is) (then-stop _ (ap (λ x. after k (try x)) (fine-is (d .is))))) }
+
+    module _ {t : List Float} (d : Does Refining s t (go (refinedAt t n)) FineOf) where
+      on : Kept Refining s₀ t
+      on = kept-then (inv .kept) (d .kept) (λ i x. x)
+
+      pub refined-wild : stop arithmeticOverflow ≡ within (vecAt t RESIDUAL n) tolerance → Does Refining s₀ t (ended (record { answer = stop arithmeticOverflow; passes = k + 1 })) All
+      unfolding refinement
+      refined-wild e = record { kept = on; is = ap (λ x. ended (spent 4 x)) (loop-stop Refines (refinedAt s₀ n) 4 h (inv .is) (then-stop _ (ap (λ x. after (k + 1) (try x)) e) ∙ then-go _ (ap (λ x. after k (try x)) (fine-is (d .is))))) }
+
+      pub refined-near : go true ≡ within (vecAt t RESIDUAL n) tolerance → Does Refining s₀ t (ended (record { answer = go (vecAt t SOLUTION n); passes = k + 1 })) All
+      unfolding refinement
+      refined-near e = record {
+        kept = on;
+        is = ap (λ x. ended (spent 4 x)) (loop-stop Refines (refinedAt s₀ n) 4 h (inv .is)
+            (then-stop _ (returns-if _ refl) ∙ then-go _ (ap (λ x. after (k + 1) (try x)) e) ∙ then-go _ (ap (λ x. after k (try x)) (fine-is (d .is)))));
+      }
+
+      pub refined-more : go false ≡ within (vecAt t RESIDUAL n) tolerance → Does Refining s₀ t (go (refinedAt t n)) (loop (k + 1) Refines (refinedAt s₀ n))
+      unfolding refinement
+      refined-more e = record {
+        kept = on;
+        is = loop-more Refines (refinedAt s₀ n) (inv .is)
+            (then-go _ (goes-on {E = Solve} (record { answer = go (vecAt t SOLUTION n); passes = k + 1 }) refl) ∙ then-go _ (ap (λ x. after (k + 1) (try x)) e) ∙ then-go _ (ap (λ x. after k (try x)) (fine-is (d .is))));
+      }
+
+  pub refined-spent : {k : ℕ} {s : List Float} → Does Refining s₀ s (go (refinedAt s n)) (loop k Refines (refinedAt s₀ n)) → k ≤ 4 → 4 ≤ k → Does Refining s₀ s (ended (record { answer = stop nonConvergent; passes = 4 })) All
+  refined-spent inv a b = record { kept = inv .kept; is = ap (λ x. ended (spent 4 x)) (loop-end Refines (refinedAt s₀ n) a b (inv .is)) }
+
+-- path_solve
+module _ {s : List Float} {ia ib : List ℕ} {rows n count : ℕ} (pre : Rows s ia ib rows n count) where
+  abbrev R₁ : List EqualityRow
+  R₁ = rowsOn ia ib s rows n
+
+  abbrev M₁ : List MassResponse
+  M₁ = massesAt s MASSES count
+
+  abbrev Path : Ending
+  Path = pathSolve R₁ M₁ (vecAt s RHS n) (vecAt s SOLUTION n)
+
+  len : length R₁ ≡ n
+  len = tab-length n (rowOn ia ib s rows)
+
+  a-is : listAt ia n ≡ tab (length R₁) (λ k. rowIn R₁ k .a)
+  a-is = tab-ext n (λ k h. ap (λ (r : EqualityRow). r .a) (sym (tab-at n (rowOn ia ib s rows) noRow k h))) ∙ ap (λ (m : ℕ). tab m (λ k. rowIn R₁ k .a)) (sym len)
+
+  b-is : listAt ib n ≡ tab (length R₁) (λ k. rowIn R₁ k .b)
+  b-is = tab-ext n (λ k h. ap (λ (r : EqualityRow). r .b) (sym (tab-at n (rowOn ia ib s rows) noRow k h))) ∙ ap (λ (m : ℕ). tab m (λ k. rowIn R₁ k .b)) (sym len)
+
+  order-is : {d : Turn (List ℕ) (Unit {0})} → d ≡ pathOrder (listAt ia n) (listAt ib n) n → d ≡ pathOrder (tab (length R₁) (λ k. rowIn R₁ k .a)) (tab (length R₁) (λ k. rowIn R₁ k .b)) (length R₁)
+  order-is e = e ∙ λ j. pathOrder (a-is j) (b-is j) (sym len j)
+
+  pub path-declined : stop tt ≡ pathOrder (listAt ia n) (listAt ib n) n → Does Work s s declined Path
+  unfolding pathSolve
+  path-declined e = record { kept = kept-refl _ s; is = ap (λ x. pathOn x (pathAlong R₁ M₁ (vecAt s RHS n) (vecAt s SOLUTION n))) (order-is e) }
+
+  module _ (order : List ℕ) (found : go (listAt order n) ≡ pathOrder (listAt ia n) (listAt ib n) n) where
+    abbrev Whole : Solve
+    Whole = pathAlong R₁ M₁ (vecAt s RHS n) (vecAt s SOLUTION n) (listAt order n)
+
+    whole-is : ended Whole ≡ Path
+    unfolding pathSolve
+    whole-is = ap (λ x. pathOn x (pathAlong R₁ M₁ (vecAt s RHS n) (vecAt s SOLUTION n))) (order-is found)
+
+    factored-is : {d : Result Factor} → d ≡ pathFactored R₁ M₁ (listAt order n) n → d ≡ pathFactored R₁ M₁ (listAt order n) (length R₁)
+    factored-is e = e ∙ ap (pathFactored R₁ M₁ (listAt order n)) (sym len)
+
+    pub path-refused : {t : List Float} {f : Fault} → Does Factoring s t (stop f) (pathFactored R₁ M₁ (listAt order n) n) → Does Work s t (ended (record { answer = stop f; passes = 0 })) Path
+    unfolding pathAlong
+    path-refused d = record { kept = kept-more (d .kept) (λ i x. omega arith); is = ap (λ x. ended (spent 4 x)) (then-stop _ (first-stop (factored-is (d .is)))) ∙ whole-is }
+
+    module _ {t : List Float} (d : Does Factoring s t (go (factorAt t n)) (pathFactored R₁ M₁ (listAt order n) n)) where
+      kₐ : Kept Work s t
+      kₐ = kept-more (d .kept) (λ i x. omega arith)
+
+      rhs₁ : vecAt t RHS n ≡ vecAt s RHS n
+      rhs₁ = kept-vec kₐ RHS n (λ i x y. omega (arith, pre .most))
+
+      tolerance-is : {r : Result Float} → r ≡ toleranceFor (ratio 1 (10 ^ 12)) (vecAt t RHS n) → r ≡ toleranceFor (ratio 1 (10 ^ 12)) (vecAt s RHS n)
+      tolerance-is e = e ∙ ap (toleranceFor (ratio 1 (10 ^ 12))) rhs₁
+
+      pub path-lost : stop arithmeticOverflow ≡ toleranceFor (ratio 1 (10 ^ 12)) (vecAt t RHS n) → Does Work s t (ended (record { answer = stop arithmeticOverflow; passes = 0 })) Path
+      unfolding pathAlong
+      path-lost e = record { kept = kₐ; is = ap (λ x. ended (spent 4 x)) (then-stop _ (first-stop (tolerance-is e)) ∙ then-go _ (first-go (factored-is (d .is)))) ∙ whole-is }
+
+      module _ {tolerance : Float} (e : go tolerance ≡ toleranceFor (ratio 1 (10 ^ 12)) (vecAt t RHS n)) {u : List Float} (c : Does (λ i. Out RESIDUAL 96 i) t u (vecAt u RESIDUAL n) (vecAt t RHS n)) where
+        kᵦ : Kept Work s u
+        kᵦ = kept-then kₐ (c .kept) (λ i x. omega arith)
+
+        begun : refinedAt u n ≡ record { solution = vecAt s SOLUTION n; residual = vecAt s RHS n }
+        begun = λ j. record {
+          solution = (kept-vec (c .kept) SOLUTION n (λ i x y. omega (arith, pre .most)) ∙ kept-vec (d .kept) SOLUTION n (λ i x y. omega (arith, pre .most))) j;
+          residual = (c .is ∙ rhs₁) j;
+        }
+
+        factor-is : factorAt u n ≡ factorAt t n
+        factor-is = λ j. record { scale = kept-vec (c .kept) PATH-SCALE n (λ i x y. omega (arith, pre .most)) j; band = kept-vec (c .kept) PATH-BAND (12 * n) (λ i x y. omega (arith, pre .most)) j }
+
+        looped : ended (spent 4 (loop 4 (refinement (rowsOn ia ib u rows n) (massesAt u MASSES count) (vecAt u RHS n) n (listAt order n) (factorAt u n) tolerance) (refinedAt u n)))
+            ≡ ended (spent 4 (loop 4 (refinement R₁ M₁ (vecAt s RHS n) (length R₁) (listAt order n) (factorAt t n) tolerance) (record { solution = vecAt s SOLUTION n; residual = vecAt s RHS n })))
+        looped = λ j. ended (spent 4 (loop 4 (refinement (kept-rows kᵦ ia ib rows n (λ i x y. omega (arith, pre .table, pre .most)) j) (kept-masses kᵦ MASSES count (λ i x y. omega (arith, pre .bodies)) j)
+            (kept-vec kᵦ RHS n (λ i x y. omega (arith, pre .most)) j) (sym len j) (listAt order n) (factor-is j) tolerance) (begun j)))
+
+        pub path-whole : {v : List Float} {y : Ending}
+            → Does Refining u v y (ended (spent 4 (loop 4 (refinement (rowsOn ia ib u rows n) (massesAt u MASSES count) (vecAt u RHS n) n (listAt order n) (factorAt u n) tolerance) (refinedAt u n))))
+            → Does Work s v y Path
+        unfolding pathAlong
+        path-whole f = record {
+          kept = kept-then kᵦ (f .kept) (λ i x. ((omega arith, omega arith), omega arith));
+          is = f .is ∙ looped ∙ ap (λ x. ended (spent 4 x)) (then-go _ (first-go (tolerance-is e)) ∙ then-go _ (first-go (factored-is (d .is)))) ∙ whole-is;
+        }
+
+-- linear_solve
+module _ {s : List Float} {ia ib : List ℕ} {rows n count : ℕ} (pre : Rows s ia ib rows n count) (cyclic : Bool) {s₁ s₂ : List Float}
+    (f : Filled SOLUTION n (λ _. ratio 0 1) s s₁) (d : Does (λ i. Out RESIDUAL 96 i) s₁ s₂ (vecAt s₂ RESIDUAL n) (vecAt s₁ RHS n)) where
+  abbrev R₂ : List EqualityRow
+  R₂ = rowsOn ia ib s rows n
+
+  abbrev M₂ : List MassResponse
+  M₂ = massesAt s MASSES count
+
+  abbrev zeros : List Float
+  zeros = replicate (length R₂) (ratio 0 1)
+
+  abbrev Linear : Ending
+  Linear = ended (linearSolve cyclic R₂ M₂ (vecAt s RHS n))
+
+  q₁ : Kept Work s s₁
+  q₁ = kept-more (f .kept) (λ i x. omega (arith, pre .most))
+
+  q₂ : Kept Work s s₂
+  q₂ = kept-then q₁ (d .kept) (λ i x. omega arith)
+
+  rows₂ : rowsOn ia ib s₂ rows n ≡ R₂
+  rows₂ = kept-rows q₂ ia ib rows n (λ i x y. omega (arith, pre .table, pre .most))
+
+  masses₂ : massesAt s₂ MASSES count ≡ M₂
+  masses₂ = kept-masses q₂ MASSES count (λ i x y. omega (arith, pre .bodies))
+
+  rhs₂ : vecAt s₂ RHS n ≡ vecAt s RHS n
+  rhs₂ = kept-vec q₂ RHS n (λ i x y. omega (arith, pre .most))
+
+  zeros₂ : vecAt s₂ SOLUTION n ≡ zeros
+  zeros₂ = kept-vec (d .kept) SOLUTION n (λ i x y. omega (arith, pre .most)) ∙ filled-vec f
+      ∙ sym (is-tab n (λ _. ratio 0 1) (ratio 0 1) (replicate n (ratio 0 1)) (length-replicate n (ratio 0 1)) (λ k h. getD-replicate n k (ratio 0 1) (ratio 0 1) h))
+      ∙ ap (λ (m : ℕ). replicate m (ratio 0 1)) (sym (tab-length n (rowOn ia ib s rows)))
+
+  residual₂ : vecAt s₂ RESIDUAL n ≡ vecAt s RHS n
+  residual₂ = d .is ∙ kept-vec q₁ RHS n (λ i x y. omega (arith, pre .most))
+
+  pub linear-least : cyclic ≡ true → {t : List Float} {y : Ending}
+      → Does Work s₂ t y (ended (leastSquares (rowsOn ia ib s₂ rows n) (massesAt s₂ MASSES count) (vecAt s₂ RHS n) (vecAt s₂ SOLUTION n) (vecAt s₂ RESIDUAL n))) → Does Work s t y Linear
+  unfolding linearSolve
+  linear-least h e = record {
+    kept = kept-then q₂ (e .kept) (λ i x. x);
+    is = e .is ∙ (λ j. ended (leastSquares (rows₂ j) (masses₂ j) (rhs₂ j) (zeros₂ j) (residual₂ j))) ∙ ap ended (cond-yes _ _ h);
+  }
+
+  module _ (h : cyclic ≡ false) where
+    path-is : {d : Ending} → d ≡ pathSolve (rowsOn ia ib s₂ rows n) (massesAt s₂ MASSES count) (vecAt s₂ RHS n) (vecAt s₂ SOLUTION n) → d ≡ pathSolve R₂ M₂ (vecAt s RHS n) zeros
+    path-is e = e ∙ λ j. pathSolve (rows₂ j) (masses₂ j) (rhs₂ j) (zeros₂ j)
+
+    pub linear-path : {t : List Float} {e : Solve} → Does Work s₂ t (ended e) (pathSolve (rowsOn ia ib s₂ rows n) (massesAt s₂ MASSES count) (vecAt s₂ RHS n) (vecAt s₂ SOLUTION n)) → Does Work s t (ended e) Linear
+    unfolding linearSolve
+    linear-path p = record {
+      kept = kept-then q₂ (p .kept) (λ i x. x);
+      is = ap ended (ap (λ x. orElse x (gradients R₂ M₂ (vecAt s RHS n) zeros (vecAt s RHS n))) (path-is (p .is)) ∙ cond-no _ _ h);
+    }
+
+    pub linear-gradients : {u t : List Float} {y : Ending} → Does Work s₂ u declined (pathSolve (rowsOn ia ib s₂ rows n) (massesAt s₂ MASSES count) (vecAt s₂ RHS n) (vecAt s₂ SOLUTION n)) → u ≡ s₂
+        → Does Work u t y (ended (gradients (rowsOn ia ib u rows n) (massesAt u MASSES count) (vecAt u RHS n) (vecAt u SOLUTION n) (vecAt u RESIDUAL n))) → Does Work s t y Linear
+    unfolding linearSolve
+    linear-gradients {u} {t} {y} p same g = record {
+      kept = kept-then q₂ (kept-then (p .kept) (g .kept) (λ i x. x)) (λ i x. x);
+      is = g .is ∙ (λ j. ended (gradients (rowsOn ia ib (same j) rows n) (massesAt (same j) MASSES count) (vecAt (same j) RHS n) (vecAt (same j) SOLUTION n) (vecAt (same j) RESIDUAL n)))
+          ∙ (λ j. ended (gradients (rows₂ j) (masses₂ j) (rhs₂ j) (zeros₂ j) (residual₂ j)))
+          ∙ ap ended (ap (λ x. orElse x (gradients R₂ M₂ (vecAt s RHS n) zeros (vecAt s RHS n))) (path-is (p .is)) ∙ cond-no _ _ h);
+    }
+
+-- an answer that is not declined is handed on as it is
+pub solved-as : (r : Ended) (x : List Float) {q : End} → r .end ≡ q → solveAs r x ≡ endAs q (r .passes) x
+solved-as r x h = ap (λ (e : End). endAs e (r .passes) x) h
+
+pub does-eq : {A : Type 0} {P : ℕ → Type 0} {s t : List Float} {x y d : A} → x ≡ y → Does P s t y d → Does P s t x d
+does-eq e f = record { kept = f .kept; is = e ∙ f .is }
+
+-- how path_solve ends
+pub order-no : (r : PathOrder) {d : Turn (List ℕ) (Unit {0})} → orderAs r ≡ d → r .found ≡ false → stop tt ≡ d
+order-no r e h = cond-no _ _ h ∙ e
+
+pub order-yes : (r : PathOrder) (n : ℕ) {d : Turn (List ℕ) (Unit {0})} → orderAs r ≡ d → r .found ≡ true → r .order .count ≡ n → go (listAt (r .order .rows) n) ≡ d
+order-yes r n e h c = ap (λ (m : ℕ). go (listAt (r .order .rows) m)) (sym c) ∙ cond-yes _ _ h ∙ e
+
+pub ended-not : (r : Ended) (x : List Float) {e : Solve} → solveAs r x ≡ ended e → r .end ≡ Ends.Declined → ⊥
+ended-not r x {e} f h = differ (sym (ap (λ (q : End). endAs q (r .passes) x) h) ∙ f)
+  where
+    differ : declined ≡ ended e → ⊥
+    differ q = let z : _≡_ {A = ℕ} 0 1 = cc in omega arith
+
+pub not-declined-1 : Ends.NonConvergent ≡ Ends.Declined → ⊥
+not-declined-1 q = let z : _≡_ {A = ℕ} 0 1 = cc in omega arith
+
+pub not-declined-2 : Ends.ArithmeticOverflow ≡ Ends.Declined → ⊥
+not-declined-2 q = let z : _≡_ {A = ℕ} 0 1 = cc in omega arith
+
+pub new-path : {r : Ended} {e : End} {p : ℕ} {P : ℕ → Type 0} {s t : List Float} (x : List Float) {d : Ending} → r ≡ endedWith e p → p ≤ 4 → Does P s t (endAs e p x) d → (e ≡ Ends.Declined → t ≡ s)
+    → (Does P s t (solveAs r x) d) × (r .end ≡ Ends.Declined → t ≡ s) × (r .passes ≤ 4)
+new-path x h l d f = (new-ended x h l d .0, λ q. f (sym (ap (λ (o : Ended). o .end) h) ∙ q), new-ended x h l d .1)

@@ -1,0 +1,71 @@
+use native.Mathlib.Omega.{arith}
+use borrow.Author.Needs.{needs}
+use mathlib.Core.Path.{_≡_, refl, sym, ap, _∙_}
+use Prim.Native.Nat.{_+_, _*_, _≤_, _<_, _-_}
+use lib.ListN.{length, length-set}
+use denote.Ref.{now}
+use Rattle.solves.proofs.BlockLaws.{begins-first, begins-same, begins-b, begins-a}
+use borrow.Author.Needs.{needs}
+use Rattle.solves.proofs.path.begins.Statement.{statement}
+use Rattle.solves.proofs.path.begins.Tie as tie
+
+returns : tie.Need-returns
+returns c = begins-first (now (c .before .args .ia)) (now (c .before .args .ib)) (c .before .args .i) (c .if1 .taken)
+
+mul-if2 : tie.Need-mul-if2
+mul-if2 c = search needs
+
+element-copy-out-if2 : tie.Need-element-copy-out-if2
+element-copy-out-if2 c = search needs
+
+sub-if2 : tie.Need-sub-if2
+sub-if2 c = search needs
+
+mul-if2-2 : tie.Need-mul-if2-2
+mul-if2-2 c = search needs
+
+element-copy-out-if2-2 : tie.Need-element-copy-out-if2-2
+element-copy-out-if2-2 c = search needs
+
+mul-if3 : tie.Need-mul-if3
+mul-if3 c = search needs
+
+element-copy-out-if3 : tie.Need-element-copy-out-if3
+element-copy-out-if3 c = search needs
+
+sub-if3 : tie.Need-sub-if3
+sub-if3 c = search needs
+
+mul-if3-2 : tie.Need-mul-if3-2
+mul-if3-2 c = search needs
+
+element-copy-out-if3-2 : tie.Need-element-copy-out-if3-2
+element-copy-out-if3-2 c = search needs
+
+returns-2 : tie.Need-returns-2
+returns-2 c = begins-same (now (c .before .before .before .before .before .before .before .args .ia)) (now (c .before .before .before .before .before .before .before .args .ib)) (c .before .before .before .before .before .before .before .args .i) (c .before .before .before .before .before .before .if1 .left) (c .before .before .before .if2 .taken) (c .if3 .taken)
+
+returns-3 : tie.Need-returns-3
+returns-3 c = begins-b (now (c .before .before .before .before .before .before .before .args .ia)) (now (c .before .before .before .before .before .before .before .args .ib)) (c .before .before .before .before .before .before .before .args .i) (c .before .before .before .before .before .before .if1 .left) (c .before .before .before .if2 .taken) (c .if3 .left)
+
+returns-4 : tie.Need-returns-4
+returns-4 c = begins-a (now (c .before .before .before .before .args .ia)) (now (c .before .before .before .before .args .ib)) (c .before .before .before .before .args .i) (c .before .before .before .if1 .left) (c .if2 .left)
+
+pub begins-spec : {M : Type 1} → statement M
+begins-spec =
+    tie.close
+    (tie.spec
+    returns
+    mul-if2
+    element-copy-out-if2
+    sub-if2
+    mul-if2-2
+    element-copy-out-if2-2
+    mul-if3
+    element-copy-out-if3
+    sub-if3
+    mul-if3-2
+    element-copy-out-if3-2
+    returns-2
+    returns-3
+    returns-4)

@@ -1,0 +1,18 @@
+use native.Mathlib.Omega.{arith}
+use borrow.Author.Needs.{needs}
+use mathlib.Core.Path.{_≡_, refl, sym, ap, _∙_}
+use Prim.Native.Nat.{_+_, _*_, _≤_, _<_, _-_}
+use lib.ListN.{length, length-set}
+use denote.Ref.{now}
+use Rattle.solves.proofs.BlockLaws.{follows-none, follows-other}
+use Rattle.solves.proofs.path.follows.Statement.{statement}
+use Rattle.solves.proofs.path.follows.Tie as tie
+
+returns : tie.Need-returns
+returns c = follows-none (c .before .args .block) (c .before .args .previous) (c .if1 .taken)
+
+returns-2 : tie.Need-returns-2
+returns-2 c = follows-other (c .before .args .block) (c .before .args .previous) (c .if1 .left) refl
+
+pub follows-spec : {M : Type 1} → statement M
+follows-spec = tie.close (tie.spec returns returns-2)

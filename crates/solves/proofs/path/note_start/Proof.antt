@@ -1,0 +1,33 @@
+use native.Mathlib.Omega.{arith}
+use borrow.Author.Needs.{needs}
+use mathlib.Core.Path.{_≡_, refl, sym, ap, _∙_}
+use Prim.Native.Nat.{_+_, _*_, _≤_, _<_, _-_}
+use lib.ListN.{length, length-set}
+use denote.Ref.{now}
+use Rattle.arith.specs.FlowLaws.{cond-yes, cond-no}
+use borrow.Author.Needs.{needs}
+use Rattle.solves.proofs.path.note_start.Statement.{statement}
+use Rattle.solves.proofs.path.note_start.Tie as tie
+
+begins-requires : tie.Need-begins-requires
+begins-requires c κs = search needs
+
+mul-starts : tie.Need-mul-starts
+mul-starts c = search needs
+
+element-write-starts : tie.Need-element-write-starts
+element-write-starts c = search needs
+
+add-result : tie.Need-add-result
+add-result c = search needs
+
+returns : tie.Need-returns
+returns c = (cond-yes _ _ (sym (c .before .begins .ensures) ∙ c .if1 .taken), cond-yes _ _ (sym (c .before .begins .ensures) ∙ c .if1 .taken))
+
+returns-2 : tie.Need-returns-2
+returns-2 c = (cond-no _ _ (sym (c .before .begins .ensures) ∙ c .if1 .left), cond-no _ _ (sym (c .before .begins .ensures) ∙ c .if1 .left))
+
+pub note-start-spec : {M : Type 1} → statement M
+note-start-spec =
+    tie.close
+    (tie.spec begins-requires mul-starts element-write-starts add-result returns returns-2)

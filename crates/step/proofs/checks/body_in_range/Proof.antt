@@ -1,0 +1,42 @@
+use mathlib.Core.Path.{refl}
+use Rattle.step.proofs.CheckWays.{ground-is, reach-is, also, fails, stays, within-at}
+use borrow.Author.Needs.{needs}
+use Rattle.step.proofs.checks.body_in_range.Statement.{statement}
+use Rattle.step.proofs.checks.body_in_range.Tie as tie
+
+within-requires : tie.Need-within-requires
+within-requires c κs = search needs
+
+within-requires-2 : tie.Need-within-requires-2
+within-requires-2 c κs = search needs
+
+mass-in-range-requires : tie.Need-mass-in-range-requires
+mass-in-range-requires c κs = search needs
+
+is-normalized-requires : tie.Need-is-normalized-requires
+is-normalized-requires c κs = search needs
+
+returns : tie.Need-returns
+returns c = also (also (also (within-at (c .before .before .before .before .before .before .within .ensures) refl ground-is) (c .before .before .before .before .before .if1 .taken) (within-at (c .before .before .before .before .within2 .ensures) refl reach-is)) (c .before .before .before .if2 .taken) (c .before .before .mass-in-range .ensures)) (c .before .if3 .taken) (c .is-normalized .ensures)
+
+returns-2 : tie.Need-returns-2
+returns-2 c = fails _ (also (also (within-at (c .before .before .before .before .before .within .ensures) refl ground-is) (c .before .before .before .before .if1 .taken) (within-at (c .before .before .before .within2 .ensures) refl reach-is)) (c .before .before .if2 .taken) (c .before .mass-in-range .ensures)) (c .if3 .left)
+
+returns-3 : tie.Need-returns-3
+returns-3 c = stays _ (fails _ (also (within-at (c .before .before .before .within .ensures) refl ground-is) (c .before .before .if1 .taken) (within-at (c .before .within2 .ensures) refl reach-is)) (c .if2 .left))
+
+returns-4 : tie.Need-returns-4
+returns-4 c = stays _ (stays _ (fails _ (within-at (c .before .within .ensures) refl ground-is) (c .if1 .left)))
+
+pub body-in-range-spec : {M : Type 1} → statement M
+body-in-range-spec =
+    tie.close
+    (tie.spec
+    within-requires
+    within-requires-2
+    mass-in-range-requires
+    is-normalized-requires
+    returns
+    returns-2
+    returns-3
+    returns-4)

@@ -1,0 +1,43 @@
+use mathlib.Core.Path.{refl}
+use Rattle.step.proofs.CheckWays.{refuses, passes}
+use Rattle.step.specs.Checks.{bodiesOr}
+use borrow.Author.Needs.{needs}
+use Rattle.step.proofs.checks.body_refusal.Statement.{statement}
+use Rattle.step.proofs.checks.body_refusal.Tie as tie
+
+all-finite-requires : tie.Need-all-finite-requires
+all-finite-requires c κs = search needs
+
+returns : tie.Need-returns
+unfolding bodiesOr
+returns c = refuses _ _ (c .before .all-finite .ensures) (c .if1 .taken)
+
+bodies-in-range-requires : tie.Need-bodies-in-range-requires
+bodies-in-range-requires c κs = search needs
+
+returns-2 : tie.Need-returns-2
+unfolding bodiesOr
+returns-2 c = passes _ (c .before .before .before .all-finite .ensures) (c .before .before .if1 .left) (refuses _ _ (c .before .bodies-in-range .ensures) (c .if2 .taken))
+
+inertias-invert-requires : tie.Need-inertias-invert-requires
+inertias-invert-requires c κs = search needs
+
+returns-3 : tie.Need-returns-3
+unfolding bodiesOr
+returns-3 c = passes _ (c .before .before .before .before .before .all-finite .ensures) (c .before .before .before .before .if1 .left) (passes _ (c .before .before .before .bodies-in-range .ensures) (c .before .before .if2 .left) (refuses _ _ (c .before .inertias-invert .ensures) (c .if3 .taken)))
+
+returns-4 : tie.Need-returns-4
+unfolding bodiesOr
+returns-4 c = passes _ (c .before .before .before .before .before .all-finite .ensures) (c .before .before .before .before .if1 .left) (passes _ (c .before .before .before .bodies-in-range .ensures) (c .before .before .if2 .left) (passes _ (c .before .inertias-invert .ensures) (c .if3 .left) refl))
+
+pub body-refusal-spec : {M : Type 1} → statement M
+body-refusal-spec =
+    tie.close
+    (tie.spec
+    all-finite-requires
+    returns
+    bodies-in-range-requires
+    returns-2
+    inertias-invert-requires
+    returns-3
+    returns-4)

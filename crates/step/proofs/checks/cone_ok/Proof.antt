@@ -1,0 +1,27 @@
+use Rattle.step.proofs.CheckWays.{also, fails, stays}
+use borrow.Author.Needs.{needs}
+use Rattle.step.proofs.checks.cone_ok.Statement.{statement}
+use Rattle.step.proofs.checks.cone_ok.Tie as tie
+
+swing-ok-requires : tie.Need-swing-ok-requires
+swing-ok-requires c κs = search needs
+
+swing-ok-requires-2 : tie.Need-swing-ok-requires-2
+swing-ok-requires-2 c κs = search needs
+
+twist-ok-requires : tie.Need-twist-ok-requires
+twist-ok-requires c κs = search needs
+
+returns : tie.Need-returns
+returns c = also (also (c .before .before .before .before .swing-ok .ensures) (c .before .before .before .if1 .taken) (c .before .before .swing-ok2 .ensures)) (c .before .if2 .taken) (c .twist-ok .ensures)
+
+returns-2 : tie.Need-returns-2
+returns-2 c = fails _ (also (c .before .before .before .swing-ok .ensures) (c .before .before .if1 .taken) (c .before .swing-ok2 .ensures)) (c .if2 .left)
+
+returns-3 : tie.Need-returns-3
+returns-3 c = stays _ (fails _ (c .before .swing-ok .ensures) (c .if1 .left))
+
+pub cone-ok-spec : {M : Type 1} → statement M
+cone-ok-spec =
+    tie.close
+    (tie.spec swing-ok-requires swing-ok-requires-2 twist-ok-requires returns returns-2 returns-3)

@@ -1,0 +1,27 @@
+use Rattle.step.proofs.CheckWays.{also, fails, stays}
+use borrow.Author.Needs.{needs}
+use Rattle.step.proofs.checks.joint_ok.Statement.{statement}
+use Rattle.step.proofs.checks.joint_ok.Tie as tie
+
+frame-ok-requires : tie.Need-frame-ok-requires
+frame-ok-requires c κs = search needs
+
+frame-ok-requires-2 : tie.Need-frame-ok-requires-2
+frame-ok-requires-2 c κs = search needs
+
+kind-ok-requires : tie.Need-kind-ok-requires
+kind-ok-requires c κs = search needs
+
+returns : tie.Need-returns
+returns c = also (also (c .before .before .before .before .frame-ok .ensures) (c .before .before .before .if1 .taken) (c .before .before .frame-ok2 .ensures)) (c .before .if2 .taken) (c .kind-ok .ensures)
+
+returns-2 : tie.Need-returns-2
+returns-2 c = fails _ (also (c .before .before .before .frame-ok .ensures) (c .before .before .if1 .taken) (c .before .frame-ok2 .ensures)) (c .if2 .left)
+
+returns-3 : tie.Need-returns-3
+returns-3 c = stays _ (fails _ (c .before .frame-ok .ensures) (c .if1 .left))
+
+pub joint-ok-spec : {M : Type 1} → statement M
+joint-ok-spec =
+    tie.close
+    (tie.spec frame-ok-requires frame-ok-requires-2 kind-ok-requires returns returns-2 returns-3)
