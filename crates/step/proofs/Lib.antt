@@ -1,3 +1,4 @@
 pub mod StepLaws
 pub mod CheckWays
 pub mod BodyLaws
+pub mod AnsweredLaws

@@ -4,3 +4,4 @@ pub mod View
 pub mod Ready
 pub mod CheckLaws
 pub mod ViewLaws
+pub mod Answered

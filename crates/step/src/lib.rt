@@ -20,6 +20,7 @@ ghost use Rattle.solves.specs.View.{END};
 ghost use Rattle.step.specs.Records.{bodyCount};
 ghost use Rattle.step.specs.Checks.{numberOf};
 ghost use Rattle.step.specs.Ready.{Joined};
+ghost use Rattle.step.specs.Answered.{Answered};
 
 // The doubles of scratch that a step asks for.
 pub const SCRATCH: usize = 6144;
@@ -116,7 +117,9 @@ pub fn solve(
     count: usize,
     dt: f64,
     scratch: &mut [f64],
-) -> Report {
+) -> Report
+    ensures { λ r. ⌜ Answered (now (bodies .entry)) (now (bodies .exit)) joints count dt (now (scratch .entry)) (now (scratch .exit)) r ⌝ }
+{
     let outcome = refusal(bodies, joints, count, dt, scratch.len());
     if !accepted(outcome) {
         return Report {

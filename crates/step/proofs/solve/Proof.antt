@@ -4,6 +4,7 @@ use Prim.Native.Nat.{ℕ, _+_, _*_, _≤_, _<_, _-_}
 use lib.ListN.{length, getD, length-set}
 use borrow.Author.Needs.{counted-is}
 use Rattle.step.specs.CheckLaws.{accepted-run}
+use Rattle.step.proofs.AnsweredLaws.{answered-refused, answered-run}
 use Rattle.step.proofs.StepLaws.{is-accepted, take-long}
 use borrow.Author.Needs.{needs}
 use Rattle.step.proofs.solve.Statement.{statement}
@@ -19,7 +20,7 @@ same-length : tie.Need-same-length
 same-length c = search needs
 
 returns : tie.Need-returns
-returns c = search needs
+returns c = answered-refused _ _ _ _ _ (c .before .before .refusal .ensures)
 
 slice-relend-prefix-solve-in : tie.Need-slice-relend-prefix-solve-in
 slice-relend-prefix-solve-in c = (accepted-run _ _ _ _ _ (c .before .before .before .refusal .ensures) (is-accepted _ (c .before .before .accepted .ensures) (c .before .if1 .left))) .1
@@ -37,7 +38,7 @@ same-length-3 : tie.Need-same-length-3
 same-length-3 c = search needs
 
 returns-2 : tie.Need-returns-2
-returns-2 c = search needs
+returns-2 c = answered-run _ _ _ _ _ _ _ _ (c .before .before .before .before .before .before .before .before .before .refusal .ensures) (c .before .before .before .before .before .before .before .before .accepted .ensures) (c .before .before .before .before .before .before .before .if1 .left)
 
 pub solve-spec : {M : Type 1} → statement M
 solve-spec =
