@@ -8,6 +8,7 @@ use lib.Ieee.{Float, binary64, ofBits, toBits}
 use Rattle.arith.specs.Flow.{turns, tab}
 use Rattle.plan.specs.File.{numberOf, readOf, readOn, nextOf, headOf, timeStepHead, bodyHead, jointHead, emptyOf, double, withTimeStep, withBody, withJoint, bodyOf, jointOf, kindOf}
 use Rattle.plan.specs.Text.{places, decimalOf, hexOf, numberOf as numberText, countsOf, numbersOf, bodyLine, bodyLines, acceptedOf, refusedOf, reportOf}
+use Rattle.plan.specs.Pose.{poseOf}
 
 -- a time step of 1
 one : List ℕ
@@ -36,3 +37,8 @@ texts = refl
 minus-one : numberText (ofBits binary64 0xbff0_0000_0000_0000) ≡ 32 ∷ 98 ∷ 102 ∷ 102 ∷ replicate 13 48
 unfolding numberText hexOf ofBits toBits
 minus-one = refl
+
+-- a file with no time step: "NO 18 0 0" with a line end
+nothing : (scratch : List Float) → poseOf [] scratch .text ≡ 78 ∷ 79 ∷ 32 ∷ 49 ∷ 56 ∷ 32 ∷ 48 ∷ 32 ∷ 48 ∷ 10 ∷ []
+unfolding poseOf readOf readOn nextOf headOf emptyOf reportOf refusedOf countsOf decimalOf places
+nothing scratch = refl

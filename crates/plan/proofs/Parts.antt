@@ -15,7 +15,7 @@ module _ (table : List Float) (n : ℕ) (long : length table ≡ 416) (few : n �
   part-length = sym (length-take-le (26 * n) table part-within)
 
   module _ (part : List Float) (kept : length part ≡ length (take (26 * n) table)) where
-    back : length part ≡ 26 * n
+    pub back : length part ≡ 26 * n
     back = kept ∙ sym part-length
 
     pub back-within : 26 * n ≤ length (part ++ drop (26 * n) table)

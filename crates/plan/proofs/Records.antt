@@ -1,21 +1,19 @@
 -- The records at the head of a file, from their doubles, and the tables with them.
-use Prim.Native.Nat.{ℕ, zero, suc, _+_, _-_, _*_, _≤_, _<_}
+use Prim.Native.Nat.{ℕ, _+_, _*_, _≤_, _<_}
 use mathlib.Core.Path.{_≡_, refl, sym, _∙_, ap}
-use mathlib.Core.Bool.{Bool, true, false, cond}
-use mathlib.Core.List.{List, [], _∷_, _++_}
-use lib.Dec.{ltb, leb, eqb}
-use lib.ListN.{length, getD, set, length-append, List·getD-append}
-use lib.Seq.{paste, paste-zero, paste-suc, getD-at}
+use mathlib.Core.Bool.{true}
+use mathlib.Core.List.{List}
+use lib.ListN.{length, set}
+use lib.Seq.{paste, paste-zero, paste-suc}
 use lib.Ieee.{Float, nan}
 use native.Mathlib.Numerals.{add-one}
 use native.Mathlib.Omega.{arith}
-use native.Mathlib.Decide.{ℕ-discrete}
-use Rattle.arith.specs.Flow.{tab}
 use borrow.Author.Tests.{eq-eqb, ne-eqb}
 use Rattle.rows.specs.declared.geometry.JointFrame.{JointFrame}
 use Rattle.rows.specs.declared.geometry.Kind.{Kind}
 use Rattle.rows.specs.declared.geometry.Kind.the-variants.{Ball, Hinge, Cylindrical, Planar, Distance, ConeTwist}
 use Rattle.rows.specs.declared.geometry.Joint.{Joint}
+use Rattle.rows.specs.Region.{tab-length, tab-at}
 use Rattle.plan.specs.declared.reader.Plan.{Plan}
 use Rattle.plan.specs.File.{byte, double, frameAt, kindOf, jointOf, bodyOf, withTimeStep, withBody, withJoint}
 
@@ -74,20 +72,6 @@ module _ (s : List ℕ) where
 
 -- ---- the loop that stores a body's doubles
 
-tab-length : {A : Type 0} (n : ℕ) (f : ℕ → A) → length (tab n f) ≡ n
-unfolding tab
-tab-length zero f = refl
-tab-length (suc n) f = length-append (tab n f) (f n ∷ []) ∙ ap (λ (k : ℕ). k + 1) (tab-length n f) ∙ add-one n
-
-tab-at : {A : Type 0} (z : A) (n : ℕ) (f : ℕ → A) (i : ℕ) → i < n → getD (tab n f) i z ≡ f i
-unfolding tab
-tab-at z zero f i h = absurd (omega arith)
-tab-at z (suc n) f i h = by (ℕ-discrete i n) (tab-at z n f i)
-  where
-    by : Dec (i ≡ n) → (i < n → getD (tab n f) i z ≡ f i) → getD (tab n f ++ (f n ∷ [])) i z ≡ f i
-    by (yes e) ih = getD-at (tab n f) (f n) [] z i (tab-length n f ∙ sym e) ∙ ap f (sym e)
-    by (no e) ih = let g : i < n = omega arith in List·getD-append (tab n f) (f n ∷ []) z i (rw (tab-length n f) g) ∙ ih g
-
 module _ (d : List Float) (at : ℕ) (s : List ℕ) where
   pub put-none : d ≡ paste d at (bodyOf s) 0
   put-none = paste-zero d at (bodyOf s)
@@ -97,7 +81,7 @@ module _ (d : List Float) (at : ℕ) (s : List ℕ) where
   put-more i {b} {x} h g eb ex =
       let z : Float = nan in
       ap (λ (l : List Float). set l (at + i) x) eb
-      ∙ ap (set (paste d at (bodyOf s) i) (at + i)) (ex ∙ sym (tab-at z 26 (λ k. double s (2 + 8 * k)) i g))
+      ∙ ap (set (paste d at (bodyOf s) i) (at + i)) (ex ∙ sym (tab-at 26 (λ k. double s (2 + 8 * k)) z i g))
       ∙ paste-suc d at (bodyOf s) i z h (rw (tab-length 26 (λ k. double s (2 + 8 * k))) g)
       ∙ ap (paste d at (bodyOf s)) (sym (add-one i))
 

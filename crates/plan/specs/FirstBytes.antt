@@ -2,7 +2,7 @@
 use Prim.Native.Nat.{ℕ, zero, suc, _+_, _-_, _*_, _≤_, _<_}
 use mathlib.Core.Path.{_≡_, refl, sym, _∙_, ap}
 use mathlib.Core.Bool.{Bool, true, false, cond, _&&_}
-use mathlib.Core.List.{List, [], _∷_, _++_}
+use mathlib.Core.List.{List, [], _∷_}
 use native.Mathlib.Omega.{arith}
 use native.Mathlib.Decide.{decLt}
 use mathlib.Core.Logic.{_⊎_, inl, inr}
@@ -11,7 +11,7 @@ use lib.ListN.{length, getD, set, take, drop, length-drop}
 use lib.Seq.{paste, take-nil, take-all, length-take-le, getD-take}
 use lib.Ieee.{Float, binary64, ofBits}
 use borrow.Author.Tests.{le-ltb, leb-false, ne-eqb}
-use Rattle.arith.specs.Flow.{tab}
+use Rattle.rows.specs.Region.{tab-ext}
 use Rattle.rows.specs.declared.geometry.Kind.{Kind}
 use Rattle.rows.specs.declared.geometry.Joint.{Joint}
 use Rattle.plan.specs.declared.reader.Plan.{Plan}
@@ -32,11 +32,6 @@ split a b = by (decLt a b)
     by : Dec (a < b) → (a < b) ⊎ (b ≤ a)
     by (yes h) = inl h
     by (no h) = inr (omega arith)
-
-tab-same : {A : Type 0} (n : ℕ) (f g : ℕ → A) → ((k : ℕ) → k < n → f k ≡ g k) → tab n f ≡ tab n g
-unfolding tab
-tab-same zero f g h = refl
-tab-same {A} (suc n) f g h = ap (λ (l : List A). l ++ (f n ∷ [])) (tab-same n f g (λ k l. h k (omega arith))) ∙ ap (λ (x : A). tab n g ++ (x ∷ [])) (h n (omega arith))
 
 drop-take : {A : Type 0} (k m : ℕ) (s : List A) → drop k (take m s) ≡ take (m - k) (drop k s)
 drop-take zero m s = let e : m ≡ m - 0 = omega arith in ap (λ (j : ℕ). take j s) e
@@ -65,7 +60,7 @@ module _ (m : ℕ) (s : List ℕ) where
 
   body-cut : 210 ≤ m → bodyOf (take m s) ≡ bodyOf s
   unfolding bodyOf
-  body-cut h = tab-same 26 (λ k. double (take m s) (2 + 8 * k)) (λ k. double s (2 + 8 * k)) (λ k l. double-cut (2 + 8 * k) (omega arith))
+  body-cut h = tab-ext 26 (λ k l. double-cut (2 + 8 * k) (omega arith))
 
   frame-cut : (i : ℕ) → i + 56 ≤ m → frameAt (take m s) i ≡ frameAt s i
   frame-cut i h =

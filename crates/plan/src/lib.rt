@@ -3,7 +3,11 @@ pub mod reader;
 pub mod report;
 
 ghost use Prim.Native.Nat.{_≤_};
+ghost use mathlib.Core.Path.{_≡_};
+ghost use lib.ListN.{length};
 ghost use Rattle.io.specs.Counts.{Counts};
+ghost use Rattle.plan.specs.Pose as Pose;
+ghost use Rattle.plan.specs.Text as Text;
 use reader::Plan;
 
 // Room enough for every answer: the first line, and sixteen bodies.
@@ -13,6 +17,9 @@ pub const ROOM: usize = 3938;
 // is done, and the answer is 0.
 pub fn pose(file: &[u8], scratch: &mut [f64], out: &mut [u8]) -> usize
     ensures { λ r. ⌜ Counts r (now (out .exit)) ⌝ }
+    ensures { λ r. ⌜ r ≡ Pose.poseLength (now (file .entry)) (now (scratch .entry)) (now (out .entry)) ⌝ }
+    ensures { λ _. ⌜ now (out .exit) ≡ Pose.poseOut (now (file .entry)) (now (scratch .entry)) (now (out .entry)) ⌝ }
+    ensures { λ _. ⌜ now (scratch .exit) ≡ Pose.poseScratch (now (file .entry)) (now (scratch .entry)) (now (out .entry)) ⌝ }
 {
     if out.len() < ROOM {
         return 0;
@@ -27,8 +34,9 @@ pub fn pose(file: &[u8], scratch: &mut [f64], out: &mut [u8]) -> usize
 }
 
 fn step_and_report(plan: Plan, scratch: &mut [f64], out: &mut [u8]) -> usize
-    requires { ⌜ plan .«body_count» ≤ 16 ⌝ }
-    ensures { λ r. ⌜ Counts r (now (out .exit)) ⌝ }
+    requires { ⌜ (plan .«body_count» ≤ 16) × (Pose.ROOM ≤ length (now out)) ⌝ }
+    ensures { λ r. ⌜ Text.Puts (now (out .entry)) 0 (Pose.posedAfter (Pose.stepOf plan (now (scratch .entry))) .text) (now (out .exit)) r ⌝ }
+    ensures { λ _. ⌜ now (scratch .exit) ≡ Pose.posedAfter (Pose.stepOf plan (now (scratch .entry))) .scratch ⌝ }
 {
     let mut bodies = plan.bodies;
     let joints = plan.joints;

@@ -30,12 +30,13 @@ answerOf old (go body) = record { outcome = Ends.Done; body = body }
 answerOf old (stop nonConvergent) = record { outcome = Ends.NonConvergent; body = old }
 answerOf old (stop arithmeticOverflow) = record { outcome = Ends.ArithmeticOverflow; body = old }
 
--- and back: beside `Done` the body itself
-abbrev pub finishAs : Finish → MomentumBody → Result MomentumBody
-finishAs Ends.Done body = go body
-finishAs Ends.NonConvergent body = stop nonConvergent
-finishAs Ends.ArithmeticOverflow body = stop arithmeticOverflow
+-- an end that left x
+abbrev pub finishAs : {A : Type 0} → Finish → A → Result A
+finishAs Ends.Done x = go x
+finishAs Ends.NonConvergent x = stop nonConvergent
+finishAs Ends.ArithmeticOverflow x = stop arithmeticOverflow
 
+-- and back: beside `Done` the body itself
 abbrev pub bodyAs : BodyAnswer → Result MomentumBody
 bodyAs r = finishAs (r .outcome) (r .body)
 

@@ -19,7 +19,7 @@ use Rattle.solves.specs.declared.path.PathOrder.{PathOrder}
 use Rattle.solves.specs.Path.{index, none, begins, startTurn, pathStarts, addEdge, blockEdges, pathEdges, neighbor, follows, nextBlock, Seen, Walk, run, walkTurn, walked, walk, walkFrom, isEnd, pathWalks, pathOrder}
 use Rattle.solves.specs.Answer.{edgesAs, seenAs, orderAs, orderIn}
 use Rattle.solves.specs.View.{listAt, startsOf, rowsOf, sizeOf, Blocked, Linked, Linking, room, orderOf, seenOf, Listed, Free, Along}
-use Rattle.solves.proofs.DoesLaws.{goes-on, returns-if}
+use Rattle.solves.specs.DoesLaws.{goes-on, returns-if}
 
 -- an element of the first n
 pub list-at : (l : List ℕ) (n k : ℕ) → k < n → getD l k 0 ≡ index (listAt l n) k

@@ -26,8 +26,8 @@ use Rattle.solves.specs.Solver.{rowIn, crossMass}
 use Rattle.solves.specs.Path.{index, cell, bandStart, reduced, Factor, rowOf, scaleAt, pathScale, pathEntry, pathRow, pathFactor, pathFactored}
 use Rattle.solves.specs.Answer.{partAs}
 use Rattle.solves.specs.View.{rowOn, rowsOn, massesAt, listAt, bandAt, factorAt, Along, Factoring, Rows, MASSES, PATH-BAND, PATH-SCALE}
-use Rattle.solves.proofs.DoesLaws.{goes-on, returns-if, does-as}
-use Rattle.solves.proofs.PlaceLaws.{kept-rows, kept-masses, row-in}
+use Rattle.solves.specs.DoesLaws.{goes-on, returns-if, does-as}
+use Rattle.solves.specs.ViewLaws.{kept-rows, kept-masses, row-in}
 use Rattle.solves.proofs.BlockLaws.{list-at}
 
 -- a place of the band, read

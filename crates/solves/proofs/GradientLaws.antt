@@ -30,8 +30,8 @@ use Rattle.solves.specs.Solver.{rowIn, massIn, dot, operator, plus, minu
 use Rattle.solves.specs.Path.{Ending, ended}
 use Rattle.solves.specs.Answer.{passAs, testAs, trueAs, partAs}
 use Rattle.solves.specs.View.{rowOn, rowsOn, massAt, massesAt, searchAt, preparedAt, Rows, Shares, Passing, Work, MASSES, RHS, SOLUTION, RESIDUAL, DIRECTION, PRODUCT, DIAGONAL}
-use Rattle.solves.proofs.DoesLaws.{goes-on, returns-if, try-go, try-stop}
-use Rattle.solves.proofs.PlaceLaws.{kept-rows, kept-masses, row-in, mass-in}
+use Rattle.solves.specs.DoesLaws.{goes-on, returns-if, try-go, try-stop}
+use Rattle.solves.specs.ViewLaws.{kept-rows, kept-masses, row-in, mass-in}
 use Rattle.solves.proofs.OperatorLaws.{on-a, on-b, Moves}
 use Rattle.solves.proofs.SearchLaws.{first-go, first-stop}
 

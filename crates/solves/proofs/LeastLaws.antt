@@ -23,8 +23,8 @@ use Rattle.solves.specs.Solver.{dot, operator, plus, minus, toleranceFor
 use Rattle.solves.specs.Path.{Ending, ended}
 use Rattle.solves.specs.Answer.{passAs}
 use Rattle.solves.specs.View.{rowOn, rowsOn, massesAt, searchAt, Rows, Shares, Work, MASSES, RHS, SOLUTION, RESIDUAL, DIRECTION, PRODUCT, NORMAL}
-use Rattle.solves.proofs.DoesLaws.{goes-on, returns-if, try-go, try-stop}
-use Rattle.solves.proofs.PlaceLaws.{kept-rows, kept-masses}
+use Rattle.solves.specs.DoesLaws.{goes-on, returns-if, try-go, try-stop}
+use Rattle.solves.specs.ViewLaws.{kept-rows, kept-masses}
 use Rattle.solves.proofs.SearchLaws.{first-go, first-stop}
 
 module _ {s : List Float} {ia ib : List ℕ} {rows n count : ℕ} (pre : Rows s ia ib rows n count) (tolerance norm : Float) where

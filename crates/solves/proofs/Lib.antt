@@ -1,4 +1,3 @@
-pub mod DoesLaws
 pub mod PlaceLaws
 pub mod VectorLaws
 pub mod OperatorLaws

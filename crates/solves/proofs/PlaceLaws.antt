@@ -1,29 +1,26 @@
--- What the loads and stores of places.rt read and leave, the views of rows, shares and masses that a write keeps, and the pure parts of `transpose` and `operator` by cases.
-use Prim.Native.Nat.{ℕ, zero, suc, _+_, _*_, _-_, _≤_, _<_}
-use mathlib.Core.Path.{_≡_, refl, sym, _∙_, ap}
-use mathlib.Core.Bool.{Bool, true, false, cond}
-use mathlib.Core.List.{List, [], _∷_, _++_}
+-- What the loads and stores of places.rt read and leave, and the pure parts of `transpose` and `operator` by cases.
+use Prim.Native.Nat.{ℕ, _+_, _*_, _-_, _≤_}
+use mathlib.Core.Path.{_≡_, _∙_}
+use mathlib.Core.Bool.{Bool, true, false}
+use mathlib.Core.List.{List}
 use native.Mathlib.Omega.{arith}
-use lib.ListN.{length, getD, set, replicate, length-set, length-replicate, getD-replicate}
+use lib.ListN.{length, set}
 use lib.Seq.{getD-set-same}
 use lib.Ieee.{Float, nan}
-use Rattle.arith.specs.Real.{ratio}
-use Rattle.arith.specs.Flow.{Turn, go, stop, _>>=_, tab}
+use Rattle.arith.specs.Flow.{go, stop}
 use Rattle.arith.specs.FlowLaws.{then-go, then-stop}
 use Rattle.vectors.specs.declared.vector.Vec3.{Vec3}
 use Rattle.vectors.specs.declared.matrix.Mat3.{Mat3}
 use Rattle.vectors.specs.Vector.{addOf, scaleOf, finiteOf}
 use Rattle.vectors.specs.Matrix.{fromCols, applyOf}
-use Rattle.rows.specs.declared.geometry.EqualityRow.{EqualityRow}
-use Rattle.rows.specs.Fault.{arithmeticOverflow, Result}
+use Rattle.rows.specs.Fault.{arithmeticOverflow}
 use Rattle.rows.specs.View.{at, vec3At, Out, Kept}
-use Rattle.rows.specs.Region.{tab-length, tab-ext, tab-at, is-tab, tab-set, tab-more, kept-set, kept-refl, kept-then, kept-more, Over, kept-vec3, kept-row}
+use Rattle.rows.specs.Region.{kept-set, kept-then, kept-more, kept-vec3}
 use Rattle.solves.specs.declared.places.Generalized.{Generalized}
 use Rattle.solves.specs.declared.places.MassResponse.{MassResponse}
-use Rattle.solves.specs.Region.{vecAt, Filled}
-use Rattle.solves.specs.Solver.{pushed, scaled, noShare, noRow, noGeneralized, noMass, rowIn, generalizedIn, massIn}
-use Rattle.solves.specs.View.{rowOn, rowsOn, generalizedAt, generalizedsAt, massAt, massesAt}
-use Rattle.solves.proofs.DoesLaws.{finite-yes, finite-no}
+use Rattle.solves.specs.Solver.{pushed, scaled}
+use Rattle.solves.specs.View.{generalizedAt, massAt}
+use Rattle.solves.specs.DoesLaws.{finite-yes, finite-no}
 
 -- stores
 pub stored-generalized : {s t u : List Float} (off k : ℕ) (g : Generalized)
@@ -94,64 +91,3 @@ module _ (value : Generalized) (mass : MassResponse) {l : Vec3} {t : Bool} (el :
     pub scaled-3 : u ≡ true → go (record { linear = l; angular = a }) ≡ scaled value mass
     unfolding scaled
     scaled-3 h = then-go _ (finite-yes ea eu h) ∙ then-go _ (finite-yes el et ht)
-
--- views that a write keeps, and elements of them
-module _ {P : ℕ → Type 0} {s t : List Float} (kept : Kept P s t) where
-  pub kept-rows : (ia ib : List ℕ) (off n : ℕ) → Over P off (14 * n) → rowsOn ia ib t off n ≡ rowsOn ia ib s off n
-  kept-rows ia ib off n w = tab-ext n λ k h. kept-row kept (off + 14 * k) (getD ia k 0) (getD ib k 0) (λ i a b. w i (omega arith) (omega arith))
-
-  pub kept-share : (off i : ℕ) → Over P (off + 6 * i) 6 → generalizedAt t off i ≡ generalizedAt s off i
-  kept-share off i w = λ j. record {
-    linear = kept-vec3 kept (off + 6 * i) (λ k a b. w k (omega arith) (omega arith)) j;
-    angular = kept-vec3 kept (off + 6 * i + 3) (λ k a b. w k (omega arith) (omega arith)) j;
-  }
-
-  pub kept-generalized : (off m : ℕ) → Over P off (6 * m) → generalizedsAt t off m ≡ generalizedsAt s off m
-  kept-generalized off m w = tab-ext m λ i h. kept-share off i (λ k a b. w k (omega arith) (omega arith))
-
-  kept-mass : (off i : ℕ) → Over P (off + 10 * i) 10 → massAt t off i ≡ massAt s off i
-  kept-mass off i w = λ j. record {
-    linear = kept .same (off + 10 * i) (w (off + 10 * i) (omega arith) (omega arith)) j;
-    angular = fromCols
-        (kept-vec3 kept (off + 10 * i + 1) (λ k a b. w k (omega arith) (omega arith)) j)
-        (kept-vec3 kept (off + 10 * i + 4) (λ k a b. w k (omega arith) (omega arith)) j)
-        (kept-vec3 kept (off + 10 * i + 7) (λ k a b. w k (omega arith) (omega arith)) j);
-  }
-
-  pub kept-masses : (off m : ℕ) → Over P off (10 * m) → massesAt t off m ≡ massesAt s off m
-  kept-masses off m w = tab-ext m λ i h. kept-mass off i (λ k a b. w k (omega arith) (omega arith))
-
-  pub row-in : (ia ib : List ℕ) (off n k : ℕ) {row : EqualityRow} → Over P off (14 * n) → k < n → row ≡ rowOn ia ib t off k → row ≡ rowIn (rowsOn ia ib s off n) k
-  row-in ia ib off n k w h e = e ∙ sym (tab-at n (rowOn ia ib t off) noRow k h) ∙ ap (λ (l : List EqualityRow). rowIn l k) (kept-rows ia ib off n w)
-
-  pub share-in : (off m i : ℕ) {g : Generalized} → Over P (off + 6 * i) 6 → i < m → g ≡ generalizedAt t off i → g ≡ generalizedIn (generalizedsAt s off m) i
-  share-in off m i w h e = e ∙ kept-share off i w ∙ sym (tab-at m (generalizedAt s off) noGeneralized i h)
-
-  pub mass-in : (off m i : ℕ) {g : MassResponse} → Over P off (10 * m) → i < m → g ≡ massAt t off i → g ≡ massIn (massesAt s off m) i
-  mass-in off m i w h e = e ∙ sym (tab-at m (massAt t off) noMass i h) ∙ ap (λ (l : List MassResponse). massIn l i) (kept-masses off m w)
-
--- the share of one body, written: the list with it set; or, read so far, one longer
-pub shares-set : {s t : List Float} (off m i : ℕ) {g : Generalized} → i < m → (Kept (λ j. Out (off + 6 * i) 6 j) s t) × (generalizedAt t off i ≡ g)
-    → set (generalizedsAt s off m) i g ≡ generalizedsAt t off m
-shares-set {s} {t} off m i {g} h e =
-    ap (set (generalizedsAt s off m) i) (sym (e .1)) ∙ tab-set m (generalizedAt s off) (generalizedAt t off) g i h λ k l r. kept-share (e .0) off k (λ x y z. omega arith)
-
-pub shares-more : {s t : List Float} (off k : ℕ) {g : Generalized} → (Kept (λ j. Out (off + 6 * k) 6 j) s t) × (generalizedAt t off k ≡ g)
-    → generalizedsAt t off (k + 1) ≡ generalizedsAt s off k ++ (g ∷ [])
-shares-more {s} {t} off k {g} e = tab-more k (λ i h. kept-share (e .0) off i (λ x y z. omega arith)) (e .1)
-
--- cleared: no body has a share
-pub shares-none : {s t : List Float} (off m : ℕ) → Filled off (6 * m) (λ _. ratio 0 1) s t → generalizedsAt t off m ≡ replicate m noShare
-shares-none {s} {t} off m e = sym (is-tab m (generalizedAt t off) noShare (replicate m noShare) (length-replicate m noShare) λ k h.
-    getD-replicate m k noShare noShare h ∙ sym (share k h))
-  where
-    zeroed : (k i : ℕ) → k < m → off ≤ i → i < off + 6 * m → at t i ≡ ratio 0 1
-    zeroed k i h a b =
-        let x : off + (i - off) ≡ i = omega arith in
-        ap (at t) (sym x) ∙ e .there (i - off) (omega arith)
-
-    share : (k : ℕ) → k < m → generalizedAt t off k ≡ noShare
-    share k h = λ j. record {
-      linear = record { x = zeroed k (off + 6 * k) h (omega arith) (omega arith) j; y = zeroed k (off + 6 * k + 1) h (omega arith) (omega arith) j; z = zeroed k (off + 6 * k + 2) h (omega arith) (omega arith) j };
-      angular = record { x = zeroed k (off + 6 * k + 3) h (omega arith) (omega arith) j; y = zeroed k (off + 6 * k + 3 + 1) h (omega arith) (omega arith) j; z = zeroed k (off + 6 * k + 3 + 2) h (omega arith) (omega arith) j };
-    }

@@ -27,8 +27,8 @@ use Rattle.solves.specs.declared.path.PathOrder.{PathOrder}
 use Rattle.solves.specs.declared.Ended.{Ended}
 use Rattle.solves.specs.Answer.{ranAs, partAs, orderAs, endAs, endedWith, solveAs}
 use Rattle.solves.specs.View.{rowOn, rowsOn, massesAt, listAt, bandAt, factorAt, refinedAt, Along, Passing, Factoring, Refining, Rows, Shares, Work, MASSES, RHS, SOLUTION, RESIDUAL, PRODUCT, PATH-BAND, PATH-SCALE, PATH-RHS, DIAGONAL}
-use Rattle.solves.proofs.DoesLaws.{goes-on, returns-if, try-go, try-stop}
-use Rattle.solves.proofs.PlaceLaws.{kept-rows, kept-masses}
+use Rattle.solves.specs.DoesLaws.{goes-on, returns-if, try-go, try-stop}
+use Rattle.solves.specs.ViewLaws.{kept-rows, kept-masses}
 use Rattle.solves.proofs.OperatorLaws.{Moves}
 use Rattle.solves.proofs.SearchLaws.{first-go, first-stop, new-ended}
 use Rattle.solves.proofs.BlockLaws.{list-at}

@@ -1,23 +1,41 @@
 -- `solve` by its two ways: refused, or run.
 use Prim.Native.Nat.{ℕ}
-use mathlib.Core.Path.{_≡_, refl, sym, ap, _∙_}
+use mathlib.Core.Path.{_≡_, sym, ap, _∙_}
 use mathlib.Core.Bool.{Bool, true, false, not}
 use mathlib.Core.List.{List}
 use lib.ListN.{length}
 use lib.Ieee.{Float}
+use borrow.Author.Tests.{not-true, not-false}
+use Rattle.arith.specs.FlowLaws.{cond-yes, cond-no}
 use Rattle.rows.specs.declared.geometry.Joint.{Joint}
 use Rattle.step.specs.declared.Outcome.{Outcome}
 use Rattle.step.specs.declared.Report.{Report}
-use Rattle.step.specs.Checks.{refusalOf}
-use Rattle.step.specs.Ready.{isAccepted}
+use Rattle.step.specs.Records.{recordsOf}
+use Rattle.step.specs.Checks.{refusalOf, isAccepted}
+use Rattle.step.specs.CheckLaws.{Ready, accepted, is-accepted}
+use Rattle.step.specs.Step.{Stepped, runOf, cleared, settled, solveOf}
 use Rattle.step.specs.Answered.{Answered}
-use Rattle.step.proofs.StepLaws.{no-true, not-not}
+use Rattle.step.specs.MeetLaws.{answered}
 
-pub answered-refused : (bodies : List Float) (joints : List Joint) (count : ℕ) (dt : Float) (scratch : List Float) {o : Outcome} → o ≡ refusalOf bodies joints count dt (length scratch)
-    → Answered bodies bodies joints count dt scratch scratch (record { outcome = o; nonlinear = 0; linear = 0 })
-answered-refused bodies joints count dt scratch e = record { refused = λ h. (ap (λ (o : Outcome). record { outcome = o; nonlinear = 0; linear = 0 }) e, refl, refl) }
+module _ (bodies : List Float) (joints : List Joint) (count : ℕ) (dt : Float) (scratch : List Float) {o : Outcome} {b : Bool} (e : o ≡ refusalOf bodies joints count dt (length scratch)) (f : b ≡ isAccepted o) where
+  abbrev left-alone : Outcome → Stepped
+  left-alone o = record { outcome = o; nonlinear = 0; linear = 0; bodies = bodies; scratch = scratch }
 
-pub answered-run : (bodies after : List Float) (joints : List Joint) (count : ℕ) (dt : Float) (scratch left : List Float) (r : Report) {o : Outcome} {b : Bool}
-    → o ≡ refusalOf bodies joints count dt (length scratch) → b ≡ isAccepted o → not b ≡ false → Answered bodies after joints count dt scratch left r
-answered-run bodies after joints count dt scratch left r {o} {b} e f h =
-    record { refused = λ q. no-true (sym q ∙ sym (ap isAccepted e) ∙ sym f ∙ not-not b h) }
+  solve-refused : not b ≡ true → left-alone o ≡ solveOf bodies joints count dt scratch
+  unfolding solveOf
+  solve-refused h = ap left-alone e ∙ cond-no _ _ (sym (ap isAccepted e) ∙ sym f ∙ not-true b h)
+
+  solve-run : {s : Stepped} → not b ≡ false → s ≡ settled bodies (cleared scratch) (runOf (recordsOf bodies) joints count dt) → s ≡ solveOf bodies joints count dt scratch
+  unfolding solveOf
+  solve-run h q = q ∙ cond-yes _ _ (sym (ap isAccepted e) ∙ sym f ∙ not-false b h)
+
+  pub run-ready : not b ≡ false → Ready bodies joints count dt (length scratch)
+  run-ready h = accepted bodies joints count dt (length scratch) (sym e ∙ is-accepted f h)
+
+  pub answered-refused : not b ≡ true → Answered bodies bodies joints count dt scratch scratch (record { outcome = o; nonlinear = 0; linear = 0 })
+  answered-refused h = answered bodies bodies joints count dt scratch scratch (record { outcome = o; nonlinear = 0; linear = 0 }) (solve-refused h)
+
+  pub answered-run : (after left : List Float) (r : Report) → not b ≡ false
+      → record { outcome = r .outcome; nonlinear = r .nonlinear; linear = r .linear; bodies = after; scratch = left } ≡ settled bodies (cleared scratch) (runOf (recordsOf bodies) joints count dt)
+      → Answered bodies after joints count dt scratch left r
+  answered-run after left r h q = answered bodies after joints count dt scratch left r (solve-run h q)

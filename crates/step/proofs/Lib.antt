@@ -2,3 +2,12 @@ pub mod StepLaws
 pub mod CheckWays
 pub mod BodyLaws
 pub mod AnsweredLaws
+pub mod PassLaws
+pub mod MotionLaws
+pub mod EachLaws
+pub mod TableLaws
+pub mod SolveLaws
+pub mod RowLaws
+pub mod VelocityLaws
+pub mod LoopLaws
+pub mod FinishLaws

@@ -1,16 +1,32 @@
--- What a step says of refusals 1 to 9, and what it leaves in the scratch.
+-- What a step says: its answer is the definition's, and the joints of an accepted step are met by the records that it hands back. Document 01, demands 2 and 3.
 use Prim.Native.Nat.{ℕ, _≤_, _<_}
 use mathlib.Core.Path.{_≡_}
-use mathlib.Core.Bool.{false}
 use mathlib.Core.List.{List}
 use lib.ListN.{length}
 use lib.Ieee.{Float}
 use Rattle.rows.specs.declared.geometry.Joint.{Joint}
+use Rattle.rows.specs.ExactGeometry.{recordPlace, Met, Stands}
+use Rattle.step.specs.declared.Outcome.the-variants.{Accepted}
 use Rattle.step.specs.declared.Report.{Report}
-use Rattle.step.specs.Checks.{refusalOf}
-use Rattle.step.specs.Ready.{isAccepted}
+use Rattle.step.specs.Records.{recordAt, bodyCount}
+use Rattle.step.specs.Checks.{numberOf, jointIn}
+use Rattle.step.specs.Step.{cleared, solveOf}
 
--- refusals 1 to 9 touch nothing, and report both counts 0
+-- the first 6,144 doubles are +0, the others as they were
+abbrev pub Zeroed : List Float → List Float → Type 0
+Zeroed scratch left = (6144 ≤ length scratch) × (left ≡ cleared scratch)
+
 pub record Answered (bodies after : List Float) (joints : List Joint) (count : ℕ) (dt : Float) (scratch left : List Float) (r : Report) : Type 0 where
-  pub refused : isAccepted (refusalOf bodies joints count dt (length scratch)) ≡ false
-      → (r ≡ record { outcome = refusalOf bodies joints count dt (length scratch); nonlinear = 0; linear = 0 }) × (after ≡ bodies) × (left ≡ scratch)
+  -- demand 2: answer, counts, bodies and scratch are those of the definition, for every input
+  pub is : record { outcome = r .outcome; nonlinear = r .nonlinear; linear = r .linear; bodies = after; scratch = left } ≡ solveOf bodies joints count dt scratch
+  -- demand 3: every joint that went in joins two of the records handed back, and is met by them; each record stands, with N above 0
+  pub joins : r .outcome ≡ Accepted → (k : ℕ) → k < count → (jointIn joints k .«body_a» < bodyCount after) × (jointIn joints k .«body_b» < bodyCount after)
+  pub meets : r .outcome ≡ Accepted → (k : ℕ) → k < count → Met (jointIn joints k) (recordPlace (recordAt after (jointIn joints k .«body_a»))) (recordPlace (recordAt after (jointIn joints k .«body_b»)))
+  pub stands : r .outcome ≡ Accepted → (k : ℕ) → k < bodyCount after → Stands (recordAt after k .origin) (recordAt after k .rotation)
+  -- a refusal leaves the bodies
+  pub refused : 1 ≤ numberOf (r .outcome) → after ≡ bodies
+  -- 1 to 9 leave the scratch too, and report both counts 0
+  pub early : 1 ≤ numberOf (r .outcome) → numberOf (r .outcome) ≤ 9 → (left ≡ scratch) × (r .nonlinear ≡ 0) × (r .linear ≡ 0)
+  -- every other answer zeroes the scratch
+  pub accepted : r .outcome ≡ Accepted → Zeroed scratch left
+  pub late : 10 ≤ numberOf (r .outcome) → Zeroed scratch left

@@ -1,5 +1,5 @@
 -- What an accepted plan is: each of refusals 1 to 9 in turn, turned round.
-use Prim.Native.Nat.{ℕ, _+_, _*_, _/_, _%_, _≤_, _<_}
+use Prim.Native.Nat.{ℕ, _/_, _%_, _≤_, _<_}
 use mathlib.Core.Path.{_≡_, refl, sym, ap, _∙_}
 use mathlib.Core.List.{List}
 use mathlib.Core.Bool.{Bool, true, false, cond, not, _&&_}
@@ -17,8 +17,8 @@ use Rattle.rows.specs.View.{at}
 use Rattle.step.specs.declared.Outcome.{Outcome}
 use Rattle.step.specs.declared.Outcome.the-variants.{Accepted, TimeStep, Bodies, Joints, Scratch, NotFinite, OutOfRange, Inertia, JointBodies, JointNumbers, NonConvergent, ArithmeticOverflow, Ground}
 use Rattle.step.specs.Records.{recordAt, bodyCount}
-use Rattle.step.specs.Checks.{numberOf, timeStepOk, bodiesFit, bodyInRange, hasInverse, joinsTwo, jointOk, jointIn, sizesOr, bodiesOr, jointsOr, refusalOf}
-use Rattle.step.specs.Ready.{isAccepted, Joined, Sizes}
+use Rattle.step.specs.Checks.{numberOf, timeStepOk, bodiesFit, bodyInRange, hasInverse, joinsTwo, jointOk, jointIn, sizesOr, bodiesOr, jointsOr, refusalOf, isAccepted}
+use Rattle.step.specs.Ready.{Joined, Sizes}
 
 -- none of refusals 1 to 9
 pub record Ready (bodies : List Float) (joints : List Joint) (count : ℕ) (dt : Float) (scratch : ℕ) : Type 0 where
@@ -183,8 +183,3 @@ module _ (bodies : List Float) (joints : List Joint) (count : ℕ) (dt : Float) 
 -- what a run asks for
 pub ready-joined : {bodies : List Float} {joints : List Joint} {count : ℕ} {dt : Float} {scratch : ℕ} → Ready bodies joints count dt scratch → Joined joints count (bodyCount bodies)
 ready-joined r = record { few = r .few; small = r .small; a-there = r .a-there; b-there = r .b-there }
-
-pub accepted-run : (bodies : List Float) (joints : List Joint) (count : ℕ) (dt : Float) (scratch : ℕ) {o : Outcome} → o ≡ refusalOf bodies joints count dt scratch → o ≡ Accepted → (Joined joints count (bodyCount bodies)) × (6144 ≤ scratch)
-accepted-run bodies joints count dt scratch e h =
-    let r : Ready bodies joints count dt scratch = accepted bodies joints count dt scratch (sym e ∙ h) in
-    (ready-joined r, r .room)

@@ -39,6 +39,9 @@ numberOf NonConvergent = 10
 numberOf ArithmeticOverflow = 11
 numberOf Ground = 12
 
+abbrev pub isAccepted : Outcome → Bool
+isAccepted outcome = eqb (numberOf outcome) 0
+
 -- no coordinate above the limit in magnitude
 abbrev pub withinOf : Vec3 → Float → Bool
 withinOf v limit = Ieee.le (absOf (v .x)) limit && Ieee.le (absOf (v .y)) limit && Ieee.le (absOf (v .z)) limit

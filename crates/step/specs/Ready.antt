@@ -4,14 +4,7 @@ use mathlib.Core.Path.{_≡_}
 use lib.ListN.{getD}
 use mathlib.Core.List.{List}
 use Rattle.rows.specs.declared.geometry.Joint.{Joint}
-use mathlib.Core.Bool.{Bool}
-use lib.Dec.{eqb}
-use Rattle.step.specs.declared.Outcome.{Outcome}
-use Rattle.step.specs.Checks.{numberOf, jointIn}
-
--- no refusal's number
-abbrev pub isAccepted : Outcome → Bool
-isAccepted outcome = eqb (numberOf outcome) 0
+use Rattle.step.specs.Checks.{jointIn}
 
 -- at most 16 joints, on at most 16 bodies
 pub record Joined (joints : List Joint) (count size : ℕ) : Type 0 where
@@ -19,11 +12,6 @@ pub record Joined (joints : List Joint) (count size : ℕ) : Type 0 where
   pub small : size ≤ 16
   pub a-there : (k : ℕ) → k < count → jointIn joints k .«body_a» < size
   pub b-there : (k : ℕ) → k < count → jointIn joints k .«body_b» < size
-
--- every joint on bodies below n
-pub record Joins (joints : List Joint) (count n : ℕ) : Type 0 where
-  pub a-there : (k : ℕ) → k < count → jointIn joints k .«body_a» < n
-  pub b-there : (k : ℕ) → k < count → jointIn joints k .«body_b» < n
 
 -- the numbers of 2 to 4 are in range
 pub record Sizes (doubles count scratch : ℕ) : Type 0 where

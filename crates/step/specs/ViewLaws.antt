@@ -1,12 +1,11 @@
 -- Laws of `View` and `Records`: the bodies that a write keeps, and the records that a step hands back.
-use Prim.Native.Nat.{ℕ, zero, suc, _+_, _*_, _-_, _≤_, _<_, min}
+use Prim.Native.Nat.{ℕ, zero, suc, _+_, _*_, _-_, _≤_, _<_}
 use mathlib.Core.Path.{_≡_, refl, sym, _∙_, ap}
 use mathlib.Core.Bool.{Bool, true, false, cond, not}
 use mathlib.Core.List.{List, [], _∷_, _++_}
 use native.Mathlib.Omega.{arith}
-use lib.ListN.{getD, set}
+use lib.ListN.{set}
 use lib.Ieee.{Float}
-use Rattle.arith.specs.Flow.{tab}
 use Rattle.vectors.specs.declared.vector.Vec3.{Vec3}
 use Rattle.vectors.specs.declared.quaternion.Quat.{Quat}
 use Rattle.vectors.specs.declared.matrix.Mat3.{Mat3}
@@ -14,14 +13,13 @@ use Rattle.vectors.specs.declared.matrix.CholeskyOutcome.the-variants.{Done, Re
 use Rattle.vectors.specs.declared.matrix.Inverted.{Inverted}
 use Rattle.vectors.specs.Vector.{axisX, axisY, axisZ}
 use Rattle.vectors.specs.Matrix.{fromCols, finiteMat, done, uninverted, solveSpdOf, inverseSpdOf}
-use Rattle.rows.specs.declared.body.RigidBody.{RigidBody}
 use Rattle.rows.specs.declared.body.BodyState.{BodyState}
 use Rattle.rows.specs.declared.body.MomentumBody.{MomentumBody}
-use Rattle.rows.specs.View.{at, vec3At, Out, Kept}
-use Rattle.rows.specs.Region.{Over, kept-vec3, tab-ext, tab-at, tab-set, tab-more}
+use Rattle.rows.specs.View.{at, Out, Kept}
+use Rattle.rows.specs.Region.{Over, kept-vec3, tab-ext, tab-set, tab-more}
 use Rattle.solves.specs.View.{START, CANDIDATE}
 use Rattle.step.specs.Records.{quatAt, matAt, stateAt, recordAt}
-use Rattle.step.specs.View.{colsOf, bodyFrom, startBodyAt, candidateAt, startBodiesAt, candidatesAt, statesAt, heldOf, movedTo, Handed}
+use Rattle.step.specs.View.{colsOf, bodyFrom, startBodyAt, candidateAt, startBodiesAt, candidatesAt, heldOf, movedTo, Handed}
 
 -- a matrix made of three columns is what a store writes of it
 pub held-cols : (b : MomentumBody) → colsOf (b .«inverse_inertia») ≡ b .«inverse_inertia» → heldOf b ≡ b

@@ -22,8 +22,7 @@ ghost use Rattle.arith.specs.Flow.{every};
 ghost use Rattle.rows.specs.View.{at};
 ghost use Rattle.step.specs.declared.Outcome.the-variants.{Accepted};
 ghost use Rattle.step.specs.Records.{recordAt};
-ghost use Rattle.step.specs.Ready.{isAccepted};
-ghost use Rattle.step.specs.Checks.{withinOf, timeStepOk, bodiesFit, massInRange, bodyInRange, hasInverse, joinsTwo, frameOk, lengthOk, swingOk, twistOk, coneOk, kindOk, jointOk, jointIn, sizesOr, bodiesOr, jointsOr, refusalOf};
+ghost use Rattle.step.specs.Checks.{withinOf, timeStepOk, bodiesFit, massInRange, bodyInRange, hasInverse, joinsTwo, frameOk, lengthOk, swingOk, twistOk, coneOk, kindOk, jointOk, jointIn, sizesOr, bodiesOr, jointsOr, refusalOf, isAccepted};
 
 // Whether no coordinate is above the limit in magnitude.
 pub fn within(v: Vec3, limit: f64) -> bool

@@ -8,7 +8,9 @@ use crate::bodies::load_state;
 use crate::bodies::store_candidate;
 use crate::bodies::store_start;
 use crate::bodies::store_state;
-use crate::velocity::Corrected;
+use crate::passes::Looped;
+use crate::passes::PassEnd;
+use crate::passes::Passed;
 use crate::velocity::velocity_loop;
 use arith::number::abs;
 use arith::number::is_finite;
@@ -41,10 +43,21 @@ use solves::values::clear;
 use vectors::matrix::inverse_spd;
 use vectors::vector::Vec3;
 ghost use mathlib.Core.Path.{_≡_};
-ghost use Prim.Native.Nat.{ℕ, _+_, _*_, _≤_, _<_};
+ghost use Prim.Native.Nat.{ℕ, _+_, _*_, _-_, _≤_, _<_};
 ghost use lib.ListN.{length, getD};
-ghost use Rattle.solves.specs.View.{START-ROWS, ROWS, END, Rows};
-ghost use Rattle.step.specs.Records.{bodyCount};
+ghost use mathlib.Core.Bool.{cond, _&&_};
+ghost use mathlib.Core.List.{List};
+ghost use lib.Dec.{leb};
+ghost use Rattle.arith.specs.Flow.{tab};
+ghost use Rattle.rows.specs.View.{Out};
+ghost use Rattle.rows.specs.Answer.{finishAs, bodyAs};
+ghost use Rattle.solves.specs.Region.{vecAt, Does};
+ghost use Rattle.solves.specs.Answer.{ranAs};
+ghost use Rattle.solves.specs.View.{START-ROWS, ROWS, MASSES, IMPULSES, RHS, SOLUTION, GENERALIZED, START, CANDIDATE, END, Rows, rowsOn, massAt, massesAt, generalizedsAt};
+ghost use Rattle.step.specs.Records.{bodyCount, recordAt, recordsOf};
+ghost use Rattle.step.specs.Step.{startBodies, writeRows, massResponse, prepareMasses, startOf, kickAndDrift, moveBodies, rowsMet, rhsOf, addImpulses, candidateOf, correctedBy, nonlinearPass, nonlinearLoop, statesOf, finishOf, runOf};
+ghost use Rattle.step.specs.View.{startBodyAt, candidateAt, startBodiesAt, candidatesAt, statesAt};
+ghost use Rattle.step.specs.RunView.{bodiesAt, startedAt, foundAt, rowsBefore, Sides, Trying, massAs, passAs, loopedAs, progressAs};
 ghost use Rattle.step.specs.Ready.{Joined, RowBodies, Spread};
 
 // How the run ended, with both counts.
@@ -54,27 +67,15 @@ pub struct Progress {
     pub linear: usize,
 }
 
-// How one nonlinear pass ended, with its linear passes.
-pub enum PassEnd {
-    Next,
-    Met,
-    NonConvergent,
-    ArithmeticOverflow,
-}
-
 // A mass response, if it is finite.
 pub struct MassAnswer {
     pub some: bool,
     pub mass: MassResponse,
 }
 
-pub struct Passed {
-    pub end: PassEnd,
-    pub passes: usize,
-}
-
 fn start_bodies(s: &mut [f64], bodies: &[f64], n: usize) -> Finish
     requires { ⌜ (END ≤ length (now s)) × (26 * n ≤ length (now bodies)) × (n ≤ 16) ⌝ }
+    ensures { λ r. ⌜ Does (Out START 416) (now (s .entry)) (now (s .exit)) (finishAs r (startBodiesAt (now (s .exit)) n)) (startBodies (tab n (recordAt (now (bodies .entry))))) ⌝ }
 {
     for k in 0..n {
         let record = load_record(bodies, k);
@@ -107,7 +108,7 @@ fn fill(index: &mut [usize], from: usize, n: usize, body: usize)
 // The bodies of every row, and how many rows there are.
 fn row_bodies(ia: &mut [usize], ib: &mut [usize], joints: [Joint; 16], count: usize) -> usize
     requires { ⌜ (count ≤ 16) × (length (now ia) ≡ 96) × (length (now ib) ≡ 96) ⌝ }
-    ensures { λ r. ⌜ RowBodies joints count r (now (ia .exit)) (now (ib .exit)) ⌝ }
+    ensures { λ r. ⌜ (RowBodies joints count r (now (ia .exit)) (now (ib .exit))) × (Sides joints count (now (ia .exit)) (now (ib .exit))) × (r ≡ rowsBefore joints count) ⌝ }
 {
     let mut n = 0;
     for k in 0..count {
@@ -123,6 +124,7 @@ fn row_bodies(ia: &mut [usize], ib: &mut [usize], joints: [Joint; 16], count: us
 
 fn load_moved(s: &[f64], k: usize, moved: bool) -> MomentumBody
     requires { ⌜ (END ≤ length (now s)) × (k < 16) ⌝ }
+    ensures { λ r. ⌜ r ≡ cond moved (candidateAt (now (s .entry)) k) (startBodyAt (now (s .entry)) k) ⌝ }
 {
     if moved {
         return load_candidate(s, k);
@@ -133,6 +135,7 @@ fn load_moved(s: &[f64], k: usize, moved: bool) -> MomentumBody
 // The rows of all joints, of the bodies at the start or of the candidates.
 fn write_rows(s: &mut [f64], joints: [Joint; 16], count: usize, rows: usize, moved: bool) -> Finish
     requires { ⌜ (END ≤ length (now s)) × (rows ≤ ROWS) × (Joined joints count 16) ⌝ }
+    ensures { λ r. ⌜ ((size : ℕ) → Joined joints count size → (ia ib : List ℕ) → Sides joints count ia ib → Does (Out rows 1344) (now (s .entry)) (now (s .exit)) (finishAs r (rowsOn ia ib (now (s .exit)) rows (rowsBefore joints count))) (writeRows joints count (bodiesAt moved (now (s .entry)) size))) ⌝ }
 {
     let mut n = 0;
     for k in 0..count {
@@ -155,7 +158,9 @@ fn write_rows(s: &mut [f64], joints: [Joint; 16], count: usize, rows: usize, mov
 }
 
 // The mass response of a body at its rotation.
-fn mass_response(body: MomentumBody) -> MassAnswer {
+fn mass_response(body: MomentumBody) -> MassAnswer
+    ensures { λ r. ⌜ massAs r ≡ massResponse body ⌝ }
+{
     let turned = body.rotation.to_mat3();
     let rotation = turned.matrix;
     let inverse = body.inverse_inertia;
@@ -167,7 +172,9 @@ fn mass_response(body: MomentumBody) -> MassAnswer {
     }
 }
 
-fn all_three(a: bool, b: bool, c: bool) -> bool {
+fn all_three(a: bool, b: bool, c: bool) -> bool
+    ensures { λ r. ⌜ r ≡ (a && b && c) ⌝ }
+{
     if a {
         if b {
             return c;
@@ -178,6 +185,7 @@ fn all_three(a: bool, b: bool, c: bool) -> bool {
 
 fn prepare_mass(s: &mut [f64], k: usize, body: MomentumBody) -> Outcome
     requires { ⌜ (END ≤ length (now s)) × (k < 16) ⌝ }
+    ensures { λ r. ⌜ Does (Out (MASSES + 10 * k) 10) (now (s .entry)) (now (s .exit)) (ranAs r (massAt (now (s .exit)) MASSES k)) (massResponse body) ⌝ }
 {
     let answer = mass_response(body);
     if !answer.some {
@@ -194,6 +202,7 @@ fn prepare_mass(s: &mut [f64], k: usize, body: MomentumBody) -> Outcome
 
 fn prepare_masses(s: &mut [f64], n: usize, moved: bool) -> Outcome
     requires { ⌜ (END ≤ length (now s)) × (n ≤ 16) ⌝ }
+    ensures { λ r. ⌜ Does (Out MASSES 160) (now (s .entry)) (now (s .exit)) (ranAs r (massesAt (now (s .exit)) MASSES n)) (prepareMasses (bodiesAt moved (now (s .entry)) n)) ⌝ }
 {
     for k in 0..n {
         let body = load_moved(s, k, moved);
@@ -205,18 +214,22 @@ fn prepare_masses(s: &mut [f64], n: usize, moved: bool) -> Outcome
 }
 
 // A body kicked by its share, and drifted.
-fn kick_and_drift(body: MomentumBody, linear: Vec3, angular: Vec3, dt: f64) -> BodyAnswer {
+fn kick_and_drift(body: MomentumBody, linear: Vec3, angular: Vec3, dt: f64) -> BodyAnswer
+    ensures { λ r. ⌜ bodyAs r ≡ kickAndDrift dt body (record { linear = linear; angular = angular }) ⌝ }
+{
     let kicked = body.kick(linear, angular);
     let outcome = kicked.outcome;
     match outcome {
         Finish::Done => kicked.body.drift(dt),
-        _ => kicked,
+        Finish::NonConvergent => kicked,
+        Finish::ArithmeticOverflow => kicked,
     }
 }
 
 // The candidates: each pass restarts from the starting bodies with the summed impulses.
 fn move_bodies(s: &mut [f64], n: usize, dt: f64) -> Finish
     requires { ⌜ (END ≤ length (now s)) × (n ≤ 16) ⌝ }
+    ensures { λ r. ⌜ Does (Out CANDIDATE 208) (now (s .entry)) (now (s .exit)) (finishAs r (candidatesAt (now (s .exit)) n)) (moveBodies dt (startBodiesAt (now (s .entry)) n) (generalizedsAt (now (s .entry)) GENERALIZED n)) ⌝ }
 {
     for k in 0..n {
         let share = load_generalized(s, GENERALIZED, k);
@@ -237,6 +250,7 @@ fn move_bodies(s: &mut [f64], n: usize, dt: f64) -> Finish
 
 fn rows_met(s: &[f64], n: usize) -> bool
     requires { ⌜ (END ≤ length (now s)) × (n ≤ 96) ⌝ }
+    ensures { λ r. ⌜ ((ia ib : List ℕ) → r ≡ rowsMet (rowsOn ia ib (now (s .entry)) ROWS n)) ⌝ }
 {
     for k in 0..n {
         let value = s[ROWS + ROW * k + 12];
@@ -249,6 +263,7 @@ fn rows_met(s: &[f64], n: usize) -> bool
 
 fn fill_rhs(s: &mut [f64], dt: f64, n: usize)
     requires { ⌜ (END ≤ length (now s)) × (n ≤ 96) ⌝ }
+    ensures { λ _. ⌜ ((ia ib : List ℕ) → Does (Out RHS 96) (now (s .entry)) (now (s .exit)) (vecAt (now (s .exit)) RHS n) (rhsOf dt (rowsOn ia ib (now (s .entry)) ROWS n))) ⌝ }
 {
     for k in 0..n {
         s[RHS + k] = -s[ROWS + ROW * k + 12] / dt;
@@ -257,6 +272,7 @@ fn fill_rhs(s: &mut [f64], dt: f64, n: usize)
 
 fn add_impulses(s: &mut [f64], n: usize) -> Outcome
     requires { ⌜ (END ≤ length (now s)) × (n ≤ 96) ⌝ }
+    ensures { λ r. ⌜ Does (Out IMPULSES 96) (now (s .entry)) (now (s .exit)) (ranAs r (vecAt (now (s .exit)) IMPULSES n)) (addImpulses (vecAt (now (s .entry)) IMPULSES n) (vecAt (now (s .entry)) SOLUTION n)) ⌝ }
 {
     for k in 0..n {
         let sum = s[IMPULSES + k] + s[SOLUTION + k];
@@ -279,7 +295,7 @@ fn correct(
     cyclic: bool,
 ) -> Passed
     requires { ⌜ (Rows (now s) (now ia) (now ib) START-ROWS n bodies) ⌝ }
-    ensures { λ r. ⌜ r .passes ≤ 448 ⌝ }
+    ensures { λ r. ⌜ (Does Trying (now (s .entry)) (now (s .exit)) (passAs r (vecAt (now (s .exit)) IMPULSES n) (foundAt (now (ia .entry)) (now (ib .entry)) (now (s .exit)) n bodies)) (correctedBy dt cyclic (startedAt (now (ia .entry)) (now (ib .entry)) (now (s .entry)) n bodies) (vecAt (now (s .entry)) IMPULSES n) (rowsOn (now (ia .entry)) (now (ib .entry)) (now (s .entry)) ROWS n))) × (r .passes ≤ 448) ⌝ }
 {
     fill_rhs(s, dt, n);
     let ended = linear_solve(s, ia, ib, START_ROWS, n, bodies, cyclic);
@@ -302,7 +318,12 @@ fn correct(
             end: PassEnd::ArithmeticOverflow,
             passes,
         },
-        _ => Passed {
+        End::NonConvergent => Passed {
+            end: PassEnd::NonConvergent,
+            passes,
+        },
+        // Only the path declines, inside of the solve.
+        End::Declined => Passed {
             end: PassEnd::NonConvergent,
             passes,
         },
@@ -320,15 +341,16 @@ fn candidate(
     bodies: usize,
     dt: f64,
 ) -> Finish
-    requires { ⌜ (Rows (now s) (now ia) (now ib) START-ROWS n bodies) × (Joined joints count bodies) ⌝ }
+    requires { ⌜ (Rows (now s) (now ia) (now ib) START-ROWS n bodies) × (Joined joints count bodies) × (Sides joints count (now ia) (now ib)) × (n ≡ rowsBefore joints count) ⌝ }
+    ensures { λ r. ⌜ Does Trying (now (s .entry)) (now (s .exit)) (finishAs r (foundAt (now (ia .entry)) (now (ib .entry)) (now (s .exit)) n bodies)) (candidateOf joints count dt (startedAt (now (ia .entry)) (now (ib .entry)) (now (s .entry)) n bodies) (vecAt (now (s .entry)) IMPULSES n)) × (vecAt (now (s .exit)) IMPULSES n ≡ vecAt (now (s .entry)) IMPULSES n) ⌝ }
 {
     if let Outcome::ArithmeticOverflow = transpose(s, ia, ib, START_ROWS, IMPULSES, n, bodies) {
         return Finish::ArithmeticOverflow;
     }
-    let moved = move_bodies(s, bodies, dt);
-    match moved {
+    match move_bodies(s, bodies, dt) {
         Finish::Done => write_rows(s, joints, count, ROWS, true),
-        _ => moved,
+        Finish::NonConvergent => Finish::NonConvergent,
+        Finish::ArithmeticOverflow => Finish::ArithmeticOverflow,
     }
 }
 
@@ -342,8 +364,8 @@ fn nonlinear_pass(
     bodies: usize,
     dt: f64,
 ) -> Passed
-    requires { ⌜ (Rows (now s) (now ia) (now ib) START-ROWS n bodies) × (Joined joints count bodies) ⌝ }
-    ensures { λ r. ⌜ r .passes ≤ 448 ⌝ }
+    requires { ⌜ (Rows (now s) (now ia) (now ib) START-ROWS n bodies) × (Joined joints count bodies) × (Sides joints count (now ia) (now ib)) × (n ≡ rowsBefore joints count) ⌝ }
+    ensures { λ r. ⌜ (Does Trying (now (s .entry)) (now (s .exit)) (passAs r (vecAt (now (s .exit)) IMPULSES n) (foundAt (now (ia .entry)) (now (ib .entry)) (now (s .exit)) n bodies)) (nonlinearPass joints count dt (leb bodies count) (startedAt (now (ia .entry)) (now (ib .entry)) (now (s .entry)) n bodies) (vecAt (now (s .entry)) IMPULSES n))) × (r .passes ≤ 448) ⌝ }
 {
     match candidate(s, ia, ib, joints, count, n, bodies, dt) {
         Finish::Done => {
@@ -366,7 +388,7 @@ fn nonlinear_pass(
     }
 }
 
-// At most 32 passes, each counted when begun.
+// From no impulse, at most 32 passes, each counted when begun.
 fn nonlinear_loop(
     s: &mut [f64],
     ia: &[usize; 96],
@@ -376,50 +398,52 @@ fn nonlinear_loop(
     n: usize,
     bodies: usize,
     dt: f64,
-) -> Progress
-    requires { ⌜ (Rows (now s) (now ia) (now ib) START-ROWS n bodies) × (Joined joints count bodies) ⌝ }
-    ensures { λ r. ⌜ (r .nonlinear ≤ 32) × (r .linear ≤ 448 * 32) ⌝ }
+) -> Looped
+    requires { ⌜ (Rows (now s) (now ia) (now ib) START-ROWS n bodies) × (Joined joints count bodies) × (Sides joints count (now ia) (now ib)) × (n ≡ rowsBefore joints count) ⌝ }
+    ensures { λ r. ⌜ (Does Trying (now (s .entry)) (now (s .exit)) (loopedAs r (foundAt (now (ia .entry)) (now (ib .entry)) (now (s .exit)) n bodies)) (nonlinearLoop joints count dt (leb bodies count) (startedAt (now (ia .entry)) (now (ib .entry)) (now (s .entry)) n bodies))) × (r .begun ≤ 32) × (r .passes ≤ 448 * 32) ⌝ }
 {
-    let mut linear = 0;
+    clear(s, IMPULSES, n);
+    let mut passes = 0;
     for k in 0..32usize {
         let passed = nonlinear_pass(s, ia, ib, joints, count, n, bodies, dt);
-        linear += passed.passes;
+        passes += passed.passes;
         let end = passed.end;
         match end {
             PassEnd::Next => {}
             PassEnd::Met => {
-                return Progress {
+                return Looped {
                     finish: Finish::Done,
-                    nonlinear: k + 1,
-                    linear,
+                    begun: k + 1,
+                    passes,
                 };
             }
             PassEnd::NonConvergent => {
-                return Progress {
+                return Looped {
                     finish: Finish::NonConvergent,
-                    nonlinear: k + 1,
-                    linear,
+                    begun: k + 1,
+                    passes,
                 };
             }
             PassEnd::ArithmeticOverflow => {
-                return Progress {
+                return Looped {
                     finish: Finish::ArithmeticOverflow,
-                    nonlinear: k + 1,
-                    linear,
+                    begun: k + 1,
+                    passes,
                 };
             }
         }
     }
-    Progress {
+    Looped {
         finish: Finish::NonConvergent,
-        nonlinear: 32,
-        linear,
+        begun: 32,
+        passes,
     }
 }
 
 // The states of the candidates, in their places.
 fn make_states(s: &mut [f64], bodies: &[f64], n: usize) -> Finish
-    requires { ⌜ (END ≤ length (now s)) × (26 * n ≤ length (now bodies)) × (n ≤ 16) ⌝ }
+    requires { ⌜ (END ≤ length (now s)) × (n ≤ bodyCount (now bodies)) × (n ≤ 16) ⌝ }
+    ensures { λ r. ⌜ Does (Out CANDIDATE 208) (now (s .entry)) (now (s .exit)) (finishAs r (statesAt (now (s .exit)) n)) (statesOf (recordsOf (now (bodies .entry))) (candidatesAt (now (s .entry)) n)) ⌝ }
 {
     for k in 0..n {
         let body = load_candidate(s, k);
@@ -441,80 +465,113 @@ fn finish_run(
     bodies: &[f64],
     count: usize,
     n: usize,
-    met: Progress,
+    met: Looped,
 ) -> Progress
-    requires { ⌜ (Rows (now s) (now ia) (now ib) ROWS n (bodyCount (now bodies))) × (met .linear ≤ 448 * 32) ⌝ }
+    requires { ⌜ (Rows (now s) (now ia) (now ib) ROWS n (bodyCount (now bodies))) × (met .passes ≤ 448 * 32) ⌝ }
+    ensures { λ r. ⌜ (Does (Out MASSES (END - MASSES)) (now (s .entry)) (now (s .exit)) (progressAs r (statesAt (now (s .exit)) (bodyCount (now (bodies .entry))))) (finishOf (recordsOf (now (bodies .entry))) (leb (bodyCount (now (bodies .entry))) count) (met .begun) (met .passes) (foundAt (now (ia .entry)) (now (ib .entry)) (now (s .entry)) n (bodyCount (now (bodies .entry)))))) ⌝ }
 {
     let size = bodies.len() / RECORD;
     if let Outcome::ArithmeticOverflow = prepare_masses(s, size, true) {
         return Progress {
             finish: Finish::ArithmeticOverflow,
-            nonlinear: met.nonlinear,
-            linear: met.linear,
+            nonlinear: met.begun,
+            linear: met.passes,
         };
     }
     let corrected = velocity_loop(s, ia, ib, n, size, size <= count);
-    let linear = met.linear + corrected.passes;
+    let linear = met.passes + corrected.passes;
     let finish = corrected.finish;
     match finish {
-        Finish::Done => Progress {
-            finish: make_states(s, bodies, size),
-            nonlinear: met.nonlinear,
-            linear,
-        },
-        _ => Progress {
-            finish,
-            nonlinear: met.nonlinear,
-            linear,
-        },
-    }
-}
-
-// What stands before the first pass: starting bodies and rows, no impulse, masses.
-fn start(s: &mut [f64], bodies: &[f64], joints: [Joint; 16], count: usize, n: usize) -> Finish
-    requires { ⌜ (END ≤ length (now s)) × (n ≤ 96) × (Joined joints count (bodyCount (now bodies))) ⌝ }
-{
-    let size = bodies.len() / RECORD;
-    let made = start_bodies(s, bodies, size);
-    match made {
         Finish::Done => {
-            let written = write_rows(s, joints, count, START_ROWS, false);
-            match written {
-                Finish::Done => {
-                    clear(s, IMPULSES, n);
-                    match prepare_masses(s, size, false) {
-                        Outcome::Done => Finish::Done,
-                        Outcome::ArithmeticOverflow => Finish::ArithmeticOverflow,
-                    }
-                }
-                _ => written,
+            let made = make_states(s, bodies, size);
+            Progress {
+                finish: made,
+                nonlinear: met.begun,
+                linear,
             }
         }
-        _ => made,
+        Finish::NonConvergent => Progress {
+            finish: Finish::NonConvergent,
+            nonlinear: met.begun,
+            linear,
+        },
+        Finish::ArithmeticOverflow => Progress {
+            finish: Finish::ArithmeticOverflow,
+            nonlinear: met.begun,
+            linear,
+        },
     }
 }
 
+// What stands before the first pass: starting bodies, rows and masses.
+fn start(s: &mut [f64], bodies: &[f64], joints: [Joint; 16], count: usize) -> Finish
+    requires { ⌜ (END ≤ length (now s)) × (Joined joints count (bodyCount (now bodies))) ⌝ }
+    ensures { λ r. ⌜ ((ia ib : List ℕ) → Sides joints count ia ib → Does (Out 0 END) (now (s .entry)) (now (s .exit)) (finishAs r (startedAt ia ib (now (s .exit)) (rowsBefore joints count) (bodyCount (now (bodies .entry))))) (startOf (recordsOf (now (bodies .entry))) joints count)) ⌝ }
+{
+    let size = bodies.len() / RECORD;
+    match start_bodies(s, bodies, size) {
+        Finish::Done => {}
+        Finish::NonConvergent => {
+            return Finish::NonConvergent;
+        }
+        Finish::ArithmeticOverflow => {
+            return Finish::ArithmeticOverflow;
+        }
+    }
+    match write_rows(s, joints, count, START_ROWS, false) {
+        Finish::Done => {}
+        Finish::NonConvergent => {
+            return Finish::NonConvergent;
+        }
+        Finish::ArithmeticOverflow => {
+            return Finish::ArithmeticOverflow;
+        }
+    }
+    match prepare_masses(s, size, false) {
+        Outcome::Done => Finish::Done,
+        Outcome::ArithmeticOverflow => Finish::ArithmeticOverflow,
+    }
+}
+
+// From the starting bodies to the states.
 pub fn run(bodies: &[f64], joints: [Joint; 16], count: usize, dt: f64, s: &mut [f64]) -> Progress
     requires { ⌜ (END ≤ length (now s)) × (Joined joints count (bodyCount (now bodies))) ⌝ }
+    ensures { λ r. ⌜ Does (Out 0 END) (now (s .entry)) (now (s .exit)) (progressAs r (statesAt (now (s .exit)) (bodyCount (now (bodies .entry))))) (runOf (recordsOf (now (bodies .entry))) joints count dt) ⌝ }
 {
     let size = bodies.len() / RECORD;
     let mut ia = [0usize; 96];
     let mut ib = [0usize; 96];
     let n = row_bodies(&mut ia, &mut ib, joints, count);
-    let begun = start(s, bodies, joints, count, n);
-    match begun {
-        Finish::Done => {
-            let met = nonlinear_loop(s, &ia, &ib, joints, count, n, size, dt);
-            let finish = met.finish;
-            match finish {
-                Finish::Done => finish_run(s, &ia, &ib, bodies, count, n, met),
-                _ => met,
-            }
+    match start(s, bodies, joints, count) {
+        Finish::Done => {}
+        Finish::NonConvergent => {
+            return Progress {
+                finish: Finish::NonConvergent,
+                nonlinear: 0,
+                linear: 0,
+            };
         }
-        _ => Progress {
-            finish: begun,
-            nonlinear: 0,
-            linear: 0,
+        Finish::ArithmeticOverflow => {
+            return Progress {
+                finish: Finish::ArithmeticOverflow,
+                nonlinear: 0,
+                linear: 0,
+            };
+        }
+    }
+    let met = nonlinear_loop(s, &ia, &ib, joints, count, n, size, dt);
+    let finish = met.finish;
+    match finish {
+        Finish::Done => finish_run(s, &ia, &ib, bodies, count, n, met),
+        Finish::NonConvergent => Progress {
+            finish: Finish::NonConvergent,
+            nonlinear: met.begun,
+            linear: met.passes,
+        },
+        Finish::ArithmeticOverflow => Progress {
+            finish: Finish::ArithmeticOverflow,
+            nonlinear: met.begun,
+            linear: met.passes,
         },
     }
 }

@@ -2,6 +2,7 @@
 pub mod bodies;
 pub mod checks;
 pub mod integrator;
+pub mod passes;
 pub mod velocity;
 
 use crate::bodies::in_ground;
@@ -14,12 +15,18 @@ use rows::body::Finish;
 use rows::geometry::Joint;
 use solves::values::clear;
 ghost use mathlib.Core.Path.{_≡_};
-ghost use Prim.Native.Nat.{_*_, _≤_};
-ghost use lib.ListN.{length};
+ghost use Prim.Native.Nat.{ℕ, _%_, _≤_};
+ghost use mathlib.Core.List.{List};
+ghost use lib.ListN.{length, replicate};
+ghost use lib.Ieee.{Float};
+ghost use Rattle.arith.specs.Real.{ratio};
 ghost use Rattle.solves.specs.View.{END};
-ghost use Rattle.step.specs.Records.{bodyCount};
+ghost use Rattle.step.specs.Records.{bodyCount, recordsOf};
 ghost use Rattle.step.specs.Checks.{numberOf};
 ghost use Rattle.step.specs.Ready.{Joined};
+ghost use Rattle.step.specs.View.{statesAt};
+ghost use Rattle.step.specs.Step.{settled, runOf};
+ghost use Rattle.step.specs.RunView.{endedAs};
 ghost use Rattle.step.specs.Answered.{Answered};
 
 // The doubles of scratch that a step asks for.
@@ -73,8 +80,9 @@ pub fn number(outcome: Outcome) -> usize
 }
 
 // What the run's end is to the caller: its states are written where all stand on the plan's ground.
-fn settle(bodies: &mut [f64], work: &mut [f64], n: usize, finish: Finish) -> Outcome
-    requires { ⌜ (26 * n ≤ length (now bodies)) × (END ≤ length (now work)) × (n ≤ 16) ⌝ }
+fn settle(bodies: &mut [f64], work: &[f64], n: usize, finish: Finish) -> Outcome
+    requires { ⌜ (length (now bodies) % 26 ≡ 0) × (n ≡ bodyCount (now bodies)) × (END ≤ length (now work)) × (n ≤ 16) ⌝ }
+    ensures { λ r. ⌜ ((nonlinear linear : ℕ) (scratch : List Float) → record { outcome = r; nonlinear = nonlinear; linear = linear; bodies = now (bodies .exit); scratch = scratch } ≡ settled (now (bodies .entry)) scratch (endedAs finish nonlinear linear (statesAt (now (work .entry)) n))) ⌝ }
 {
     match finish {
         Finish::Done => {
@@ -97,7 +105,8 @@ fn solve_in(
     dt: f64,
     work: &mut [f64],
 ) -> Report
-    requires { ⌜ (length (now work) ≡ 6144) × (Joined joints count (bodyCount (now bodies))) ⌝ }
+    requires { ⌜ (length (now work) ≡ 6144) × (length (now bodies) % 26 ≡ 0) × (Joined joints count (bodyCount (now bodies))) ⌝ }
+    ensures { λ r. ⌜ record { outcome = r .outcome; nonlinear = r .nonlinear; linear = r .linear; bodies = now (bodies .exit); scratch = now (work .exit) } ≡ settled (now (bodies .entry)) (replicate 6144 (ratio 0 1)) (runOf (recordsOf (now (bodies .entry))) joints count dt) ⌝ }
 {
     let n = bodies.len() / RECORD;
     let ran = run(bodies, joints, count, dt, work);

@@ -1,6 +1,9 @@
 // The velocity loop of `solve` in solver.rs: tested before each of at most 3 corrections; a third one is never accepted.
 use crate::bodies::load_candidate;
 use crate::bodies::store_candidate;
+use crate::passes::Looped;
+use crate::passes::PassEnd;
+use crate::passes::Passed;
 use arith::number::abs;
 use arith::number::is_finite;
 use rows::body::Finish;
@@ -21,28 +24,19 @@ use vectors::vector::OptionVec3;
 ghost use mathlib.Core.Path.{_≡_};
 ghost use Prim.Native.Nat.{_+_, _*_, _≤_, _<_};
 ghost use lib.ListN.{length};
-ghost use Rattle.solves.specs.View.{ROWS, END, Rows};
-
-// How the velocity loop ended, with the linear passes of its solves.
-pub struct Corrected {
-    pub finish: Finish,
-    pub passes: usize,
-}
-
-pub enum CorrectionEnd {
-    Compatible,
-    Next,
-    NonConvergent,
-    ArithmeticOverflow,
-}
-
-pub struct Correction {
-    pub end: CorrectionEnd,
-    pub passes: usize,
-}
+ghost use Rattle.rows.specs.View.{Out};
+ghost use Rattle.rows.specs.Answer.{finishAs};
+ghost use Rattle.solves.specs.Region.{vecAt, Does};
+ghost use Rattle.solves.specs.Answer.{sumAs, ranAs};
+ghost use Rattle.solves.specs.View.{ROWS, MASSES, RHS, SOLUTION, GENERALIZED, CANDIDATE, END, Rows, rowsOn, massesAt, generalizedsAt};
+ghost use Rattle.step.specs.View.{candidatesAt};
+ghost use Rattle.step.specs.RunView.{Correcting, passAs, loopedAs};
+ghost use Rattle.step.specs.Step.{velocityOf, velocityRhs, compatibleOf, kickBodies, reactionOf, velocitiesBy, velocityPass, velocityLoop};
 
 // The rate of a row, from the bodies' momenta.
-fn velocity(row: EqualityRow, a: MomentumBody, b: MomentumBody) -> Sum {
+fn velocity(row: EqualityRow, a: MomentumBody, b: MomentumBody) -> Sum
+    ensures { λ r. ⌜ sumAs r ≡ velocityOf row a b ⌝ }
+{
     let OptionVec3::Some(wa) = a.omega() else {
         return Sum::ArithmeticOverflow;
     };
@@ -59,8 +53,15 @@ fn velocity(row: EqualityRow, a: MomentumBody, b: MomentumBody) -> Sum {
     Sum::ArithmeticOverflow
 }
 
-fn velocity_rhs(s: &mut [f64], ia: &[usize; 96], ib: &[usize; 96], n: usize) -> Outcome
-    requires { ⌜ (Rows (now s) (now ia) (now ib) ROWS n 16) ⌝ }
+fn velocity_rhs(
+    s: &mut [f64],
+    ia: &[usize; 96],
+    ib: &[usize; 96],
+    n: usize,
+    bodies: usize,
+) -> Outcome
+    requires { ⌜ Rows (now s) (now ia) (now ib) ROWS n bodies ⌝ }
+    ensures { λ r. ⌜ Does (Out RHS 96) (now (s .entry)) (now (s .exit)) (ranAs r (vecAt (now (s .exit)) RHS n)) (velocityRhs (rowsOn (now (ia .entry)) (now (ib .entry)) (now (s .entry)) ROWS n) (candidatesAt (now (s .entry)) bodies)) ⌝ }
 {
     for k in 0..n {
         let row = load_row(s, ia, ib, ROWS, k);
@@ -76,6 +77,7 @@ fn velocity_rhs(s: &mut [f64], ia: &[usize; 96], ib: &[usize; 96], n: usize) -> 
 
 fn compatible(s: &[f64], n: usize) -> bool
     requires { ⌜ (END ≤ length (now s)) × (n ≤ 96) ⌝ }
+    ensures { λ r. ⌜ r ≡ compatibleOf (vecAt (now (s .entry)) RHS n) ⌝ }
 {
     for k in 0..n {
         if abs(s[RHS + k]) <= 1.0e-12 {} else {
@@ -87,6 +89,7 @@ fn compatible(s: &[f64], n: usize) -> bool
 
 fn kick_candidates(s: &mut [f64], bodies: usize) -> Finish
     requires { ⌜ (END ≤ length (now s)) × (bodies ≤ 16) ⌝ }
+    ensures { λ r. ⌜ Does (Out CANDIDATE 208) (now (s .entry)) (now (s .exit)) (finishAs r (candidatesAt (now (s .exit)) bodies)) (kickBodies (candidatesAt (now (s .entry)) bodies) (generalizedsAt (now (s .entry)) GENERALIZED bodies)) ⌝ }
 {
     for k in 0..bodies {
         let share = load_generalized(s, GENERALIZED, k);
@@ -108,6 +111,7 @@ fn kick_candidates(s: &mut [f64], bodies: usize) -> Finish
 // A solve's reaction on the candidates.
 fn apply(s: &mut [f64], ia: &[usize; 96], ib: &[usize; 96], n: usize, bodies: usize) -> Finish
     requires { ⌜ Rows (now s) (now ia) (now ib) ROWS n bodies ⌝ }
+    ensures { λ r. ⌜ Does Correcting (now (s .entry)) (now (s .exit)) (finishAs r (candidatesAt (now (s .exit)) bodies)) (reactionOf (rowsOn (now (ia .entry)) (now (ib .entry)) (now (s .entry)) ROWS n) (candidatesAt (now (s .entry)) bodies) (vecAt (now (s .entry)) SOLUTION n)) ⌝ }
 {
     if let Outcome::ArithmeticOverflow = transpose(s, ia, ib, ROWS, SOLUTION, n, bodies) {
         return Finish::ArithmeticOverflow;
@@ -122,34 +126,39 @@ fn correct_velocities(
     n: usize,
     bodies: usize,
     cyclic: bool,
-) -> Correction
+) -> Passed
     requires { ⌜ Rows (now s) (now ia) (now ib) ROWS n bodies ⌝ }
-    ensures { λ r. ⌜ r .passes ≤ 448 ⌝ }
+    ensures { λ r. ⌜ (Does Correcting (now (s .entry)) (now (s .exit)) (passAs r (candidatesAt (now (s .exit)) bodies) (candidatesAt (now (s .exit)) bodies)) (velocitiesBy cyclic (rowsOn (now (ia .entry)) (now (ib .entry)) (now (s .entry)) ROWS n) (massesAt (now (s .entry)) MASSES bodies) (candidatesAt (now (s .entry)) bodies) (vecAt (now (s .entry)) RHS n))) × (r .passes ≤ 448) ⌝ }
 {
     let ended = linear_solve(s, ia, ib, ROWS, n, bodies, cyclic);
     let passes = ended.passes;
     let end = ended.end;
     match end {
         End::Solved => match apply(s, ia, ib, n, bodies) {
-            Finish::Done => Correction {
-                end: CorrectionEnd::Next,
+            Finish::Done => Passed {
+                end: PassEnd::Next,
                 passes,
             },
-            Finish::NonConvergent => Correction {
-                end: CorrectionEnd::NonConvergent,
+            Finish::NonConvergent => Passed {
+                end: PassEnd::NonConvergent,
                 passes,
             },
-            Finish::ArithmeticOverflow => Correction {
-                end: CorrectionEnd::ArithmeticOverflow,
+            Finish::ArithmeticOverflow => Passed {
+                end: PassEnd::ArithmeticOverflow,
                 passes,
             },
         },
-        End::ArithmeticOverflow => Correction {
-            end: CorrectionEnd::ArithmeticOverflow,
+        End::ArithmeticOverflow => Passed {
+            end: PassEnd::ArithmeticOverflow,
             passes,
         },
-        _ => Correction {
-            end: CorrectionEnd::NonConvergent,
+        End::NonConvergent => Passed {
+            end: PassEnd::NonConvergent,
+            passes,
+        },
+        // never: `linear_solve` goes on where the path declines
+        End::Declined => Passed {
+            end: PassEnd::NonConvergent,
             passes,
         },
     }
@@ -162,19 +171,19 @@ fn velocity_pass(
     n: usize,
     bodies: usize,
     cyclic: bool,
-) -> Correction
+) -> Passed
     requires { ⌜ Rows (now s) (now ia) (now ib) ROWS n bodies ⌝ }
-    ensures { λ r. ⌜ r .passes ≤ 448 ⌝ }
+    ensures { λ r. ⌜ (Does Correcting (now (s .entry)) (now (s .exit)) (passAs r (candidatesAt (now (s .exit)) bodies) (candidatesAt (now (s .exit)) bodies)) (velocityPass cyclic (rowsOn (now (ia .entry)) (now (ib .entry)) (now (s .entry)) ROWS n) (massesAt (now (s .entry)) MASSES bodies) (candidatesAt (now (s .entry)) bodies))) × (r .passes ≤ 448) ⌝ }
 {
-    if let Outcome::ArithmeticOverflow = velocity_rhs(s, ia, ib, n) {
-        return Correction {
-            end: CorrectionEnd::ArithmeticOverflow,
+    if let Outcome::ArithmeticOverflow = velocity_rhs(s, ia, ib, n, bodies) {
+        return Passed {
+            end: PassEnd::ArithmeticOverflow,
             passes: 0,
         };
     }
     if compatible(s, n) {
-        return Correction {
-            end: CorrectionEnd::Compatible,
+        return Passed {
+            end: PassEnd::Met,
             passes: 0,
         };
     }
@@ -188,39 +197,43 @@ pub fn velocity_loop(
     n: usize,
     bodies: usize,
     cyclic: bool,
-) -> Corrected
+) -> Looped
     requires { ⌜ Rows (now s) (now ia) (now ib) ROWS n bodies ⌝ }
-    ensures { λ r. ⌜ r .passes ≤ 448 * 3 ⌝ }
+    ensures { λ r. ⌜ (Does Correcting (now (s .entry)) (now (s .exit)) (loopedAs r (candidatesAt (now (s .exit)) bodies)) (velocityLoop cyclic (rowsOn (now (ia .entry)) (now (ib .entry)) (now (s .entry)) ROWS n) (massesAt (now (s .entry)) MASSES bodies) (candidatesAt (now (s .entry)) bodies))) × (r .passes ≤ 448 * 3) ⌝ }
 {
     let mut passes = 0;
-    for _k in 0..3usize {
+    for k in 0..3usize {
         let done = velocity_pass(s, ia, ib, n, bodies, cyclic);
         passes += done.passes;
         let end = done.end;
         match end {
-            CorrectionEnd::Next => {}
-            CorrectionEnd::Compatible => {
-                return Corrected {
+            PassEnd::Next => {}
+            PassEnd::Met => {
+                return Looped {
                     finish: Finish::Done,
+                    begun: k + 1,
                     passes,
                 };
             }
-            CorrectionEnd::NonConvergent => {
-                return Corrected {
+            PassEnd::NonConvergent => {
+                return Looped {
                     finish: Finish::NonConvergent,
+                    begun: k + 1,
                     passes,
                 };
             }
-            CorrectionEnd::ArithmeticOverflow => {
-                return Corrected {
+            PassEnd::ArithmeticOverflow => {
+                return Looped {
                     finish: Finish::ArithmeticOverflow,
+                    begun: k + 1,
                     passes,
                 };
             }
         }
     }
-    Corrected {
+    Looped {
         finish: Finish::NonConvergent,
+        begun: 3,
         passes,
     }
 }

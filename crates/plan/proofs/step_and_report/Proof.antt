@@ -1,7 +1,9 @@
 -- `step_and_report`: the counted records are lent to the step and to the report.
 use mathlib.Core.Path.{_≡_}
+use denote.Ref.{now}
 use lib.ListN.{length}
 use Rattle.plan.proofs.Parts.{part-within, part-length, back-within, back-length}
+use Rattle.plan.proofs.Poses.{step-scratch, step-puts}
 use borrow.Author.Needs.{needs}
 use Rattle.plan.proofs.step_and_report.Statement.{statement}
 use Rattle.plan.proofs.step_and_report.Tie as tie
@@ -16,12 +18,12 @@ mul-used c = search needs
 array-borrow-prefix-bodies : tie.Need-array-borrow-prefix-bodies
 array-borrow-prefix-bodies c =
     let start = c .before .before .before .before .before in
-    part-within (start .args .plan .bodies) (start .args .plan .«body_count») (long start) (start .pre)
+    part-within (start .args .plan .bodies) (start .args .plan .«body_count») (long start) (start .pre .0)
 
 slice-aggregate-solve : tie.Need-slice-aggregate-solve
 slice-aggregate-solve c =
     let start = c .before .before .before .before .before .before in
-    part-length (start .args .plan .bodies) (start .args .plan .«body_count») (long start) (start .pre)
+    part-length (start .args .plan .bodies) (start .args .plan .«body_count») (long start) (start .pre .0)
 
 solve-requires : tie.Need-solve-requires
 solve-requires c κs = search needs
@@ -33,13 +35,13 @@ array-share-prefix-bodies : tie.Need-array-share-prefix-bodies
 array-share-prefix-bodies c =
     let at-solve = c .before .before .before .before in
     let start = at-solve .before .before .before .before .before .before .before .before in
-    back-within (start .args .plan .bodies) (start .args .plan .«body_count») (long start) (start .pre) (at-solve .solve .last .0) (at-solve .solve .kept .0)
+    back-within (start .args .plan .bodies) (start .args .plan .«body_count») (long start) (start .pre .0) (at-solve .solve .last .0) (at-solve .solve .kept .0)
 
 slice-aggregate-report : tie.Need-slice-aggregate-report
 slice-aggregate-report c =
     let at-solve = c .before .before .before .before .before in
     let start = at-solve .before .before .before .before .before .before .before .before in
-    back-length (start .args .plan .bodies) (start .args .plan .«body_count») (long start) (start .pre) (at-solve .solve .last .0) (at-solve .solve .kept .0)
+    back-length (start .args .plan .bodies) (start .args .plan .«body_count») (long start) (start .pre .0) (at-solve .solve .last .0) (at-solve .solve .kept .0)
 
 report-requires : tie.Need-report-requires
 report-requires c κs = search needs
@@ -51,7 +53,18 @@ same-length-2 : tie.Need-same-length-2
 same-length-2 c = search needs
 
 returns : tie.Need-returns
-returns c = search needs
+returns c =
+    let at-report = c .before .before in
+    let at-number = at-report .before .before .before in
+    let at-solve = at-number .before .before .before .before in
+    let start = at-solve .before .before .before .before .before .before .before .before in
+    let plan = start .args .plan in
+    let scratch = now (start .args .scratch) in
+    let kept = at-solve .solve .kept .0 in
+    let answer = at-solve .solve .ensures in (
+      step-puts plan scratch (start .pre .0) (long start) kept answer (start .pre .1) (at-number .number .ensures) (at-report .report .ensures),
+      step-scratch plan scratch (start .pre .0) (long start) kept answer,
+    )
 
 pub step-and-report-spec : {M : Type 1} → statement M
 step-and-report-spec =

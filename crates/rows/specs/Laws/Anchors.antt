@@ -1,4 +1,4 @@
--- Anchors: where a body hands back its record with an origin of at most 8,192, the doubles of its anchor are within 2 ^ -33 of the exact anchor of that record.
+-- Anchors: where a body hands back its record with an origin of at most 8,192, the doubles of its anchor are within 2 ^ -36 of the exact anchor of that record.
 -- origin = centre - turned local centre, anchor = centre + turned (local anchor - local centre), each rounded; the exact turn is linear.
 use mathlib.Core.Path.{_≡_, refl, sym, subst}
 use mathlib.Core.List.{List, [], _∷_}
@@ -45,8 +45,8 @@ pub record IsV (v : Vec3) (E : Vector) (m e : ℕ) : Type 0 where
   pub z-is : Is (v .z) (E .z) m e
 
 -- the rotation law in these words
-pub turned-near : (M K m E : ℕ) → T (turns M K m E) → (f : Quat) (g : Quaternion) (v r : Vec3) → rotateVectorOf f v ≡ Some r → NearUnit f (g .x) (g .y) (g .z) (g .w) → Below M v → IsV r (turned g (vector v)) m E
-turned-near M K m E t f g v r e G B = let R = rotated M K m E t f v r (g .x) (g .y) (g .z) (g .w) e G B in record { x-is = R .along-x; y-is = R .along-y; z-is = R .along-z }
+pub turned-near : (M K E : ℕ) → T (turns M K E) → (f : Quat) (g : Quaternion) (v r : Vec3) → rotateVectorOf f v ≡ Some r → NearUnit f (g .x) (g .y) (g .z) (g .w) → Below M v → IsV r (turned g (vector v)) (M + M) E
+turned-near M K E t f g v r e G B = let R = rotated M K E t f v r (g .x) (g .y) (g .z) (g .w) e G B in record { x-is = R .along-x; y-is = R .along-y; z-is = R .along-z }
 
 -- ---- limits on coordinates, as the refusals test them
 abbrev pub Inside : Vec3 → Float → Bool
@@ -96,19 +96,19 @@ lost i x y z w a b c d e f l m n hi hx hy hz hw p q r =
 
 -- ---- one coordinate
 abbrev tTop : ℕ
-tTop = 14 * 2 ^ 262
+tTop = 2 ^ 263
 
 abbrev rTop : ℕ
-rTop = 129 * (14 * 2 ^ 256)
+rTop = 129 * 2 ^ 257
 
 abbrev cTop : ℕ
-cTop = 2 ^ 270 + 2 ^ 266
+cTop = 2 ^ 269 + 2 ^ 264
 
 abbrev pub pTop : ℕ
-pTop = 76 * 2 ^ 264
+pTop = 35 * 2 ^ 264
 
 abbrev pub aErr : ℕ
-aErr = 2 ^ 223
+aErr = 2 ^ 220
 
 originE : Fx
 originE = fv 0 -f fv 1
@@ -117,12 +117,12 @@ anchorE : Fx
 anchorE = fv 0 +f fv 1
 
 originβ : List (ℕ × ℕ)
-originβ = (cTop, 0) ∷ (tTop, 2 ^ 221) ∷ []
+originβ = (cTop, 0) ∷ (tTop, 2 ^ 218) ∷ []
 
 anchorβ : List (ℕ × ℕ)
-anchorβ = (cTop, 0) ∷ (rTop, 129 * 2 ^ 215) ∷ []
+anchorβ = (cTop, 0) ∷ (rTop, 129 * 2 ^ 212) ∷ []
 
-coordinate : (c t r : Float) (T₀ R₀ G₀ : ℚ) → Is t T₀ tTop (2 ^ 221) → Is r R₀ rTop (129 * 2 ^ 215) → T (finite (sub binary64 c t)) → Abs (val (sub binary64 c t)) (2 ^ 269) → Abs (T₀ +q R₀ -q G₀) (2 ^ 214)
+coordinate : (c t r : Float) (T₀ R₀ G₀ : ℚ) → Is t T₀ tTop (2 ^ 218) → Is r R₀ rTop (129 * 2 ^ 212) → T (finite (sub binary64 c t)) → Abs (val (sub binary64 c t)) (2 ^ 269) → Abs (T₀ +q R₀ -q G₀) (2 ^ 214)
     → Is (add binary64 c r) (val (sub binary64 c t) +q G₀) pTop aErr
 unfolding sameQ originE anchorE originβ anchorβ chk U
 coordinate c t r T₀ R₀ G₀ ht hr fo ho hl =
@@ -130,9 +130,13 @@ coordinate c t r T₀ R₀ G₀ ht hr fo ho hl =
     let o = sub binary64 c t in
     let p = add binary64 c r in
     let back = sub-back c t (2 ^ 269) fc (ht .0) fo ho in
-    let t-top = own (val t) T₀ tTop (2 ^ 221) (ht .1) (ht .2) in
-    let n = 2 * 2 ^ 269 + 1 + (tTop + 2 ^ 221) in
-    let c-top : Abs (val c) cTop = abs-mono (val c) n cTop (leb→le n cTop tt) (abs-eq ((val c -q val t) +q val t) (val c) n (ringQ (val c ∷ val t ∷ []) ((rv 0 ⊖ rv 1) ⊕ rv 1) (rv 0) tt) (abs-add (val c -q val t) (val t) (2 * 2 ^ 269 + 1) (tTop + 2 ^ 221) back t-top)) in
+    let t-top = own (val t) T₀ tTop (2 ^ 218) (ht .1) (ht .2) in
+    let rounding = sub-err c t (2 * 2 ^ 269 + 1) fc (ht .0) back (leb→le (2 * 2 ^ 269 + 1) (U * huge) tt) .1 in
+    let k = 2 ^ 269 + rnd (2 * 2 ^ 269 + 1) in
+    let n = k + (tTop + 2 ^ 218) in
+    let c-top : Abs (val c) cTop = abs-mono (val c) n cTop (leb→le n cTop tt)
+    (abs-eq ((val o -q (val o -q (val c -q val t))) +q val t) (val c) n (ringQ (val c ∷ val t ∷ val o ∷ []) ((rv 2 ⊖ (rv 2 ⊖ (rv 0 ⊖ rv 1))) ⊕ rv 1) (rv 0) tt)
+    (abs-add (val o -q (val o -q (val c -q val t))) (val t) k (tTop + 2 ^ 218) (abs-sub (val o) (val o -q (val c -q val t)) (2 ^ 269) (rnd (2 * 2 ^ 269 + 1)) ho rounding) t-top)) in
     let C = given c cTop (fc, c-top) in
     let S₁ = sound (c ∷ t ∷ []) (val c ∷ T₀ ∷ []) originβ (C, (ht, tt)) originE (tt, tt) tt in
     let S₂ = sound (c ∷ r ∷ []) (val c ∷ R₀ ∷ []) anchorβ (C, (hr, tt)) anchorE (tt, tt) tt in
@@ -208,11 +212,11 @@ anchor-near a old s f p h P lc la lo A = subst (λ v. AnchorNear v (anchor (stat
     dz : Abs (val (m .z) +q val (sub binary64 (l .z) (m .z)) -q val (l .z)) ηErr × Abs (val (sub binary64 (l .z) (m .z))) (129 * 2 ^ 256)
     dz = difference (l .z) (m .z) (lIn .0 .2) (mIn .0 .2) (lIn .1 .z-below) (mIn .1 .z-below)
 
-    t : IsV (h .centre) (turned (quaternion q) (vector m)) tTop (2 ^ 221)
-    t = turned-near (2 ^ 262) (13 * 2 ^ 217) tTop (2 ^ 221) local-turns q (quaternion q) m (h .centre) (h .rotates) G (mIn .1)
+    t : IsV (h .centre) (turned (quaternion q) (vector m)) tTop (2 ^ 218)
+    t = turned-near (2 ^ 262) (386 * 2 ^ 209) (2 ^ 218) local-turns q (quaternion q) m (h .centre) (h .rotates) G (mIn .1)
 
-    r : IsV (A .arm) (turned (quaternion q) (vector (subOf l m))) rTop (129 * 2 ^ 215)
-    r = turned-near (129 * 2 ^ 256) (129 * (13 * 2 ^ 211)) rTop (129 * 2 ^ 215) arm-turns q (quaternion q) (subOf l m) (A .arm) (A .rotates) G (record { x-below = dx .1; y-below = dy .1; z-below = dz .1 })
+    r : IsV (A .arm) (turned (quaternion q) (vector (subOf l m))) rTop (129 * 2 ^ 212)
+    r = turned-near (129 * 2 ^ 256) (129 * (386 * 2 ^ 203)) (129 * 2 ^ 212) arm-turns q (quaternion q) (subOf l m) (A .arm) (A .rotates) G (record { x-below = dx .1; y-below = dy .1; z-below = dz .1 })
 
     i-top : Abs (inv n) iMax
     i-top = inv-norm n (G .size)

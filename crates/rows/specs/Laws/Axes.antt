@@ -28,12 +28,12 @@ swap : (v w : Vector) → v · w ≡ w · v
 unfolding sameQ
 swap v w = ringQ (v .x ∷ v .y ∷ v .z ∷ w .x ∷ w .y ∷ w .z ∷ []) (rv 0 ⊗ rv 3 ⊕ rv 1 ⊗ rv 4 ⊕ rv 2 ⊗ rv 5) (rv 3 ⊗ rv 0 ⊕ rv 4 ⊗ rv 1 ⊕ rv 5 ⊗ rv 2) tt
 
-axis-dots : T (dots (2 ^ 256) axisErr (2 ^ 256) axisErr (13 * 2 ^ 214))
+axis-dots : T (dots (2 ^ 256) axisErr (2 ^ 256) axisErr (13 * 2 ^ 211))
 unfolding dots U
 axis-dots = tt
 
--- 10^-13 is below 2 ^ -42, 10^-10 above 2 ^ -34, and 14 · 2 ^ -42 below 10^-11
-align-tolerance : T (finite (ratio 1 (10 ^ 13))) × Abs (val (ratio 1 (10 ^ 13))) (2 ^ 214)
+-- 10^-13 is below 2 ^ -43, 10^-10 above 2 ^ -34, and 17 · 2 ^ -45 below 10^-11
+align-tolerance : T (finite (ratio 1 (10 ^ 13))) × Abs (val (ratio 1 (10 ^ 13))) (2 ^ 213)
 unfolding round leq _+q_ negq iv U
 align-tolerance = (tt, (tt, tt))
 
@@ -41,7 +41,7 @@ facing-limit : T (finite (ratio 1 (10 ^ 10))) × (iv (2 ^ 222) ≤q val (ratio 1
 unfolding round leq iv U
 facing-limit = (tt, tt)
 
-across-limit : 0≤ (across -q iv (14 * 2 ^ 214))
+across-limit : 0≤ (across -q iv (17 * 2 ^ 211))
 unfolding leq _+q_ negq iv U
 across-limit = tt
 
@@ -49,10 +49,10 @@ minus-minus : (x a : ℚ) → x +q a ≡ x -q negq a
 unfolding same
 minus-minus x a = ring (x ∷ a ∷ []) (var 0 :+ var 1) (var 0 :- ng (var 1)) tt
 
-within-across : (x : ℚ) → Abs x (14 * 2 ^ 214) → (negq across ≤q x) × (x ≤q across)
+within-across : (x : ℚ) → Abs x (17 * 2 ^ 211) → (negq across ≤q x) × (x ≤q across)
 unfolding sameQ den comb
 within-across x h =
-    let ρ = x ∷ iv (14 * 2 ^ 214) ∷ across ∷ negq across ∷ [] in
+    let ρ = x ∷ iv (17 * 2 ^ 211) ∷ across ∷ negq across ∷ [] in
     let H : List Rx = (rv 1 ⊖ rv 0) ∷ (rv 1 ⊕ rv 0) ∷ (rv 2 ⊖ rv 1) ∷ [] in
     let k : Nns ρ H = (h .0, (h .1, (across-limit, tt))) in
     let low : 0≤ (x +q across) = by-nn ρ [] tt H k [] (hyp 1 ⊞ hyp 2) (rv 0 ⊕ rv 2) tt in
@@ -62,28 +62,28 @@ within-across x h =
 crossed : (axis z : Vec3) (E F : Vector) (v t : Float) → IsV axis E (2 ^ 256) axisErr → IsV z F (2 ^ 256) axisErr → dotOf axis z ≡ v → ratio 1 (10 ^ 13) ≡ t → T (le (absOf v) t) → (negq across ≤q F · E) × (F · E ≤q across)
 unfolding sameQ
 crossed axis z E F v t ha hz ev et k =
-    let D = dot-near (2 ^ 256) axisErr (2 ^ 256) axisErr (13 * 2 ^ 214) axis-dots axis z E F ha hz in
+    let D = dot-near (2 ^ 256) axisErr (2 ^ 256) axisErr (13 * 2 ^ 211) axis-dots axis z E F ha hz in
     let w = val (dotOf axis z) in
-    let tol = subst (λ x. T (finite x) × Abs (val x) (2 ^ 214)) et align-tolerance in
-    let w-top = subst (λ x. Abs (val x) (2 ^ 214)) (sym ev) (value-top v t (2 ^ 214) (tol .0) (tol .1) k) in
-    let s = abs-eq (w -q (w -q E · F)) (E · F) (2 ^ 214 + 13 * 2 ^ 214) (ringQ (w ∷ (E · F) ∷ []) (rv 0 ⊖ (rv 0 ⊖ rv 1)) (rv 1) tt) (abs-sub w (w -q E · F) (2 ^ 214) (13 * 2 ^ 214) w-top (D .1)) in
-    within-across (F · E) (subst (λ x. Abs x (14 * 2 ^ 214)) (swap E F) s)
+    let tol = subst (λ x. T (finite x) × Abs (val x) (2 ^ 213)) et align-tolerance in
+    let w-top = subst (λ x. Abs (val x) (2 ^ 213)) (sym ev) (value-top v t (2 ^ 213) (tol .0) (tol .1) k) in
+    let s = abs-eq (w -q (w -q E · F)) (E · F) (2 ^ 213 + 13 * 2 ^ 211) (ringQ (w ∷ (E · F) ∷ []) (rv 0 ⊖ (rv 0 ⊖ rv 1)) (rv 1) tt) (abs-sub w (w -q E · F) (2 ^ 213) (13 * 2 ^ 211) w-top (D .1)) in
+    within-across (F · E) (subst (λ x. Abs x (17 * 2 ^ 211)) (swap E F) s)
 
 -- not opposed
 not-opposed : (za z : Vec3) (E F : Vector) → IsV za E (2 ^ 256) axisErr → IsV z F (2 ^ 256) axisErr → T (not (le (dotOf za z) (ratio 1 (10 ^ 10)))) → qn 0 <q F · E
 unfolding sameQ den comb
 not-opposed za z E F ha hz k =
-    let D = dot-near (2 ^ 256) axisErr (2 ^ 256) axisErr (13 * 2 ^ 214) axis-dots za z E F ha hz in
+    let D = dot-near (2 ^ 256) axisErr (2 ^ 256) axisErr (13 * 2 ^ 211) axis-dots za z E F ha hz in
     let w = val (dotOf za z) in
     let c = val (ratio 1 (10 ^ 10)) in
     let above = ≤q-total w c (subst (λ b. T (not b)) (le-val (dotOf za z) (ratio 1 (10 ^ 10)) (D .0) (facing-limit .0)) k) in
     let low = ≤q-sub (iv (2 ^ 222)) w (≤q-trans (iv (2 ^ 222)) c w (facing-limit .1) above) in
-    let ρ = w ∷ (E · F) ∷ iv (2 ^ 222) ∷ iv (13 * 2 ^ 214) ∷ iv (2 ^ 214) ∷ [] in
+    let ρ = w ∷ (E · F) ∷ iv (2 ^ 222) ∷ iv (13 * 2 ^ 211) ∷ iv (2 ^ 214) ∷ [] in
     let H : List Rx = (rv 0 ⊖ rv 2) ∷ (rv 3 ⊖ (rv 0 ⊖ rv 1)) ∷ (rv 2 ⊖ (rv 3 ⊕ rv 4)) ∷ [] in
     let l : 0≤ (E · F -q iv (2 ^ 214)) = by-nn ρ [] tt H (low, (D .1 .0, (gap, tt))) [] (hyp 0 ⊞ hyp 1 ⊞ hyp 2) (rv 1 ⊖ rv 4) tt in
     subst (λ x. qn 0 <q x) (swap E F) (positive (E · F) (2 ^ 214) (lit< tt) (sub-≤q (iv (2 ^ 214)) (E · F) l))
   where
-    gap : 0≤ (iv (2 ^ 222) -q (iv (13 * 2 ^ 214) +q iv (2 ^ 214)))
+    gap : 0≤ (iv (2 ^ 222) -q (iv (13 * 2 ^ 211) +q iv (2 ^ 214)))
     gap = unfold leq _+q_ negq iv U in tt
 
 pub aligned : (fa fb : Quat) (ga gb : Quaternion) (z : Vec3) (x y : EqualityRow) → NearUnit fa (ga .x) (ga .y) (ga .z) (ga .w) → NearUnit fb (gb .x) (gb .y) (gb .z) (gb .w) → Facing fa fb z → Across fa axisX z x → Across fa axisY z y

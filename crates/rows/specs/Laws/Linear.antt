@@ -1,4 +1,4 @@
--- Rows along an axis of frame a: where such a row's value is at most its tolerance, the exact part of d along the exact axis is at most 2 ^ -24 + 2 ^ -30.
+-- Rows along an axis of frame a: where such a row's value is at most its tolerance, the exact part of d along the exact axis is at most 2 ^ -28 + 2 ^ -32.
 use mathlib.Core.Path.{_≡_, refl, sym, _∙_, subst}
 use mathlib.Core.List.{List, [], _∷_}
 use mathlib.Core.Bool.{Bool, _&&_}
@@ -32,24 +32,24 @@ use Rattle.rows.specs.Laws.Orthogonal.{turned-square}
 use Rattle.rows.specs.Laws.Results.{Tolerated}
 use Rattle.rows.specs.Laws.Anchors.{IsV, turned-near, pTop, aErr, AnchorNear}
 
--- ---- the tolerance: at most 2 ^ -30
+-- ---- the tolerance: at most 2 ^ -32
 abbrev pub tolTop : ℕ
-tolTop = 2 ^ 226
+tolTop = 2 ^ 224
 
 abbrev pTop⁺ : ℕ
-pTop⁺ = 77 * 2 ^ 264
+pTop⁺ = 36 * 2 ^ 264
 
-anchor-sides : T (sides pTop⁺ pTop⁺ pTop⁺ (2 ^ 236) (110 * 2 ^ 264)) × T (sides (110 * 2 ^ 264) pTop⁺ (110 * 2 ^ 264) (2 ^ 237) (135 * 2 ^ 264))
+anchor-sides : T (sides pTop⁺ pTop⁺ pTop⁺ (2 ^ 234) (51 * 2 ^ 264)) × T (sides (51 * 2 ^ 264) pTop⁺ (51 * 2 ^ 264) (2 ^ 235) (63 * 2 ^ 264))
 unfolding sides hyp-fits leq _+q_ _*q_ iv U negq
 anchor-sides = (tt, tt)
 
 own-top : (f : Float) (x : ℚ) → Is f x pTop aErr → Abs (val f) pTop⁺
 own-top f x h = abs-mono (val f) (pTop + aErr) pTop⁺ (leb→le (pTop + aErr) pTop⁺ tt) (own (val f) x pTop aErr (h .1) (h .2))
 
-anchor-length : (p : Vec3) (P : Vector) → AnchorNear p P → T (finite (lengthOf p)) × Abs (val (lengthOf p)) (135 * 2 ^ 264)
+anchor-length : (p : Vec3) (P : Vector) → AnchorNear p P → T (finite (lengthOf p)) × Abs (val (lengthOf p)) (63 * 2 ^ 264)
 anchor-length p P A =
     let n = A .near in
-    let L = vec-length pTop⁺ (110 * 2 ^ 264) (135 * 2 ^ 264) (2 ^ 236) (2 ^ 237) (anchor-sides .0) (anchor-sides .1) p
+    let L = vec-length pTop⁺ (51 * 2 ^ 264) (63 * 2 ^ 264) (2 ^ 234) (2 ^ 235) (anchor-sides .0) (anchor-sides .1) p
     (record { x-fits = A .x-fits; y-fits = A .y-fits; z-fits = A .z-fits; x-fine = n .x-is .0; y-fine = n .y-is .0; z-fine = n .z-is .0 })
     (own-top (p .x) (P .x) (n .x-is)) (own-top (p .y) (P .y) (n .y-is)) (own-top (p .z) (P .z) (n .z-is)) in
     (L .side .fine, L .side .top)
@@ -58,7 +58,7 @@ toleranceE : Fx
 toleranceE = fc (ratio 32 1) (whole 32 0) *f fc (ratio 1 (2 ^ 52)) (record { p = 1; n = 0; d = 2 ^ 52; dp = lit< tt }) *f (fv 0 +f fv 1)
 
 toleranceβ : List (ℕ × ℕ)
-toleranceβ = (135 * 2 ^ 264, 0) ∷ (135 * 2 ^ 264, 0) ∷ []
+toleranceβ = (63 * 2 ^ 264, 0) ∷ (63 * 2 ^ 264, 0) ∷ []
 
 least-tolerance : T (finite (ratio 1 (10 ^ 13))) × Abs (val (ratio 1 (10 ^ 13))) tolTop
 unfolding round leq _+q_ negq iv U
@@ -70,7 +70,7 @@ tolerance-top pa pb A B t ha hb T₀ =
     let la = anchor-length pa A ha in
     let lb = anchor-length pb B hb in
     let σ = val (lengthOf pa) ∷ val (lengthOf pb) ∷ [] in
-    let S = sound (lengthOf pa ∷ lengthOf pb ∷ []) σ toleranceβ (given (lengthOf pa) (135 * 2 ^ 264) la, (given (lengthOf pb) (135 * 2 ^ 264) lb, tt)) toleranceE ((tt, tt), (tt, tt)) tt in
+    let S = sound (lengthOf pa ∷ lengthOf pb ∷ []) σ toleranceβ (given (lengthOf pa) (63 * 2 ^ 264) la, (given (lengthOf pb) (63 * 2 ^ 264) lb, tt)) toleranceE ((tt, tt), (tt, tt)) tt in
     let m = mag (chk toleranceβ toleranceE) + err (chk toleranceβ toleranceE) in
     let r = ratio 32 1 ⊠f epsilon ⊠f (lengthOf pa ⊞f lengthOf pb) in
     let P : Float → Type 0 = λ f. T (finite f) × Abs (val f) tolTop in
@@ -104,9 +104,9 @@ dot-near m e n d K t u v E F h k =
     let R = sound (u .x ∷ u .y ∷ u .z ∷ v .x ∷ v .y ∷ v .z ∷ []) (E .x ∷ E .y ∷ E .z ∷ F .x ∷ F .y ∷ F .z ∷ []) (dotβ m e n d) (h .x-is, (h .y-is, (h .z-is, (k .x-is, (k .y-is, (k .z-is, tt)))))) dotE (((tt, tt), (tt, tt)), (tt, tt)) (s .0) in
     (R .0, abs-mono (val (dotOf u v) -q E · F) (err (chk (dotβ m e n d) dotE)) K (leb→le (err (chk (dotβ m e n d) dotE)) K (s .1)) (R .2))
 
--- ---- the axes of a frame: unit vectors, within 2 ^ -41
+-- ---- the axes of a frame: unit vectors, within 2 ^ -44
 abbrev pub axisErr : ℕ
-axisErr = 2 ^ 215
+axisErr = 2 ^ 212
 
 unit-x : (v : Vector) → v · v ≡ qn 1 → Abs (v .x) (2 ^ 256)
 unfolding sameQ den comb iv U
@@ -137,7 +137,7 @@ zero-top = subst (λ v. Abs v (2 ^ 256)) (sym (one-zero .1)) (small-ones .1)
 
 axis-near : (f : Quat) (g : Quaternion) (local r : Vec3) (e : Vector) → vector local ≡ e → e · e ≡ qn 1 → Below (2 ^ 256) local → NearUnit f (g .x) (g .y) (g .z) (g .w) → rotateVectorOf f local ≡ Some r → IsV r (turned g e) (2 ^ 256) axisErr
 axis-near f g local r e is unit B G h =
-    let T₀ = subst (λ v. IsV r (turned g v) (14 * 2 ^ 256) axisErr) is (turned-near (2 ^ 256) (13 * 2 ^ 211) (14 * 2 ^ 256) axisErr axis-turns f g local r h G B) in
+    let T₀ = subst (λ v. IsV r (turned g v) (2 ^ 257) axisErr) is (turned-near (2 ^ 256) (386 * 2 ^ 203) axisErr axis-turns f g local r h G B) in
     let u = unit-all (turned g e) (turned-square g e (inv-ok (N g) (norm-pos (N g) (G .size))) ∙ unit) in
     record { x-is = (T₀ .x-is .0, u .0, T₀ .x-is .2); y-is = (T₀ .y-is .0, u .1, T₀ .y-is .2); z-is = (T₀ .z-is .0, u .2, T₀ .z-is .2) }
 
@@ -160,12 +160,12 @@ module _ (f : Quat) (g : Quaternion) (r : Vec3) (G : NearUnit f (g .x) (g .y) (g
       axis-near f g axisZ r (record { x = qn 0; y = qn 0; z = qn 1 }) (λ i. record { x = one-zero .1 i; y = one-zero .1 i; z = one-zero .0 i }) (ringQ [] (nat 0 ⊗ nat 0 ⊕ nat 0 ⊗ nat 0 ⊕ nat 1 ⊗ nat 1) (nat 1) tt)
       (record { x-below = zero-top; y-below = zero-top; z-below = one-top }) G h
 
--- ---- what leads from anchor a to anchor b: within 2 ^ -31.8
+-- ---- what leads from anchor a to anchor b: within 2 ^ -34.8
 abbrev pub dTop : ℕ
-dTop = 152 * 2 ^ 264
+dTop = 70 * 2 ^ 264
 
 abbrev pub dErr : ℕ
-dErr = 9 * 2 ^ 221
+dErr = 9 * 2 ^ 218
 
 differenceE : Fx
 differenceE = fv 0 -f fv 1
@@ -192,16 +192,16 @@ delta-near pa pb A B ha hb =
 
 -- ---- a row along an axis
 abbrev pub rowErr : ℕ
-rowErr = 2 ^ 226 + 2 ^ 232
+rowErr = 2 ^ 224 + 2 ^ 228
 
-linear-dots : T (dots dTop dErr (2 ^ 256) axisErr (2 ^ 232))
+linear-dots : T (dots dTop dErr (2 ^ 256) axisErr (2 ^ 228))
 unfolding dots U
 linear-dots = tt
 
 pub row-near : (delta axis : Vec3) (d E : Vector) (v t : Float) → IsV delta d dTop dErr → IsV axis E (2 ^ 256) axisErr → dotOf delta axis ≡ v → T (finite t) → Abs (val t) tolTop → T (le (absOf v) t) → Abs (d · E) rowErr
 unfolding sameQ
 row-near delta axis d E v t hd ha e ft ht k =
-    let D = dot-near dTop dErr (2 ^ 256) axisErr (2 ^ 232) linear-dots delta axis d E hd ha in
+    let D = dot-near dTop dErr (2 ^ 256) axisErr (2 ^ 228) linear-dots delta axis d E hd ha in
     let w = val (dotOf delta axis) in
     let V₀ = subst (λ x. Abs (val x) tolTop) (sym e) (value-top v t tolTop ft ht k) in
-    abs-eq (w -q (w -q d · E)) (d · E) rowErr (ringQ (w ∷ (d · E) ∷ []) (rv 0 ⊖ (rv 0 ⊖ rv 1)) (rv 1) tt) (abs-sub w (w -q d · E) (2 ^ 226) (2 ^ 232) V₀ (D .1))
+    abs-eq (w -q (w -q d · E)) (d · E) rowErr (ringQ (w ∷ (d · E) ∷ []) (rv 0 ⊖ (rv 0 ⊖ rv 1)) (rv 1) tt) (abs-sub w (w -q d · E) (2 ^ 224) (2 ^ 228) V₀ (D .1))

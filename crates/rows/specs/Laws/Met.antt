@@ -72,25 +72,25 @@ frame-parts f t =
     (both (finiteOf (f .«local_anchor»)) (Inside (f .«local_anchor») (ratio 64 1)) (a .0) .1, unit-quat (f .«local_rotation») (a .1))
 
 -- ---- squares of small numbers
-micrometre-limit : iv (2 ^ 210) ≤q micrometre *q micrometre
+micrometre-limit : iv (2 ^ 202) ≤q micrometre *q micrometre
 unfolding leq _*q_ iv U
 micrometre-limit = tt
 
-below : (x : ℚ) → Abs x (2 ^ 210) → x ≤q micrometre *q micrometre
-below x h = ≤q-trans x (iv (2 ^ 210)) (micrometre *q micrometre) (sub-≤q x (iv (2 ^ 210)) (h .0)) micrometre-limit
+below : (x : ℚ) → Abs x (2 ^ 202) → x ≤q micrometre *q micrometre
+below x h = ≤q-trans x (iv (2 ^ 202)) (micrometre *q micrometre) (sub-≤q x (iv (2 ^ 202)) (h .0)) micrometre-limit
 
 module _ (a b c : ℚ) (ha : Abs a rowErr) where
   one-small : a *q a ≤q micrometre *q micrometre
   unfolding bounds
-  one-small = below (a *q a) (bound (a ∷ []) (rowErr ∷ []) (ha, tt) (rv 0 ⊗ rv 0) (2 ^ 210) tt)
+  one-small = below (a *q a) (bound (a ∷ []) (rowErr ∷ []) (ha, tt) (rv 0 ⊗ rv 0) (2 ^ 202) tt)
 
   two-small : Abs b rowErr → a *q a +q b *q b ≤q micrometre *q micrometre
   unfolding bounds
-  two-small hb = below (a *q a +q b *q b) (bound (a ∷ b ∷ []) (rowErr ∷ rowErr ∷ []) (ha, (hb, tt)) (rv 0 ⊗ rv 0 ⊕ rv 1 ⊗ rv 1) (2 ^ 210) tt)
+  two-small hb = below (a *q a +q b *q b) (bound (a ∷ b ∷ []) (rowErr ∷ rowErr ∷ []) (ha, (hb, tt)) (rv 0 ⊗ rv 0 ⊕ rv 1 ⊗ rv 1) (2 ^ 202) tt)
 
   three-small : Abs b rowErr → Abs c rowErr → a *q a +q b *q b +q c *q c ≤q micrometre *q micrometre
   unfolding bounds
-  three-small hb hc = below (a *q a +q b *q b +q c *q c) (bound (a ∷ b ∷ c ∷ []) (rowErr ∷ rowErr ∷ rowErr ∷ []) (ha, (hb, (hc, tt))) (rv 0 ⊗ rv 0 ⊕ rv 1 ⊗ rv 1 ⊕ rv 2 ⊗ rv 2) (2 ^ 210) tt)
+  three-small hb hc = below (a *q a +q b *q b +q c *q c) (bound (a ∷ b ∷ c ∷ []) (rowErr ∷ rowErr ∷ rowErr ∷ []) (ha, (hb, (hc, tt))) (rv 0 ⊗ rv 0 ⊕ rv 1 ⊗ rv 1 ⊕ rv 2 ⊗ rv 2) (2 ^ 202) tt)
 
 take-away : (a b c s : ℚ) → a +q b +q c ≡ s → a +q b ≡ s -q c
 unfolding sameQ

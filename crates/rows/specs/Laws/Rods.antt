@@ -89,16 +89,16 @@ squares A K e S t u l x y z a b c hx hy hz dx dy dz j =
     (abs-add (l *q l -q s) r e K j o))
 
 abbrev wide : ℕ
-wide = 153 * 2 ^ 264
+wide = 71 * 2 ^ 264
 
 abbrev near : ℕ
 near = 65 * 2 ^ 256
 
-wide-sides : T (sides wide wide wide (2 ^ 238) (217 * 2 ^ 264)) × T (sides (217 * 2 ^ 264) wide (217 * 2 ^ 264) (2 ^ 239) (266 * 2 ^ 264)) × T (offs wide (2 ^ 242 + 2 ^ 239)) × T (leb (2 ^ 239 + (2 ^ 238 + 0) + (2 ^ 242 + 2 ^ 239)) (2 ^ 243))
+wide-sides : T (sides wide wide wide (2 ^ 238) (101 * 2 ^ 264)) × T (sides (101 * 2 ^ 264) wide (101 * 2 ^ 264) (2 ^ 239) (124 * 2 ^ 264)) × T (offs wide (2 ^ 238)) × T (leb (2 ^ 239 + (2 ^ 238 + 0) + (2 ^ 238)) (2 ^ 243))
 unfolding sides offs hyp-fits leq _+q_ _*q_ iv U negq
 wide-sides = (tt, tt, tt, tt)
 
-near-sides : T (sides near near near (2 ^ 220) (92 * 2 ^ 256)) × T (sides (92 * 2 ^ 256) near (92 * 2 ^ 256) (2 ^ 221) (113 * 2 ^ 256)) × T (offs near (7 * 2 ^ 230)) × T (leb (2 ^ 221 + (2 ^ 220 + 0) + 7 * 2 ^ 230) (2 ^ 233))
+near-sides : T (sides near near near (2 ^ 220) (92 * 2 ^ 256)) × T (sides (92 * 2 ^ 256) near (92 * 2 ^ 256) (2 ^ 221) (113 * 2 ^ 256)) × T (offs near (7 * 2 ^ 227)) × T (leb (2 ^ 221 + (2 ^ 220 + 0) + 7 * 2 ^ 227) (2 ^ 233))
 unfolding sides offs hyp-fits leq _+q_ _*q_ iv U negq
 near-sides = (tt, tt, tt, tt)
 
@@ -126,13 +126,13 @@ rod-met delta d L v t F D e fL lo ft ht k =
     let y = val (delta .y) in
     let z = val (delta .z) in
     let l = lengthOf delta in
-    let W = vec-length wide (217 * 2 ^ 264) (266 * 2 ^ 264) (2 ^ 238) (2 ^ 239) (wide-sides .0) (wide-sides .1) delta F (own-wide (delta .x) (d .x) (D .x-is)) (own-wide (delta .y) (d .y) (D .y-is)) (own-wide (delta .z) (d .z) (D .z-is)) in
+    let W = vec-length wide (101 * 2 ^ 264) (124 * 2 ^ 264) (2 ^ 238) (2 ^ 239) (wide-sides .0) (wide-sides .1) delta F (own-wide (delta .x) (d .x) (D .x-is)) (own-wide (delta .y) (d .y) (D .y-is)) (own-wide (delta .z) (d .z) (D .z-is)) in
     let fv = abs-limit v t ft k .0 in
     let apart = sub-back l L tolTop (W .side .fine) fL (subst (λ a. T (finite a)) (sym e) fv) (subst (λ a. Abs (val a) tolTop) (sym e) (value-top v t tolTop ft ht k)) in
     let off = abs-mono (val l -q val L) (2 * tolTop + 1) (2 ^ 228) (leb→le (2 * tolTop + 1) (2 ^ 228) tt) apart in
     choose (leq (val L) (qn 64)) refl W off
   where
-    choose : (b : Bool) → leq (val L) (qn 64) ≡ b → Long (lengthOf delta) (val (delta .x) *q val (delta .x) +q val (delta .y) *q val (delta .y) +q val (delta .z) *q val (delta .z)) (2 ^ 239 + (2 ^ 238 + 0)) (266 * 2 ^ 264) → Abs (val (lengthOf delta) -q val L) (2 ^ 228) → Bounded (val L) (d · d)
+    choose : (b : Bool) → leq (val L) (qn 64) ≡ b → Long (lengthOf delta) (val (delta .x) *q val (delta .x) +q val (delta .y) *q val (delta .y) +q val (delta .z) *q val (delta .z)) (2 ^ 239 + (2 ^ 238 + 0)) (124 * 2 ^ 264) → Abs (val (lengthOf delta) -q val L) (2 ^ 228) → Bounded (val L) (d · d)
     choose true b W off =
         let x = val (delta .x) in
         let y = val (delta .y) in
@@ -145,10 +145,10 @@ rod-met delta d L v t F D e fL lo ft ht k =
         let hz = small (val L) l z x y (W .not-neg) low off (round-sum l y z x (3 * 2 ^ 238) (round-sum l x y z (3 * 2 ^ 238) n)) in
         let M = vec-length near (92 * 2 ^ 256) (113 * 2 ^ 256) (2 ^ 220) (2 ^ 221) (near-sides .0) (near-sides .1) delta F hx hy hz in
         short (val L) l (d · d) (W .not-neg) (≤q-sub (mk eighth) (val L) lo) off
-        (squares near (7 * 2 ^ 230) (2 ^ 221 + (2 ^ 220 + 0)) (2 ^ 233) (near-sides .2) (near-sides .3) l x y z (d .x) (d .y) (d .z) hx hy hz (D .x-is .2) (D .y-is .2) (D .z-is .2) (M .side .near))
+        (squares near (7 * 2 ^ 227) (2 ^ 221 + (2 ^ 220 + 0)) (2 ^ 233) (near-sides .2) (near-sides .3) l x y z (d .x) (d .y) (d .z) hx hy hz (D .x-is .2) (D .y-is .2) (D .z-is .2) (M .side .near))
     choose false b W off =
         long (val L) (val (lengthOf delta)) (d · d) (W .not-neg) (≤q-sub (qn 64) (val L) (≤q-total (val L) (qn 64) (subst (λ c. T (not c)) (sym b) tt))) off
-        (squares wide (2 ^ 242 + 2 ^ 239) (2 ^ 239 + (2 ^ 238 + 0)) (2 ^ 243) (wide-sides .2) (wide-sides .3) (val (lengthOf delta)) (val (delta .x)) (val (delta .y)) (val (delta .z)) (d .x) (d .y) (d .z) (own-wide (delta .x) (d .x) (D .x-is)) (own-wide (delta .y) (d .y) (D .y-is)) (own-wide (delta .z) (d .z) (D .z-is)) (D .x-is .2) (D .y-is .2) (D .z-is .2) (W .side .near))
+        (squares wide (2 ^ 238) (2 ^ 239 + (2 ^ 238 + 0)) (2 ^ 243) (wide-sides .2) (wide-sides .3) (val (lengthOf delta)) (val (delta .x)) (val (delta .y)) (val (delta .z)) (d .x) (d .y) (d .z) (own-wide (delta .x) (d .x) (D .x-is)) (own-wide (delta .y) (d .y) (D .y-is)) (own-wide (delta .z) (d .z) (D .z-is)) (D .x-is .2) (D .y-is .2) (D .z-is .2) (W .side .near))
 
 -- the test of refusal 9
 pub length-in : (L : Float) → T (lengthIn L) → T (finite L) × (mk eighth ≤q val L)

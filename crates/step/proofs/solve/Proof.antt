@@ -1,11 +1,15 @@
+use Rattle.step.specs.Records.{recordsOf}
+use Rattle.step.specs.Step.{runOf}
+use lib.ListN.{length, length-set}
+use denote.Ref.{now}
+use Rattle.step.specs.CheckLaws.{ready-joined}
+use Rattle.step.proofs.AnsweredLaws.{run-ready, answered-refused, answered-run}
+use Rattle.step.proofs.FinishLaws.{solved-scratch}
+use Rattle.step.proofs.StepLaws.{take-long}
 use native.Mathlib.Omega.{arith}
 use mathlib.Core.Path.{_≡_, refl, sym, ap, _∙_}
 use Prim.Native.Nat.{ℕ, _+_, _*_, _≤_, _<_, _-_}
-use lib.ListN.{length, getD, length-set}
 use borrow.Author.Needs.{counted-is}
-use Rattle.step.specs.CheckLaws.{accepted-run}
-use Rattle.step.proofs.AnsweredLaws.{answered-refused, answered-run}
-use Rattle.step.proofs.StepLaws.{is-accepted, take-long}
 use borrow.Author.Needs.{needs}
 use Rattle.step.proofs.solve.Statement.{statement}
 use Rattle.step.proofs.solve.Tie as tie
@@ -20,16 +24,16 @@ same-length : tie.Need-same-length
 same-length c = search needs
 
 returns : tie.Need-returns
-returns c = answered-refused _ _ _ _ _ (c .before .before .refusal .ensures)
+returns c = answered-refused (now (c .before .before .before .before .before .before .args .bodies)) (c .before .before .before .before .before .before .args .joints) (c .before .before .before .before .before .before .args .count) (c .before .before .before .before .before .before .args .dt) (now (c .before .before .before .before .before .before .args .scratch)) (c .before .before .refusal .ensures) (c .before .accepted .ensures) (c .if1 .taken)
 
 slice-relend-prefix-solve-in : tie.Need-slice-relend-prefix-solve-in
-slice-relend-prefix-solve-in c = (accepted-run _ _ _ _ _ (c .before .before .before .refusal .ensures) (is-accepted _ (c .before .before .accepted .ensures) (c .before .if1 .left))) .1
+slice-relend-prefix-solve-in c = run-ready (now (c .before .before .before .before .before .before .before .args .bodies)) (c .before .before .before .before .before .before .before .args .joints) (c .before .before .before .before .before .before .before .args .count) (c .before .before .before .before .before .before .before .args .dt) (now (c .before .before .before .before .before .before .before .args .scratch)) (c .before .before .before .refusal .ensures) (c .before .before .accepted .ensures) (c .before .if1 .left) .room
 
 slice-aggregate-solve-in : tie.Need-slice-aggregate-solve-in
-slice-aggregate-solve-in c = sym (take-long 6144 (c .before .before .before .before .before .before .before .before .args .scratch .now) ((accepted-run _ _ _ _ _ (c .before .before .before .before .refusal .ensures) (is-accepted _ (c .before .before .before .accepted .ensures) (c .before .before .if1 .left))) .1))
+slice-aggregate-solve-in c = sym (take-long 6144 (c .before .before .before .before .before .before .before .before .args .scratch .now) (run-ready (now (c .before .before .before .before .before .before .before .before .args .bodies)) (c .before .before .before .before .before .before .before .before .args .joints) (c .before .before .before .before .before .before .before .before .args .count) (c .before .before .before .before .before .before .before .before .args .dt) (now (c .before .before .before .before .before .before .before .before .args .scratch)) (c .before .before .before .before .refusal .ensures) (c .before .before .before .accepted .ensures) (c .before .before .if1 .left) .room))
 
 solve-in-requires : tie.Need-solve-in-requires
-solve-in-requires c κs = (take-long 6144 (c .before .before .before .before .before .before .before .before .args .scratch .now) ((accepted-run _ _ _ _ _ (c .before .before .before .before .refusal .ensures) (is-accepted _ (c .before .before .before .accepted .ensures) (c .before .before .if1 .left))) .1), (accepted-run _ _ _ _ _ (c .before .before .before .before .refusal .ensures) (is-accepted _ (c .before .before .before .accepted .ensures) (c .before .before .if1 .left))) .0)
+solve-in-requires c κs = (take-long 6144 (c .before .before .before .before .before .before .before .before .args .scratch .now) (run-ready (now (c .before .before .before .before .before .before .before .before .args .bodies)) (c .before .before .before .before .before .before .before .before .args .joints) (c .before .before .before .before .before .before .before .before .args .count) (c .before .before .before .before .before .before .before .before .args .dt) (now (c .before .before .before .before .before .before .before .before .args .scratch)) (c .before .before .before .before .refusal .ensures) (c .before .before .before .accepted .ensures) (c .before .before .if1 .left) .room), run-ready (now (c .before .before .before .before .before .before .before .before .args .bodies)) (c .before .before .before .before .before .before .before .before .args .joints) (c .before .before .before .before .before .before .before .before .args .count) (c .before .before .before .before .before .before .before .before .args .dt) (now (c .before .before .before .before .before .before .before .before .args .scratch)) (c .before .before .before .before .refusal .ensures) (c .before .before .before .accepted .ensures) (c .before .before .if1 .left) .whole, ready-joined (run-ready (now (c .before .before .before .before .before .before .before .before .args .bodies)) (c .before .before .before .before .before .before .before .before .args .joints) (c .before .before .before .before .before .before .before .before .args .count) (c .before .before .before .before .before .before .before .before .args .dt) (now (c .before .before .before .before .before .before .before .before .args .scratch)) (c .before .before .before .before .refusal .ensures) (c .before .before .before .accepted .ensures) (c .before .before .if1 .left)))
 
 same-length-2 : tie.Need-same-length-2
 same-length-2 c = search needs
@@ -38,7 +42,7 @@ same-length-3 : tie.Need-same-length-3
 same-length-3 c = search needs
 
 returns-2 : tie.Need-returns-2
-returns-2 c = answered-run _ _ _ _ _ _ _ _ (c .before .before .before .before .before .before .before .before .before .refusal .ensures) (c .before .before .before .before .before .before .before .before .accepted .ensures) (c .before .before .before .before .before .before .before .if1 .left)
+returns-2 c = answered-run (now (c .before .before .before .before .before .before .before .before .before .before .before .before .before .args .bodies)) (c .before .before .before .before .before .before .before .before .before .before .before .before .before .args .joints) (c .before .before .before .before .before .before .before .before .before .before .before .before .before .args .count) (c .before .before .before .before .before .before .before .before .before .before .before .before .before .args .dt) (now (c .before .before .before .before .before .before .before .before .before .before .before .before .before .args .scratch)) (c .before .before .before .before .before .before .before .before .before .refusal .ensures) (c .before .before .before .before .before .before .before .before .accepted .ensures) _ _ _ (c .before .before .before .before .before .before .before .if1 .left) (solved-scratch (now (c .before .before .before .before .before .before .before .before .before .before .before .before .before .args .bodies)) (now (c .before .before .before .before .before .before .before .before .before .before .before .before .before .args .scratch)) (runOf (recordsOf (now (c .before .before .before .before .before .before .before .before .before .before .before .before .before .args .bodies))) (c .before .before .before .before .before .before .before .before .before .before .before .before .before .args .joints) (c .before .before .before .before .before .before .before .before .before .before .before .before .before .args .count) (c .before .before .before .before .before .before .before .before .before .before .before .before .before .args .dt)) (c .before .before .before .before .solve-in .ensures))
 
 pub solve-spec : {M : Type 1} → statement M
 solve-spec =

@@ -2,24 +2,27 @@
 use mathlib.Core.Path.{_≡_, refl, sym, subst}
 use mathlib.Core.List.{List, [], _∷_}
 use mathlib.Core.Bool.{Bool, true, false, not, cond, _&&_}
-use Prim.Native.Nat.{ℕ, _+_}
+use Prim.Native.Nat.{ℕ, _+_, _-_, _^_}
 use lib.Dec.{T, leb, leb→le}
 use lib.Ieee as Ieee
 use lib.Ieee.{Float, inf, binary64, fits}
 use lib.Ieee.Fits.{mul-fits, round-fits, inf-fits, cond-fits, and-l, and-r}
 use lib.Ieee.Scale.{finite}
-use Rattle.exact.specs.Rat.{ℚ, qn, leq, _+q_, _-q_, _*q_, ≤q-sub, sub-≤q, ≤q-total, cancel-nn}
-use Rattle.exact.specs.Abs.{iv, iv-nn, 0≤, Abs, abs-eq, abs-mono, abs-add, positive}
-use Rattle.exact.specs.RingQ.{Rx, rv, _⊕_, _⊖_, _⊗_, sameQ, ringQ}
-use Rattle.exact.specs.Cert.{nat, comb, den, by-nn, Nns, hyp, _⊞_, _⊠_}
+use Rattle.exact.specs.Rat.{ℚ, mk, qn, leq, _+q_, _-q_, _*q_, _≤q_, ≤q-sub, sub-≤q, ≤q-total, cancel-nn}
+use Rattle.exact.specs.Abs.{U, iv, ivF, iv-nn, 0≤, Abs, abs-eq, abs-mono, abs-add, positive}
+use Rattle.exact.specs.RingQ.{Rx, rv, rat, _⊕_, _⊖_, _⊗_, sameQ, ringQ}
+use Rattle.exact.specs.Cert.{nat, comb, den, by-nn, Nns, hyp, sqr, num, _⊞_, _⊠_}
 use Rattle.exact.specs.Val.{val}
+use Rattle.exact.specs.Relative.{Near, near-mono, tiny}
 use Rattle.exact.specs.Hypot.{hyp-fits}
-use Rattle.arith.specs.Real.{isFinite, absOf, ratio, _⊕_ as _+f_, _⊗_ as _*f_, _⊘_ as _/f_}
+use Rattle.arith.specs.Real.{isFinite, absOf, maxOf, ratio, _⊕_ as _+f_, _⊗_ as _*f_, _⊘_ as _/f_}
 use Rattle.arith.specs.Root.{sqrt}
 use Rattle.arith.specs.Hypot.{scaledRoot, hypotOf}
-use Rattle.arith.specs.Laws.HypotError.{hypot-within}
+use Rattle.arith.specs.Laws.HypotError.{hypot-within, hypotErr, hypot-near}
+use Rattle.arith.specs.Laws.Magnitude.{abs-square, abs-abs}
 use Rattle.vectors.specs.declared.vector.Vec3.{Vec3}
 use Rattle.vectors.specs.Vector.{lengthOf}
+use Rattle.vectors.specs.Laws.Tests.{max-keeps}
 
 -- ---- h² ≤ B² gives |h| ≤ B
 pub root-le : (h : ℚ) (B : ℕ) → T (leb 1 B) → 0≤ h → 0≤ (iv B *q iv B -q h *q h) → Abs h B
@@ -105,6 +108,31 @@ longer P Q A N B e t p q s S f g k =
             (abs-add (val h *q val h -q (val p *q val p +q val q *q val q)) (val p *q val p -q s) N e (H .near) (S .near));
       };
     }
+
+-- ---- the same in proportion: h² is within 2 ^ -49 of the sum of the squares, and 2 ^ -256
+abbrev pub Close : ℚ → ℚ → Type 0
+Close h s = Near (mk (tiny 49) *q s +q iv 1) h s
+
+hypot-part : (s m : ℚ) → 0≤ (s -q m *q m) → Abs m (2 ^ 257) → hypotErr m ≤q mk (tiny 49) *q s +q iv 1
+unfolding hypotErr sameQ den comb iv U
+hypot-part s m h k =
+    sub-≤q (hypotErr m) (mk (tiny 49) *q s +q iv 1)
+    (by-nn (s ∷ m ∷ []) [] tt ((rv 0 ⊖ rv 1 ⊗ rv 1) ∷ (rat (ivF (2 ^ 257)) ⊖ rv 1) ∷ []) (h, (k .0, tt)) [] (num 1 (2 ^ 49 - 1) ⊠ hyp 0 ⊞ num 1 (2 ^ 1073 - 1) ⊠ hyp 1 ⊞ num (2 ^ 816 - 1) (2 ^ 1072 - 1))
+    (rat (tiny 49) ⊗ rv 0 ⊕ rat (ivF 1) ⊖ (rat (tiny 49) ⊗ (rv 1 ⊗ rv 1) ⊕ rat (tiny 1073) ⊗ rv 1)) tt)
+
+pub hypot-close : (x y : Float) → T (fits binary64 x) → T (fits binary64 y) → T (finite x) → T (finite y) → T (finite (hypotOf x y)) → Abs (val x) (2 ^ 257) → Abs (val y) (2 ^ 257)
+    → Close (val (hypotOf x y) *q val (hypotOf x y)) (val x *q val x +q val y *q val y)
+unfolding sameQ den comb
+hypot-close x y f g p q t hx hy =
+    let h = hypotOf x y in
+    let s = val x *q val x +q val y *q val y in
+    let ρ = val x ∷ val y ∷ [] in
+    let sum = rv 0 ⊗ rv 0 ⊕ rv 1 ⊗ rv 1 in
+    let P : Float → Type 0 = λ a. 0≤ (s -q val a *q val a) × Abs (val a) (2 ^ 257) in
+    let at : (a : Float) → 0≤ (s -q val a *q val a) → Abs (val a) (2 ^ 257) → P (absOf a) = λ a u v. (subst (λ z. 0≤ (s -q z)) (sym (abs-square a)) u, abs-abs a (2 ^ 257) v) in
+    let m = max-keeps P (absOf x) (absOf y) (at x (by-nn ρ [] tt [] tt [] (sqr (rv 1)) (sum ⊖ rv 0 ⊗ rv 0) tt) hx) (at y (by-nn ρ [] tt [] tt [] (sqr (rv 0)) (sum ⊖ rv 1 ⊗ rv 1) tt) hy) in
+    let l = val (maxOf (absOf x) (absOf y)) in
+    near-mono (hypotErr l) (mk (tiny 49) *q s +q iv 1) (val h *q val h) s (hypot-part s l (m .0) (m .1)) (hypot-near x y f g p q t)
 
 -- ---- the length of a vector
 pub record Fits3 (v : Vec3) : Type 0 where

@@ -5,26 +5,27 @@ use mathlib.Core.List.{List, [], _∷_}
 use mathlib.Core.Bool.{not, _&&_}
 use mathlib.Core.Quot.{Quot·sound}
 use Prim.Native.Nat.{ℕ, _+_, _*_, _^_}
-use lib.Dec.{T, leb→le}
+use lib.Dec.{T, leb, leb→le}
 use lib.Ieee.{Float, binary64, fits, round, div}
 use lib.Ieee.Fits.{div-fits}
 use lib.Ieee.Scale.{finite}
 use Rattle.exact.specs.Rat.{ℚ, qn, leq, _+q_, _-q_, _*q_, negq, _≤q_, ≤q-trans, sub-≤q, 0≤-mul, inv, inv-ok}
-use Rattle.exact.specs.Abs.{U, iv, 0≤, Abs, abs-mono}
-use Rattle.exact.specs.RingQ.{rv, _⊕_, _⊖_, _⊗_, sameQ, ringQ}
-use Rattle.exact.specs.Cert.{comb, den, by-nn, sqr, _⊞_}
+use Rattle.exact.specs.Abs.{U, iv, 0≤, Abs, abs-eq, abs-mono}
+use Rattle.exact.specs.RingQ.{Rx, rv, _⊕_, _⊖_, _⊗_, sameQ, ringQ}
+use Rattle.exact.specs.Cert.{nat, comb, den, by-nn, sqr, _⊞_, bounds, bound}
 use Rattle.exact.specs.Val.{val, rnd, huge, div-err}
 use Rattle.exact.specs.Check.{Fx, fv, fdiv, mag, err, chk, sound, own}
 use Rattle.exact.specs.Given.{given}
 use Rattle.exact.specs.Hypot.{hyp-fits}
 use Rattle.arith.specs.Real.{absOf, maxOf, ratio, isFinite}
+use Rattle.arith.specs.Hypot.{hypotOf}
 use Rattle.arith.specs.Laws.Magnitude.{abs-nn, abs-finite, abs-square, max-first, max-second}
 use Rattle.vectors.specs.declared.quaternion.Quat.{Quat}
 use Rattle.vectors.specs.declared.quaternion.OptionQuat.the-variants.{Some}
 use Rattle.vectors.specs.Quaternion.{quatLargestOf, quatDivOf, quatLengthOf, quatTryNormalizeOf}
 use Rattle.vectors.specs.Laws.Tests.{finite-of, both, above-zero, abs-under, max-keeps}
-use Rattle.vectors.specs.Laws.Length.{sides, side, Long, longer}
-use Rattle.vectors.specs.Laws.Fractions.{norm, inv-nn, share, lMin, pMax, low-pos, inv-low, norm-one, length-low, norms, cErr, factor}
+use Rattle.vectors.specs.Laws.Length.{sides, side, Long, longer, hypot-close}
+use Rattle.vectors.specs.Laws.Fractions.{norm, normR, inv-nn, share, lMin, pMax, low-pos, norm-one, Sums, lengths, cErr, norms, length-low, factor}
 use Rattle.vectors.specs.Laws.Options.{normalized}
 
 -- a double, the number that it stands for, a bound on that and on the distance
@@ -113,7 +114,7 @@ one⁺ = 2 ^ 256 + 2 ^ 206
 part-top : (s : Float) (x : ℚ) → Is s x (2 ^ 256) (rnd (2 ^ 256)) → Abs (val s) one⁺
 part-top s x h = abs-mono (val s) (2 ^ 256 + rnd (2 ^ 256)) one⁺ (leb→le (2 ^ 256 + rnd (2 ^ 256)) one⁺ tt) (own (val s) x (2 ^ 256) (rnd (2 ^ 256)) (h .1) (h .2))
 
--- ---- the length of that: at most 33 / 16, its square within 3 · 2 ^ -48
+-- ---- the length of that: at most 33 / 16, its square in proportion
 fits-xy : T (sides one⁺ one⁺ one⁺ (2 ^ 207) (91 * 2 ^ 250))
 unfolding sides hyp-fits leq _+q_ _*q_ iv U negq
 fits-xy = tt
@@ -126,16 +127,30 @@ fits-xyzw : T (sides (7 * 2 ^ 254) one⁺ (7 * 2 ^ 254) (3 * 2 ^ 207) (33 * 2 ^ 
 unfolding sides hyp-fits leq _+q_ _*q_ iv U negq
 fits-xyzw = tt
 
+record LongQuat (s : Quat) : Type 0 where
+  long : Long (quatLengthOf s) (norm (val (s .x)) (val (s .y)) (val (s .z)) (val (s .w))) (6 * 2 ^ 207) (33 * 2 ^ 252)
+  near : Sums (val (quatLengthOf s) *q val (quatLengthOf s)) (norm (val (s .x)) (val (s .y)) (val (s .z)) (val (s .w)))
+
 quat-length : (s : Quat) → T (fits binary64 (s .x)) → T (fits binary64 (s .y)) → T (fits binary64 (s .z)) → T (fits binary64 (s .w)) → T (finite (s .x)) → T (finite (s .y)) → T (finite (s .z)) → T (finite (s .w))
-    → Abs (val (s .x)) one⁺ → Abs (val (s .y)) one⁺ → Abs (val (s .z)) one⁺ → Abs (val (s .w)) one⁺ → Long (quatLengthOf s) (norm (val (s .x)) (val (s .y)) (val (s .z)) (val (s .w))) (6 * 2 ^ 207) (33 * 2 ^ 252)
+    → Abs (val (s .x)) one⁺ → Abs (val (s .y)) one⁺ → Abs (val (s .z)) one⁺ → Abs (val (s .w)) one⁺ → LongQuat s
 quat-length s tx ty tz tw fx fy fz fw hx hy hz hw =
+    let h = hypotOf (s .x) (s .y) in
+    let k = hypotOf h (s .z) in
     let a = longer one⁺ one⁺ one⁺ (2 ^ 207) (91 * 2 ^ 250) 0 fits-xy (s .x) (s .y) (val (s .x) *q val (s .x)) (side (s .x) one⁺ tx fx hx) ty fy hy in
-    let b = longer (91 * 2 ^ 250) one⁺ (91 * 2 ^ 250) (2 ^ 208) (7 * 2 ^ 254) (2 ^ 207 + 0) fits-xyz _ (s .z) _ (a .side) tz fz hz in
-    longer (7 * 2 ^ 254) one⁺ (7 * 2 ^ 254) (3 * 2 ^ 207) (33 * 2 ^ 252) (2 ^ 208 + (2 ^ 207 + 0)) fits-xyzw _ (s .w) _ (b .side) tw fw hw
+    let b = longer (91 * 2 ^ 250) one⁺ (91 * 2 ^ 250) (2 ^ 208) (7 * 2 ^ 254) (2 ^ 207 + 0) fits-xyz h (s .z) _ (a .side) tz fz hz in
+    let c = longer (7 * 2 ^ 254) one⁺ (7 * 2 ^ 254) (3 * 2 ^ 207) (33 * 2 ^ 252) (2 ^ 208 + (2 ^ 207 + 0)) fits-xyzw k (s .w) _ (b .side) tw fw hw in
+    let two : (f : Float) (B : ℕ) → T (leb B (2 ^ 257)) → Abs (val f) B → Abs (val f) (2 ^ 257) = λ f B t. abs-mono (val f) B (2 ^ 257) (leb→le B (2 ^ 257) t) in
+    record {
+      long = c;
+      near = lengths (val (s .x)) (val (s .y)) (val (s .z)) (val (s .w)) (val h) (val k) (val (quatLengthOf s))
+          (hypot-close (s .x) (s .y) tx ty fx fy (a .side .fine) (two (s .x) one⁺ tt hx) (two (s .y) one⁺ tt hy))
+          (hypot-close h (s .z) (a .side .fit) tz (a .side .fine) fz (b .side .fine) (two h (91 * 2 ^ 250) tt (a .side .top)) (two (s .z) one⁺ tt hz))
+          (hypot-close k (s .w) (b .side .fit) tw (b .side .fine) fw (c .side .fine) (two k (7 * 2 ^ 254) tt (b .side .top)) (two (s .w) one⁺ tt hw));
+    }
 
 -- ---- a component divided by l
 abbrev pub uErr : ℕ
-uErr = 2 ^ 205
+uErr = 9 * 2 ^ 201
 
 unitE : Fx
 unitE = fdiv lMin (fv 0) (fv 1)
@@ -154,6 +169,22 @@ unit s l q k h fl tl lo =
       abs-mono (val (div binary64 s l) -q q *q k *q inv (val l)) (err (chk unitβ unitE)) uErr (leb→le (err (chk unitβ unitE)) uErr tt) (S .2),
     )
 
+-- ---- the squares of the normalised components sum to nearly 1
+abbrev pub unitErr : ℕ
+unitErr = 76 * 2 ^ 203
+
+sized : (c x y z w X Y Z W : ℚ) → Abs (c *q c *q norm x y z w -q qn 1) cErr → Abs (c *q x) pMax → Abs (c *q y) pMax → Abs (c *q z) pMax → Abs (c *q w) pMax → Abs (X -q c *q x) uErr → Abs (Y -q c *q y) uErr → Abs (Z -q c *q z) uErr → Abs (W -q c *q w) uErr
+    → Abs (norm X Y Z W -q qn 1) unitErr
+unfolding sameQ bounds
+sized c x y z w X Y Z W n hx hy hz hw ex ey ez ew =
+    let o : ℚ → ℚ → ℚ = λ e q. e *q (qn 2 *q q +q e) in
+    let O : Rx → Rx → Rx = λ e q. e ⊗ (nat 2 ⊗ q ⊕ e) in
+    let p : Rx → Rx = λ q. rv 0 ⊗ q in
+    abs-eq ((c *q c *q norm x y z w -q qn 1) +q (o (X -q c *q x) (c *q x) +q o (Y -q c *q y) (c *q y) +q o (Z -q c *q z) (c *q z) +q o (W -q c *q w) (c *q w))) (norm X Y Z W -q qn 1) unitErr
+    (ringQ (c ∷ x ∷ y ∷ z ∷ w ∷ X ∷ Y ∷ Z ∷ W ∷ []) ((rv 0 ⊗ rv 0 ⊗ normR (rv 1) (rv 2) (rv 3) (rv 4) ⊖ nat 1) ⊕ (O (rv 5 ⊖ p (rv 1)) (p (rv 1)) ⊕ O (rv 6 ⊖ p (rv 2)) (p (rv 2)) ⊕ O (rv 7 ⊖ p (rv 3)) (p (rv 3)) ⊕ O (rv 8 ⊖ p (rv 4)) (p (rv 4)))) (normR (rv 5) (rv 6) (rv 7) (rv 8) ⊖ nat 1) tt)
+    (bound ((c *q c *q norm x y z w -q qn 1) ∷ (X -q c *q x) ∷ (Y -q c *q y) ∷ (Z -q c *q z) ∷ (W -q c *q w) ∷ c *q x ∷ c *q y ∷ c *q z ∷ c *q w ∷ []) (cErr ∷ uErr ∷ uErr ∷ uErr ∷ uErr ∷ pMax ∷ pMax ∷ pMax ∷ pMax ∷ [])
+    (n, (ex, (ey, (ez, (ew, (hx, (hy, (hz, (hw, tt))))))))) (rv 0 ⊕ (O (rv 1) (rv 5) ⊕ O (rv 2) (rv 6) ⊕ O (rv 3) (rv 7) ⊕ O (rv 4) (rv 8))) unitErr tt)
+
 pub record Normal (f u : Quat) : Type 0 where
   pub c : ℚ
   pub c-nn : 0≤ c
@@ -162,6 +193,7 @@ pub record Normal (f u : Quat) : Type 0 where
   pub y : Is (u .y) (c *q val (f .y)) pMax uErr
   pub z : Is (u .z) (c *q val (f .z)) pMax uErr
   pub w : Is (u .w) (c *q val (f .w)) pMax uErr
+  pub size : Abs (norm (val (u .x)) (val (u .y)) (val (u .z)) (val (u .w)) -q qn 1) unitErr
 
 pub normal : (f u : Quat) → quatTryNormalizeOf f ≡ Some u → Normal f u
 normal f u e =
@@ -186,18 +218,25 @@ normal f u e =
     let W = part (f .w) M fw fm pm (w-le (f .x) (f .y) (f .z) (f .w) fx fy fz fw) in
     let L = quat-length s (div-fits binary64 (f .x) M) (div-fits binary64 (f .y) M) (div-fits binary64 (f .z) M) (div-fits binary64 (f .w) M) (X .0) (Y .0) (Z .0) (W .0)
     (part-top (s .x) (val (f .x) *q k) X) (part-top (s .y) (val (f .y) *q k) Y) (part-top (s .z) (val (f .z) *q k) Z) (part-top (s .w) (val (f .w) *q k) W) in
-    let d = norms (val l) (val (s .x)) (val (s .y)) (val (s .z)) (val (s .w)) (val (f .x) *q k) (val (f .y) *q k) (val (f .z) *q k) (val (f .w) *q k) (X .1) (Y .1) (Z .1) (W .1) (X .2) (Y .2) (Z .2) (W .2) (L .side .near) in
     let n1 = norm-one (val M) k (val (f .x)) (val (f .y)) (val (f .z)) (val (f .w)) (inv-ok (val M) pm) (big (f .x) (f .y) (f .z) (f .w) fx fy fz fw) in
-    let lo = length-low (val l) (norm (val (f .x) *q k) (val (f .y) *q k) (val (f .z) *q k) (val (f .w) *q k)) (L .not-neg) d n1 in
+    let d = norms (val l) (val (s .x)) (val (s .y)) (val (s .z)) (val (s .w)) (val (f .x) *q k) (val (f .y) *q k) (val (f .z) *q k) (val (f .w) *q k) (X .1) (Y .1) (Z .1) (W .1) (X .2) (Y .2) (Z .2) (W .2) (L .near) n1 in
+    let lo = length-low (val l) (norm (val (f .x) *q k) (val (f .y) *q k) (val (f .z) *q k) (val (f .w) *q k)) (L .long .not-neg) d n1 in
     let lp = low-pos (val l) lo in
-    let fl = L .side .fine in
-    let tl = L .side .top in
+    let fl = L .long .side .fine in
+    let tl = L .long .side .top in
+    let c = k *q p in
+    let one = factor (val (f .x)) (val (f .y)) (val (f .z)) (val (f .w)) k p (val l) (inv-ok (val l) lp) d in
+    let ux = unit (s .x) l (val (f .x)) k X fl tl lo in
+    let uy = unit (s .y) l (val (f .y)) k Y fl tl lo in
+    let uz = unit (s .z) l (val (f .z)) k Z fl tl lo in
+    let uw = unit (s .w) l (val (f .w)) k W fl tl lo in
     subst (Normal f) (n .is) (record {
-      c = k *q p;
+      c = c;
       c-nn = 0≤-mul k p (inv-nn (val M) pm) (inv-nn (val l) lp);
-      near-one = factor (val (f .x)) (val (f .y)) (val (f .z)) (val (f .w)) k p (val l) (inv-ok (val l) lp) (inv-low (val l) lp lo) d;
-      x = unit (s .x) l (val (f .x)) k X fl tl lo;
-      y = unit (s .y) l (val (f .y)) k Y fl tl lo;
-      z = unit (s .z) l (val (f .z)) k Z fl tl lo;
-      w = unit (s .w) l (val (f .w)) k W fl tl lo;
+      near-one = one;
+      x = ux;
+      y = uy;
+      z = uz;
+      w = uw;
+      size = sized c (val (f .x)) (val (f .y)) (val (f .z)) (val (f .w)) (val (div binary64 (s .x) l)) (val (div binary64 (s .y) l)) (val (div binary64 (s .z) l)) (val (div binary64 (s .w) l)) one (ux .1) (uy .1) (uz .1) (uw .1) (ux .2) (uy .2) (uz .2) (uw .2);
     })

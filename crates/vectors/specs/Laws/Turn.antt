@@ -1,23 +1,25 @@
 -- A vector turned by a quaternion, exactly: v + 2 (w (u × v) + u × (u × v)) i for i = 1 / N; and how near to that the doubles come, for a quaternion of doubles near an exact one whose squares sum to nearly 1.
-use mathlib.Core.Path.{_≡_, sym, ap, _∙_, subst}
+-- The quaternion of doubles is s times the exact one, which turns as that does, and a rest. The rest counts by Cauchy's inequality; besides it counts that the squares of the doubles do not sum to 1. In units of 2 ^ -53, of 512: the rounding 79, the rest 157, the squares 228.
+use mathlib.Core.Path.{_≡_, refl, sym, ap, _∙_, subst}
 use mathlib.Core.List.{List, [], _∷_}
 use mathlib.Core.Bool.{Bool, not, _&&_}
 use Prim.Native.Nat.{ℕ, _+_, _*_, _^_}
 use lib.Dec.{T, leb, leb→le, lit<}
 use lib.Ieee.{Float, round}
+use lib.Ieee.Scale.{finite}
 use Rattle.exact.specs.Rat.{ℚ, qn, whole, leq, _+q_, _-q_, _*q_, sub-≤q, inv, inv-ok, cancel-nn}
-use Rattle.exact.specs.Abs.{U, iv, ivF, 0≤, Abs, mulUp, abs-eq, abs-mono, abs-add, abs-sub, abs-mul, positive}
-use Rattle.exact.specs.RingQ.{Rx, rv, rat, _⊕_, _⊖_, _⊗_, sameQ, ringQ}
-use Rattle.exact.specs.Cert.{nat, Eqs, comb, by-eqs, by-nn, hyp, sqr, num, _⊞_, _⊠_, den, bounds, bound}
+use Rattle.exact.specs.Abs.{U, iv, ivF, iv-add, 0≤, Abs, mulUp, abs-eq, abs-mono, abs-add, abs-sub, abs-mul, positive}
+use Rattle.exact.specs.RingQ.{Rx, rv, rat, _⊕_, _⊖_, _⊗_, evR, sameQ, ringQ}
+use Rattle.exact.specs.Cert.{nat, Eqs, comb, by-eqs, by-nn, Nns, Ct, hyp, sqr, num, _⊞_, _⊠_, den, bounds, bound}
 use Rattle.exact.specs.Val.{val}
-use Rattle.exact.specs.Check.{Fx, fv, fc, _+f_, _-f_, _*f_, run, exact, mag, err, ok, chk, sound, toR, toR-ok, plain, free, known}
+use Rattle.exact.specs.Check.{Fx, fv, fc, _+f_, _-f_, _*f_, run, exact, err, ok, chk, sound, own, toR, toR-ok, plain, free, known}
 use Rattle.exact.specs.Given.{Input, given}
 use Rattle.arith.specs.Real.{ratio}
 use Rattle.vectors.specs.declared.quaternion.Quat.{Quat}
 use Rattle.vectors.specs.Laws.Tests.{both}
 use Rattle.vectors.specs.Laws.Length.{root-le, root-abs}
 use Rattle.vectors.specs.Laws.Fractions.{norm, normR, pMax, cErr}
-use Rattle.vectors.specs.Laws.Normal.{Is, uErr, Normal}
+use Rattle.vectors.specs.Laws.Normal.{Is, uErr, unitErr, Normal}
 
 -- ---- the first component of 2 (w (u × v) + u × (u × v)), for u = (x, y, z) and v = (a, b, c); the others by turning the names round
 abbrev pub twist : ℚ → ℚ → ℚ → ℚ → ℚ → ℚ → ℚ → ℚ
@@ -30,14 +32,43 @@ twistR x y z w a b c = nat 2 ⊗ (w ⊗ (y ⊗ c ⊖ z ⊗ b) ⊕ (y ⊗ (x ⊗ 
 abbrev pub turnBy : ℚ → ℚ → ℚ → ℚ → ℚ → ℚ → ℚ → ℚ → ℚ
 turnBy i x y z w a b c = a +q twist x y z w a b c *q i
 
--- by s times the quaternion, and by the quaternion: s² N is what counts
-nearly : (s i n x y z w a b c : ℚ) → n *q i ≡ qn 1 → (a +q twist (s *q x) (s *q y) (s *q z) (s *q w) a b c) -q turnBy i x y z w a b c ≡ twist x y z w a b c *q i *q (s *q s *q n -q qn 1)
+-- ---- N (turned - r) as a function of the quaternion, r the first component of the turned vector: it is 0 at (x, y, z, w), and this is half its slope there. Variables: x, y, z, w, a, b, c, r
+abbrev slopeX : Rx
+slopeX = rv 0 ⊗ rv 4 ⊕ rv 1 ⊗ rv 5 ⊕ rv 2 ⊗ rv 6 ⊖ rv 7 ⊗ rv 0
+
+abbrev slopeY : Rx
+slopeY = rv 0 ⊗ rv 5 ⊕ rv 3 ⊗ rv 6 ⊖ rv 1 ⊗ rv 4 ⊖ rv 7 ⊗ rv 1
+
+abbrev slopeZ : Rx
+slopeZ = rv 0 ⊗ rv 6 ⊖ rv 3 ⊗ rv 5 ⊖ rv 2 ⊗ rv 4 ⊖ rv 7 ⊗ rv 2
+
+abbrev slopeW : Rx
+slopeW = rv 3 ⊗ rv 4 ⊕ rv 1 ⊗ rv 6 ⊖ rv 2 ⊗ rv 5 ⊖ rv 7 ⊗ rv 3
+
+abbrev alongR : Rx → Rx → Rx → Rx → Rx
+alongR x y z w = slopeX ⊗ x ⊕ slopeY ⊗ y ⊕ slopeZ ⊗ z ⊕ slopeW ⊗ w
+
+-- no slope along the quaternion itself
+abbrev Level : ℚ → ℚ → ℚ → ℚ → ℚ → ℚ → ℚ → ℚ → Type 0
+Level x y z w a b c r = evR (x ∷ y ∷ z ∷ w ∷ a ∷ b ∷ c ∷ r ∷ []) (alongR (rv 0) (rv 1) (rv 2) (rv 3)) ≡ qn 0
+
+level : (i x y z w a b c : ℚ) → norm x y z w *q i ≡ qn 1 → Level x y z w a b c (turnBy i x y z w a b c)
 unfolding sameQ comb
-nearly s i n x y z w a b c e =
-    let S = rv 0 in let I = rv 1 in let N = rv 2 in let X = rv 3 in let Y = rv 4 in let Z = rv 5 in let W = rv 6 in let A = rv 7 in let B = rv 8 in let C = rv 9 in
-    let D = twistR X Y Z W A B C in
-    by-eqs (s ∷ i ∷ n ∷ x ∷ y ∷ z ∷ w ∷ a ∷ b ∷ c ∷ []) ((N ⊗ I, nat 1) ∷ []) (e, tt) ((nat 0 ⊖ S ⊗ S ⊗ D) ∷ [])
-    ((A ⊕ twistR (S ⊗ X) (S ⊗ Y) (S ⊗ Z) (S ⊗ W) A B C) ⊖ (A ⊕ D ⊗ I)) (D ⊗ I ⊗ (S ⊗ S ⊗ N ⊖ nat 1)) tt
+level i x y z w a b c e =
+    let N = normR (rv 0) (rv 1) (rv 2) (rv 3) in
+    let D = twistR (rv 0) (rv 1) (rv 2) (rv 3) (rv 4) (rv 5) (rv 6) in
+    by-eqs (x ∷ y ∷ z ∷ w ∷ a ∷ b ∷ c ∷ turnBy i x y z w a b c ∷ i ∷ []) ((N ⊗ rv 8, nat 1) ∷ (rv 7, rv 4 ⊕ D ⊗ rv 8) ∷ []) (e, (refl, tt)) ((nat 0 ⊖ D) ∷ (nat 0 ⊖ N) ∷ []) (alongR (rv 0) (rv 1) (rv 2) (rv 3)) (nat 0) tt
+
+-- how far the turn by (X, Y, Z, W), not divided by the sum of its squares, is from r
+apart : (x y z w a b c r s X Y Z W : ℚ) → Level x y z w a b c r
+    → let e = X -q s *q x in let f = Y -q s *q y in let g = Z -q s *q z in let h = W -q s *q w in
+    (a +q twist X Y Z W a b c) -q r ≡ qn 2 *q s *q evR (x ∷ y ∷ z ∷ w ∷ a ∷ b ∷ c ∷ r ∷ e ∷ f ∷ g ∷ h ∷ []) (alongR (rv 8) (rv 9) (rv 10) (rv 11)) +q twist e f g h a b c +q ((norm X Y Z W -q qn 1) -q norm e f g h) *q (r -q a)
+unfolding sameQ comb
+apart x y z w a b c r s X Y Z W l =
+    let A = rv 4 in let B = rv 5 in let C = rv 6 in let R = rv 7 in let S = rv 8 in
+    let e = rv 9 ⊖ S ⊗ rv 0 in let f = rv 10 ⊖ S ⊗ rv 1 in let g = rv 11 ⊖ S ⊗ rv 2 in let h = rv 12 ⊖ S ⊗ rv 3 in
+    by-eqs (x ∷ y ∷ z ∷ w ∷ a ∷ b ∷ c ∷ r ∷ s ∷ X ∷ Y ∷ Z ∷ W ∷ []) ((alongR (rv 0) (rv 1) (rv 2) (rv 3), nat 0) ∷ []) (l, tt) (S ⊗ S ∷ [])
+    ((A ⊕ twistR (rv 9) (rv 10) (rv 11) (rv 12) A B C) ⊖ R) (nat 2 ⊗ S ⊗ alongR e f g h ⊕ twistR e f g h A B C ⊕ ((normR (rv 9) (rv 10) (rv 11) (rv 12) ⊖ nat 1) ⊖ normR e f g h) ⊗ (R ⊖ A)) tt
 
 -- ---- a quaternion of doubles near an exact one, whose squares sum to nearly 1
 abbrev pub fErr : ℕ
@@ -101,29 +132,30 @@ offR x y z w d e f g = d ⊗ (nat 2 ⊗ x ⊕ d) ⊕ e ⊗ (nat 2 ⊗ y ⊕ e) �
 abbrev pub sMax : ℕ
 sMax = 33 * 2 ^ 251
 
-abbrev pub sErr : ℕ
-sErr = 17 * 2 ^ 207
+-- how far a normalised component is from s times the exact one
+abbrev pub pErr : ℕ
+pErr = 19 * 2 ^ 203
 
--- s² N(f) within 33 · 2 ^ -51 of 1, N(f) ≥ 1 - 2 ^ -39: s is at most 33 / 32
+-- s² N(f) within 57 · 2 ^ -53 of 1, N(f) ≥ 1 - 2 ^ -39: s is at most 33 / 32
 scale-top : (s n : ℚ) → 0≤ s → Abs (s *q s *q n -q qn 1) cErr → Abs (n -q qn 1) (2 ^ 217) → Abs s sMax
 unfolding sameQ den comb iv U
 scale-top s n p h k =
     let np : T (not (leq n (qn 0))) = positive n (2 ^ 255) (lit< tt) (sub-≤q (iv (2 ^ 255)) n (by-nn (n ∷ []) [] tt ((rat (ivF (2 ^ 217)) ⊕ (rv 0 ⊖ nat 1)) ∷ []) (k .1, tt) [] (hyp 0 ⊞ num 274877906943 549755813887) (rv 0 ⊖ rat (ivF (2 ^ 255))) tt)) in
     let H : List Rx = (rat (ivF cErr) ⊖ (rv 0 ⊗ rv 0 ⊗ rv 1 ⊖ nat 1)) ∷ (rat (ivF (2 ^ 217)) ⊕ (rv 1 ⊖ nat 1)) ∷ [] in
     root-le s sMax tt p (cancel-nn n (iv sMax *q iv sMax -q s *q s) np
-    (by-nn (s ∷ n ∷ []) [] tt H (h .0, (k .1, tt)) [] (hyp 0 ⊞ num 1089 1023 ⊠ hyp 1 ⊞ num 142936511606491 2251799813685247) (rv 1 ⊗ (rat (ivF sMax) ⊗ rat (ivF sMax) ⊖ rv 0 ⊗ rv 0)) tt))
+    (by-nn (s ∷ n ∷ []) [] tt H (h .0, (k .1, tt)) [] (hyp 0 ⊞ num 1089 1023 ⊠ hyp 1 ⊞ num 571746046426039 9007199254740991) (rv 1 ⊗ (rat (ivF sMax) ⊗ rat (ivF sMax) ⊖ rv 0 ⊗ rv 0)) tt))
 
 module _ (f u : Quat) (x y z w : ℚ) (G : NearUnit f x y z w) (N : Normal f u) where
-  pub x-top : Abs x gMax
+  x-top : Abs x gMax
   x-top = component x y z w (G .size)
 
-  pub y-top : Abs y gMax
+  y-top : Abs y gMax
   y-top = component y z x w (subst (λ n. Abs (n -q qn 1) nErr) (round-names x y z w) (G .size))
 
-  pub z-top : Abs z gMax
+  z-top : Abs z gMax
   z-top = component z x y w (subst (λ n. Abs (n -q qn 1) nErr) (round-names x y z w ∙ round-names y z x w) (G .size))
 
-  pub w-top : Abs w gMax
+  w-top : Abs w gMax
   w-top = component w y z x (subst (λ n. Abs (n -q qn 1) nErr) (last-first x y z w) (G .size))
 
   abbrev dx : ℚ
@@ -141,7 +173,7 @@ module _ (f u : Quat) (x y z w : ℚ) (G : NearUnit f x y z w) (N : Normal f u) 
   abbrev nf : ℚ
   nf = norm (val (f .x)) (val (f .y)) (val (f .z)) (val (f .w))
 
-  abbrev pub ng : ℚ
+  abbrev ng : ℚ
   ng = norm x y z w
 
   norm-off : nf ≡ ng +q off x y z w dx dy dz dw
@@ -157,30 +189,21 @@ module _ (f u : Quat) (x y z w : ℚ) (G : NearUnit f x y z w) (N : Normal f u) 
       (bound ((ng -q qn 1) ∷ x ∷ y ∷ z ∷ w ∷ dx ∷ dy ∷ dz ∷ dw ∷ []) (nErr ∷ gMax ∷ gMax ∷ gMax ∷ gMax ∷ fErr ∷ fErr ∷ fErr ∷ fErr ∷ [])
       (G .size, (x-top, (y-top, (z-top, (w-top, (G .x-near, (G .y-near, (G .z-near, (G .w-near, tt))))))))) (rv 0 ⊕ offR (rv 1) (rv 2) (rv 3) (rv 4) (rv 5) (rv 6) (rv 7) (rv 8)) (2 ^ 217) tt)
 
-  abbrev pub s : ℚ
+  abbrev s : ℚ
   s = N .c
 
-  s-top : Abs s sMax
+  pub s-top : Abs s sMax
   s-top = scale-top s nf (N .c-nn) (N .near-one) norm-near
 
-  -- s² N is near 1 for the exact quaternion too
-  pub scaled-one : Abs (s *q s *q ng -q qn 1) sErr
-  unfolding sameQ bounds off offR
-  scaled-one =
-      abs-eq ((s *q s *q nf -q qn 1) -q s *q s *q off x y z w dx dy dz dw) (s *q s *q ng -q qn 1) sErr
-      (ap (λ n. (s *q s *q n -q qn 1) -q s *q s *q off x y z w dx dy dz dw) norm-off ∙ ringQ (s ∷ ng ∷ off x y z w dx dy dz dw ∷ []) ((rv 0 ⊗ rv 0 ⊗ (rv 1 ⊕ rv 2) ⊖ nat 1) ⊖ rv 0 ⊗ rv 0 ⊗ rv 2) (rv 0 ⊗ rv 0 ⊗ rv 1 ⊖ nat 1) tt)
-      (bound ((s *q s *q nf -q qn 1) ∷ s ∷ x ∷ y ∷ z ∷ w ∷ dx ∷ dy ∷ dz ∷ dw ∷ []) (cErr ∷ sMax ∷ gMax ∷ gMax ∷ gMax ∷ gMax ∷ fErr ∷ fErr ∷ fErr ∷ fErr ∷ [])
-      (N .near-one, (s-top, (x-top, (y-top, (z-top, (w-top, (G .x-near, (G .y-near, (G .z-near, (G .w-near, tt)))))))))) (rv 0 ⊖ rv 1 ⊗ rv 1 ⊗ offR (rv 2) (rv 3) (rv 4) (rv 5) (rv 6) (rv 7) (rv 8) (rv 9)) sErr tt)
-
   -- a normalised component stands for s times the exact one
-  pub exact-part : (p q : Float) (g : ℚ) → Is p (s *q val q) pMax uErr → Abs (val q -q g) fErr → Is p (s *q g) sMax (3 * 2 ^ 206)
+  pub exact-part : (p q : Float) (g : ℚ) → Is p (s *q val q) pMax uErr → Abs (val q -q g) fErr → Is p (s *q g) sMax pErr
   unfolding sameQ U
   exact-part p q g h k =
       let m = abs-mul s (val q -q g) sMax fErr s-top k in (
         h .0,
         abs-mono (s *q g) (pMax + mulUp sMax fErr) sMax (leb→le (pMax + mulUp sMax fErr) sMax tt)
             (abs-eq (s *q val q -q s *q (val q -q g)) (s *q g) (pMax + mulUp sMax fErr) (ringQ (s ∷ val q ∷ g ∷ []) (rv 0 ⊗ rv 1 ⊖ rv 0 ⊗ (rv 1 ⊖ rv 2)) (rv 0 ⊗ rv 2) tt) (abs-sub (s *q val q) (s *q (val q -q g)) pMax (mulUp sMax fErr) (h .1) m)),
-        abs-mono (val p -q s *q g) (uErr + mulUp sMax fErr) (3 * 2 ^ 206) (leb→le (uErr + mulUp sMax fErr) (3 * 2 ^ 206) tt)
+        abs-mono (val p -q s *q g) (uErr + mulUp sMax fErr) pErr (leb→le (uErr + mulUp sMax fErr) pErr tt)
             (abs-eq ((val p -q s *q val q) +q s *q (val q -q g)) (val p -q s *q g) (uErr + mulUp sMax fErr) (ringQ (s ∷ val q ∷ g ∷ val p ∷ []) ((rv 3 ⊖ rv 0 ⊗ rv 1) ⊕ rv 0 ⊗ (rv 1 ⊖ rv 2)) (rv 3 ⊖ rv 0 ⊗ rv 2) tt) (abs-add (val p -q s *q val q) (s *q (val q -q g)) uErr (mulUp sMax fErr) (h .2) m)),
       )
 
@@ -196,42 +219,111 @@ turn-exact : (x y z w a b c : ℚ) → exact (x ∷ y ∷ z ∷ w ∷ a ∷ b �
 unfolding turnE sameQ toR plain
 turn-exact x y z w a b c = sym (toR-ok (x ∷ y ∷ z ∷ w ∷ a ∷ b ∷ c ∷ []) turnE tt) ∙ ringQ (x ∷ y ∷ z ∷ w ∷ a ∷ b ∷ c ∷ []) (toR turnE) (rv 4 ⊕ twistR (rv 0) (rv 1) (rv 2) (rv 3) (rv 4) (rv 5) (rv 6)) tt
 
+-- ---- the slope is short: the squares of its parts sum to at most 4 m², for a, b, c of at most m, and r is at most 2 m
+module _ (x y z w a b c r m : ℚ) (l : Level x y z w a b c r) (size : Abs (norm x y z w -q qn 1) nErr) (ha : 0≤ (m -q a) × 0≤ (m +q a)) (hb : 0≤ (m -q b) × 0≤ (m +q b)) (hc : 0≤ (m -q c) × 0≤ (m +q c)) where
+  abbrev ρ : List ℚ
+  ρ = x ∷ y ∷ z ∷ w ∷ a ∷ b ∷ c ∷ r ∷ m ∷ []
+
+  abbrev E : List (Rx × Rx)
+  E = (alongR (rv 0) (rv 1) (rv 2) (rv 3), nat 0) ∷ []
+
+  abbrev H : List Rx
+  H = (rv 8 ⊖ rv 4) ∷ (rv 8 ⊕ rv 4) ∷ (rv 8 ⊖ rv 5) ∷ (rv 8 ⊕ rv 5) ∷ (rv 8 ⊖ rv 6) ∷ (rv 8 ⊕ rv 6) ∷ (rat (ivF nErr) ⊖ (normR (rv 0) (rv 1) (rv 2) (rv 3) ⊖ nat 1)) ∷ []
+
+  inside : Nns ρ H
+  unfolding iv
+  inside = (ha .0, (ha .1, (hb .0, (hb .1, (hc .0, (hc .1, (size .0, tt)))))))
+
+  -- N (3 m² - a² - b² - c²)
+  abbrev room : Ct
+  room = (hyp 0 ⊠ hyp 1 ⊞ hyp 2 ⊠ hyp 3 ⊞ hyp 4 ⊠ hyp 5) ⊠ (sqr (rv 0) ⊞ sqr (rv 1) ⊞ sqr (rv 2) ⊞ sqr (rv 3))
+
+  abbrev times : Rx → Ct
+  times k = sqr (k ⊗ rv 0) ⊞ sqr (k ⊗ rv 1) ⊞ sqr (k ⊗ rv 2) ⊞ sqr (k ⊗ rv 3)
+
+  short : 0≤ (qn 4 *q (m *q m) -q norm (evR ρ slopeX) (evR ρ slopeY) (evR ρ slopeZ) (evR ρ slopeW))
+  unfolding sameQ den comb U
+  short =
+      by-nn ρ E (l, tt) H inside (nat 2 ⊗ rv 7 ∷ []) (room ⊞ num 3 0 ⊠ sqr (rv 8) ⊠ hyp 6 ⊞ num 1099511627773 1099511627775 ⊠ sqr (rv 8) ⊞ times (rv 7))
+      (nat 4 ⊗ (rv 8 ⊗ rv 8) ⊖ normR slopeX slopeY slopeZ slopeW) tt
+
+  turned-top : 0≤ ((m +q m) *q (m +q m) -q r *q r)
+  unfolding sameQ den comb
+  turned-top =
+      cancel-nn (norm x y z w) ((m +q m) *q (m +q m) -q r *q r) (norm-pos (norm x y z w) size)
+      (by-nn ρ E (l, tt) H inside (nat 2 ⊗ rv 7 ∷ []) (room ⊞ times (rv 8) ⊞ sqr slopeX ⊞ sqr slopeY ⊞ sqr slopeZ ⊞ sqr slopeW)
+      (normR (rv 0) (rv 1) (rv 2) (rv 3) ⊗ ((rv 8 ⊕ rv 8) ⊗ (rv 8 ⊕ rv 8) ⊖ rv 7 ⊗ rv 7)) tt)
+
+-- Cauchy's inequality: the squares of k, l, m, n sum to at most 4 b², and e, f, g, h are at most d
+cauchy : (k l m n e f g h b d : ℚ) (K : ℕ) → T (leb 1 K) → 0≤ (iv K *q iv K -q qn 16 *q (b *q b) *q (d *q d)) → 0≤ (qn 4 *q (b *q b) -q norm k l m n) → 0≤ (d -q e) × 0≤ (d +q e) → 0≤ (d -q f) × 0≤ (d +q f) → 0≤ (d -q g) × 0≤ (d +q g) → 0≤ (d -q h) × 0≤ (d +q h)
+    → Abs (k *q e +q l *q f +q m *q g +q n *q h) K
+unfolding sameQ den comb
+cauchy k l m n e f g h b d K t u v he hf hg hh =
+    let D = rv 9 in
+    let H : List Rx = (rv 10 ⊗ rv 10 ⊖ nat 16 ⊗ (rv 8 ⊗ rv 8) ⊗ (D ⊗ D)) ∷ (nat 4 ⊗ (rv 8 ⊗ rv 8) ⊖ normR (rv 0) (rv 1) (rv 2) (rv 3)) ∷ (D ⊖ rv 4) ∷ (D ⊕ rv 4) ∷ (D ⊖ rv 5) ∷ (D ⊕ rv 5) ∷ (D ⊖ rv 6) ∷ (D ⊕ rv 6) ∷ (D ⊖ rv 7) ∷ (D ⊕ rv 7) ∷ [] in
+    let s : Rx = rv 0 ⊗ rv 4 ⊕ rv 1 ⊗ rv 5 ⊕ rv 2 ⊗ rv 6 ⊕ rv 3 ⊗ rv 7 in
+    let x : ℕ → ℕ → ℕ → ℕ → Ct = λ i j p q. sqr (rv i ⊗ rv q ⊖ rv j ⊗ rv p) in
+    root-abs (k *q e +q l *q f +q m *q g +q n *q h) K t
+    (by-nn (k ∷ l ∷ m ∷ n ∷ e ∷ f ∷ g ∷ h ∷ b ∷ d ∷ iv K ∷ []) [] tt H (u, (v, (he .0, (he .1, (hf .0, (hf .1, (hg .0, (hg .1, (hh .0, (hh .1, tt)))))))))) []
+    (hyp 0 ⊞ num 4 0 ⊠ sqr D ⊠ hyp 1 ⊞ (sqr (rv 0) ⊞ sqr (rv 1) ⊞ sqr (rv 2) ⊞ sqr (rv 3)) ⊠ (hyp 2 ⊠ hyp 3 ⊞ hyp 4 ⊠ hyp 5 ⊞ hyp 6 ⊠ hyp 7 ⊞ hyp 8 ⊠ hyp 9) ⊞ x 0 1 4 5 ⊞ x 0 2 4 6 ⊞ x 0 3 4 7 ⊞ x 1 2 5 6 ⊞ x 1 3 5 7 ⊞ x 2 3 6 7)
+    (rv 10 ⊗ rv 10 ⊖ s ⊗ s) tt)
+
+-- ---- the test for v of at most M: the doubles are within E of the turned vector, N of that apart from their rounding
+abbrev uMax : ℕ
+uMax = sMax + pErr
+
 turnβ : ℕ → List (ℕ × ℕ)
-turnβ M = (sMax, 3 * 2 ^ 206) ∷ (sMax, 3 * 2 ^ 206) ∷ (sMax, 3 * 2 ^ 206) ∷ (sMax, 3 * 2 ^ 206) ∷ (M, 0) ∷ (M, 0) ∷ (M, 0) ∷ []
+turnβ M = (uMax, 0) ∷ (uMax, 0) ∷ (uMax, 0) ∷ (uMax, 0) ∷ (M, 0) ∷ (M, 0) ∷ (M, 0) ∷ []
+
+-- the slope's part along the rest
+slopeTop : ℕ → ℕ
+slopeTop M = mulUp (4 * M) pErr
+
+slopes : ℕ → Bool
+unfolding slopeTop
+slopes M = leb 1 (M + M) && (leb 1 (slopeTop M) && leq (qn 0) (iv (slopeTop M) *q iv (slopeTop M) -q qn 16 *q (iv M *q iv M) *q (iv pErr *q iv pErr)))
 
 lostE : Rx
-lostE = twistR (rv 0) (rv 1) (rv 2) (rv 3) (rv 4) (rv 5) (rv 6) ⊗ rv 7 ⊗ rv 8
+lostE = nat 2 ⊗ rv 1 ⊗ rv 0 ⊕ twistR (rv 2) (rv 3) (rv 4) (rv 5) (rv 6) (rv 7) (rv 8) ⊕ (rv 10 ⊖ normR (rv 2) (rv 3) (rv 4) (rv 5)) ⊗ (rv 9 ⊖ rv 6)
 
 lostβ : ℕ → List ℕ
-lostβ M = gMax ∷ gMax ∷ gMax ∷ gMax ∷ M ∷ M ∷ M ∷ iMax ∷ sErr ∷ []
+unfolding slopeTop
+lostβ M = slopeTop M ∷ sMax ∷ pErr ∷ pErr ∷ pErr ∷ pErr ∷ M ∷ M ∷ M ∷ (M + M) ∷ unitErr ∷ []
 
--- for v of at most M: the test says that the turned vector is at most m, and the doubles within E of it (N is the part that the length's error takes)
-unfoldable pub turns : ℕ → ℕ → ℕ → ℕ → Bool
-unfolding turnβ turnE lostE lostβ chk round bounds
-turns M N m E = ok (chk (turnβ M) turnE) && (bounds (lostβ M) lostE N && (leb (mag (chk (turnβ M) turnE) + N) m && leb (err (chk (turnβ M) turnE) + N) E))
+unfoldable pub turns : ℕ → ℕ → ℕ → Bool
+unfolding turnβ turnE slopes slopeTop lostE lostβ chk round bounds
+turns M N E = ok (chk (turnβ M) turnE) && (slopes M && (bounds (lostβ M) lostE N && leb (err (chk (turnβ M) turnE) + N) E))
 
--- one component
-pub turn-near : (M N m E : ℕ) → T (turns M N m E) → (x y z w s : ℚ) (ux uy uz uw a b c : Float) → Is ux (s *q x) sMax (3 * 2 ^ 206) → Is uy (s *q y) sMax (3 * 2 ^ 206) → Is uz (s *q z) sMax (3 * 2 ^ 206) → Is uw (s *q w) sMax (3 * 2 ^ 206)
-    → Input a M → Input b M → Input c M → Abs x gMax → Abs y gMax → Abs z gMax → Abs w gMax → (n : ℚ) → Abs (n -q qn 1) nErr → Abs (s *q s *q n -q qn 1) sErr
-    → Is (run (ux ∷ uy ∷ uz ∷ uw ∷ a ∷ b ∷ c ∷ []) turnE) (turnBy (inv n) x y z w (val a) (val b) (val c)) m E
-unfolding turns sameQ lostE lostβ turnβ
-turn-near M N m E t x y z w s ux uy uz uw a b c hx hy hz hw ha hb hc tx ty tz tw n hn hs =
+-- one component: i = 1 / N
+pub turn-near : (M N E : ℕ) → T (turns M N E) → (i x y z w s : ℚ) (ux uy uz uw a b c : Float) → norm x y z w *q i ≡ qn 1 → Abs (norm x y z w -q qn 1) nErr → Abs s sMax
+    → Is ux (s *q x) sMax pErr → Is uy (s *q y) sMax pErr → Is uz (s *q z) sMax pErr → Is uw (s *q w) sMax pErr → Abs (norm (val ux) (val uy) (val uz) (val uw) -q qn 1) unitErr → Input a M → Input b M → Input c M
+    → Is (run (ux ∷ uy ∷ uz ∷ uw ∷ a ∷ b ∷ c ∷ []) turnE) (turnBy i x y z w (val a) (val b) (val c)) (M + M) E
+unfolding turns slopes sameQ lostE lostβ turnβ
+turn-near M N E t i x y z w s ux uy uz uw a b c hi hn hs hx hy hz hw hu ha hb hc =
     let β = turnβ M in
-    let t₁ = both (ok (chk β turnE)) (bounds (lostβ M) lostE N && (leb (mag (chk β turnE) + N) m && leb (err (chk β turnE) + N) E)) t in
-    let t₂ = both (bounds (lostβ M) lostE N) (leb (mag (chk β turnE) + N) m && leb (err (chk β turnE) + N) E) (t₁ .1) in
-    let t₃ = both (leb (mag (chk β turnE) + N) m) (leb (err (chk β turnE) + N) E) (t₂ .1) in
-    let σ = s *q x ∷ s *q y ∷ s *q z ∷ s *q w ∷ val a ∷ val b ∷ val c ∷ [] in
-    let R = sound (ux ∷ uy ∷ uz ∷ uw ∷ a ∷ b ∷ c ∷ []) σ β (hx, (hy, (hz, (hw, (given a M ha, (given b M hb, (given c M hc, tt))))))) turnE (known σ turnE (unfold turnE free in tt)) (t₁ .0) in
-    let r = val (run (ux ∷ uy ∷ uz ∷ uw ∷ a ∷ b ∷ c ∷ []) turnE) in
-    let i = inv n in
-    let S = val a +q twist (s *q x) (s *q y) (s *q z) (s *q w) (val a) (val b) (val c) in
-    let G = turnBy i x y z w (val a) (val b) (val c) in
-    let e = turn-exact (s *q x) (s *q y) (s *q z) (s *q w) (val a) (val b) (val c) in
-    let S-top = subst (λ v. Abs v (mag (chk β turnE))) e (R .1) in
-    let S-near = subst (λ v. Abs (r -q v) (err (chk β turnE))) e (R .2) in
-    let lost = abs-eq (twist x y z w (val a) (val b) (val c) *q i *q (s *q s *q n -q qn 1)) (S -q G) N (sym (nearly s i n x y z w (val a) (val b) (val c) (inv-ok n (norm-pos n hn))))
-    (bound (x ∷ y ∷ z ∷ w ∷ val a ∷ val b ∷ val c ∷ i ∷ (s *q s *q n -q qn 1) ∷ []) (lostβ M) (tx, (ty, (tz, (tw, (ha .1, (hb .1, (hc .1, (inv-norm n hn, (hs, tt))))))))) lostE N (t₂ .0)) in (
+    let K = slopeTop M in
+    let far = iv K *q iv K -q qn 16 *q (iv M *q iv M) *q (iv pErr *q iv pErr) in
+    let t₁ = both (ok (chk β turnE)) (slopes M && (bounds (lostβ M) lostE N && leb (err (chk β turnE) + N) E)) t in
+    let t₂ = both (slopes M) (bounds (lostβ M) lostE N && leb (err (chk β turnE) + N) E) (t₁ .1) in
+    let t₃ = both (bounds (lostβ M) lostE N) (leb (err (chk β turnE) + N) E) (t₂ .1) in
+    let t₄ = both (leb 1 (M + M)) (leb 1 K && leq (qn 0) far) (t₂ .0) in
+    let t₅ = both (leb 1 K) (leq (qn 0) far) (t₄ .1) in
+    let in-top : (f : Float) (v : ℚ) → Is f v sMax pErr → T (finite f) × Abs (val f) uMax × Abs (val f -q val f) 0 = λ f v h. given f uMax (h .0, own (val f) v sMax pErr (h .1) (h .2)) in
+    let σ = val ux ∷ val uy ∷ val uz ∷ val uw ∷ val a ∷ val b ∷ val c ∷ [] in
+    let R = sound (ux ∷ uy ∷ uz ∷ uw ∷ a ∷ b ∷ c ∷ []) σ β (in-top ux (s *q x) hx, (in-top uy (s *q y) hy, (in-top uz (s *q z) hz, (in-top uw (s *q w) hw, (given a M ha, (given b M hb, (given c M hc, tt))))))) turnE (known σ turnE (unfold turnE free in tt)) (t₁ .0) in
+    let v = val (run (ux ∷ uy ∷ uz ∷ uw ∷ a ∷ b ∷ c ∷ []) turnE) in
+    let r = turnBy i x y z w (val a) (val b) (val c) in
+    let S = val a +q twist (val ux) (val uy) (val uz) (val uw) (val a) (val b) (val c) in
+    let near = subst (λ q. Abs (v -q q) (err (chk β turnE))) (turn-exact (val ux) (val uy) (val uz) (val uw) (val a) (val b) (val c)) (R .2) in
+    let l = level i x y z w (val a) (val b) (val c) hi in
+    let top : Abs r (M + M) = root-abs r (M + M) (t₄ .0) (subst (λ q. 0≤ (q *q q -q r *q r)) (sym (iv-add M M)) (turned-top x y z w (val a) (val b) (val c) r (iv M) l hn (ha .1) (hb .1) (hc .1))) in
+    let ρ = x ∷ y ∷ z ∷ w ∷ val a ∷ val b ∷ val c ∷ r ∷ [] in
+    let e = val ux -q s *q x in let f = val uy -q s *q y in let g = val uz -q s *q z in let h = val uw -q s *q w in
+    let steep = cauchy (evR ρ slopeX) (evR ρ slopeY) (evR ρ slopeZ) (evR ρ slopeW) e f g h (iv M) (iv pErr) K (t₅ .0) (t₅ .1) (short x y z w (val a) (val b) (val c) r (iv M) l hn (ha .1) (hb .1) (hc .1)) (hx .2) (hy .2) (hz .2) (hw .2) in
+    let lost = abs-eq _ (S -q r) N (sym (apart x y z w (val a) (val b) (val c) r s (val ux) (val uy) (val uz) (val uw) l))
+    (bound ((evR ρ slopeX *q e +q evR ρ slopeY *q f +q evR ρ slopeZ *q g +q evR ρ slopeW *q h) ∷ s ∷ e ∷ f ∷ g ∷ h ∷ val a ∷ val b ∷ val c ∷ r ∷ (norm (val ux) (val uy) (val uz) (val uw) -q qn 1) ∷ []) (lostβ M)
+    (steep, (hs, (hx .2, (hy .2, (hz .2, (hw .2, (ha .1, (hb .1, (hc .1, (top, (hu, tt))))))))))) lostE N (t₃ .0)) in (
       R .0,
-      abs-mono G (mag (chk β turnE) + N) m (leb→le (mag (chk β turnE) + N) m (t₃ .0)) (abs-eq (S -q (S -q G)) G (mag (chk β turnE) + N) (ringQ (S ∷ G ∷ []) (rv 0 ⊖ (rv 0 ⊖ rv 1)) (rv 1) tt) (abs-sub S (S -q G) (mag (chk β turnE)) N S-top lost)),
-      abs-mono (r -q G) (err (chk β turnE) + N) E (leb→le (err (chk β turnE) + N) E (t₃ .1)) (abs-eq ((r -q S) +q (S -q G)) (r -q G) (err (chk β turnE) + N) (ringQ (r ∷ S ∷ G ∷ []) ((rv 0 ⊖ rv 1) ⊕ (rv 1 ⊖ rv 2)) (rv 0 ⊖ rv 2) tt) (abs-add (r -q S) (S -q G) (err (chk β turnE)) N S-near lost)),
+      top,
+      abs-mono (v -q r) (err (chk β turnE) + N) E (leb→le (err (chk β turnE) + N) E (t₃ .1)) (abs-eq ((v -q S) +q (S -q r)) (v -q r) (err (chk β turnE) + N) (ringQ (v ∷ S ∷ r ∷ []) ((rv 0 ⊖ rv 1) ⊕ (rv 1 ⊖ rv 2)) (rv 0 ⊖ rv 2) tt) (abs-add (v -q S) (S -q r) (err (chk β turnE)) N near lost)),
     )

@@ -5,7 +5,7 @@ use Prim.Native.Nat.{_+_, _*_, _≤_, _<_, _-_}
 use lib.ListN.{length, length-set}
 use denote.Ref.{now}
 use Rattle.arith.specs.Laws.Constants.{zero-is}
-use Rattle.solves.proofs.DoesLaws.{done, over, sum-there, sum-over}
+use Rattle.solves.specs.DoesLaws.{done, over, sum-there, sum-over}
 use Rattle.solves.proofs.GradientLaws.{advance-lost-1, advance-lost-2, advance-flat, advance-wild, advance-done}
 use borrow.Author.Needs.{needs}
 use Rattle.solves.proofs.gradients.advance.Statement.{statement}

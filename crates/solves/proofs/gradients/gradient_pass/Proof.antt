@@ -9,7 +9,7 @@ use Rattle.rows.specs.Fault.{try}
 use Rattle.solves.specs.Answer.{partAs}
 use Rattle.solves.specs.View.{searchAt}
 use Rattle.solves.proofs.OperatorLaws.{rows-kept}
-use Rattle.solves.proofs.DoesLaws.{does-as}
+use Rattle.solves.specs.DoesLaws.{does-as}
 use Rattle.solves.proofs.GradientLaws.{test-is, pass-near, pass-on, pass-stop, pass-lost}
 use borrow.Author.Needs.{needs}
 use Rattle.solves.proofs.gradients.gradient_pass.Statement.{statement}

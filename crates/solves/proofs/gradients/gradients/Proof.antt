@@ -12,7 +12,7 @@ use Rattle.solves.specs.Answer.{preparedAs}
 use Rattle.solves.specs.View.{RHS, SOLUTION}
 use Rattle.solves.proofs.OperatorLaws.{rows-kept}
 use Rattle.solves.proofs.SearchLaws.{tenth-12, new-ended}
-use Rattle.solves.proofs.DoesLaws.{does-as, sum-there, sum-over}
+use Rattle.solves.specs.DoesLaws.{does-as, sum-there, sum-over}
 use Rattle.solves.proofs.GradientLaws.{gradients-refused, gradients-lost, gradients-whole}
 use borrow.Author.Needs.{needs}
 use Rattle.solves.proofs.gradients.gradients.Statement.{statement}

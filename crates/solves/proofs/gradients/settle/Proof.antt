@@ -6,7 +6,7 @@ use lib.ListN.{length, length-set}
 use denote.Ref.{now}
 use Rattle.solves.specs.declared.gradients.Test.{Test}
 use Rattle.solves.specs.Answer.{trueAs}
-use Rattle.solves.proofs.DoesLaws.{does-as}
+use Rattle.solves.specs.DoesLaws.{does-as}
 use Rattle.solves.proofs.GradientLaws.{settle-stop, settle-next}
 use borrow.Author.Needs.{needs}
 use Rattle.solves.proofs.gradients.settle.Statement.{statement}

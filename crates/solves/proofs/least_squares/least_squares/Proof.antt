@@ -8,7 +8,7 @@ use lib.Ieee.{Float}
 use Rattle.solves.specs.Solver.{toleranceFor}
 use Rattle.solves.specs.Region.{vecAt}
 use Rattle.solves.specs.View.{RHS, SOLUTION}
-use Rattle.solves.proofs.DoesLaws.{done, over, sum-there, sum-over}
+use Rattle.solves.specs.DoesLaws.{done, over, sum-there, sum-over}
 use Rattle.solves.proofs.OperatorLaws.{rows-kept}
 use Rattle.solves.proofs.SearchLaws.{tenth-14, new-ended}
 use Rattle.solves.proofs.LeastLaws.{least-lost-1, least-lost-2, least-lost-3, least-whole}

@@ -4,7 +4,7 @@ use mathlib.Core.Path.{_≡_, refl, sym, ap, _∙_}
 use Prim.Native.Nat.{_+_, _*_, _≤_, _<_, _-_}
 use lib.ListN.{length, length-set}
 use denote.Ref.{now}
-use Rattle.solves.proofs.DoesLaws.{share-there, share-over}
+use Rattle.solves.specs.DoesLaws.{share-there, share-over}
 use Rattle.solves.proofs.OperatorLaws.{into-done, into-over}
 use borrow.Author.Needs.{needs}
 use Rattle.solves.proofs.operator.push_into.Statement.{statement}

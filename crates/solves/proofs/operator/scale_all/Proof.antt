@@ -9,7 +9,7 @@ use Rattle.rows.specs.View.{Out}
 use Rattle.solves.specs.Solver.{scaleAll}
 use Rattle.solves.specs.Region.{Does}
 use Rattle.solves.specs.View.{generalizedsAt, massesAt, GENERALIZED, MASSES}
-use Rattle.solves.proofs.DoesLaws.{share-there, share-over}
+use Rattle.solves.specs.DoesLaws.{share-there, share-over}
 use Rattle.solves.proofs.OperatorLaws.{scale-none, scale-stops, scale-again, scale-ends}
 use Rattle.solves.proofs.operator.scale_all.Statement.{statement}
 use Rattle.solves.proofs.operator.scale_all.Tie as tie

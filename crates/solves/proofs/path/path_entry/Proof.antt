@@ -5,7 +5,7 @@ use Prim.Native.Nat.{_+_, _*_, _≤_, _<_, _-_}
 use lib.ListN.{length, length-set}
 use denote.Ref.{now}
 use Rattle.arith.specs.Laws.Constants.{zero-is}
-use Rattle.solves.proofs.DoesLaws.{sum-there, sum-over}
+use Rattle.solves.specs.DoesLaws.{sum-there, sum-over}
 use Rattle.solves.proofs.OperatorLaws.{on-a, on-b}
 use Rattle.solves.proofs.FactorLaws.{entry-lost, entry-wild, entry-low, entry-pivot, entry-side}
 use borrow.Author.Needs.{needs}

@@ -8,7 +8,7 @@ use Rattle.solves.specs.declared.Part.{Part}
 use Rattle.solves.specs.Answer.{partAs}
 use Rattle.solves.specs.Region.{vecAt}
 use Rattle.solves.specs.View.{PATH-SCALE}
-use Rattle.solves.proofs.DoesLaws.{does-as}
+use Rattle.solves.specs.DoesLaws.{does-as}
 use Rattle.solves.proofs.OperatorLaws.{rows-kept}
 use Rattle.solves.proofs.FactorLaws.{factored-1, factored-on}
 use borrow.Author.Needs.{needs}

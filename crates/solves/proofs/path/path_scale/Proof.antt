@@ -10,7 +10,7 @@ use Rattle.rows.specs.View.{Out}
 use Rattle.solves.specs.Path.{pathScale}
 use Rattle.solves.specs.Region.{vecAt, Does}
 use Rattle.solves.specs.View.{rowsOn, massesAt, listAt, MASSES, PATH-SCALE}
-use Rattle.solves.proofs.DoesLaws.{sum-there, sum-over}
+use Rattle.solves.specs.DoesLaws.{sum-there, sum-over}
 use Rattle.solves.proofs.OperatorLaws.{on-a, on-b}
 use Rattle.solves.proofs.FactorLaws.{scales-none, scales-lost, scales-refused, scales-more, scales-end}
 use Rattle.solves.proofs.path.path_scale.Statement.{statement}

@@ -11,7 +11,7 @@ use Rattle.solves.specs.Solver.{toleranceFor}
 use Rattle.solves.specs.Answer.{partAs}
 use Rattle.solves.specs.Region.{vecAt}
 use Rattle.solves.specs.View.{factorAt, RHS, SOLUTION}
-use Rattle.solves.proofs.DoesLaws.{does-as, sum-there, sum-over}
+use Rattle.solves.specs.DoesLaws.{does-as, sum-there, sum-over}
 use Rattle.solves.proofs.OperatorLaws.{rows-kept}
 use Rattle.solves.proofs.SearchLaws.{tenth-12}
 use Rattle.solves.proofs.RefineLaws.{order-no, order-yes, path-declined, path-lost, path-whole, path-refused, ended-not, not-declined-1, not-declined-2, new-path}

@@ -4,7 +4,7 @@ use mathlib.Core.Path.{_≡_, refl, sym, ap, _∙_}
 use Prim.Native.Nat.{_+_, _*_, _≤_, _<_, _-_}
 use lib.ListN.{length, length-set}
 use denote.Ref.{now}
-use Rattle.solves.proofs.DoesLaws.{done, over}
+use Rattle.solves.specs.DoesLaws.{done, over}
 use Rattle.solves.proofs.OperatorLaws.{rows-kept}
 use Rattle.solves.proofs.RefineLaws.{refine-lost, refine-done}
 use borrow.Author.Needs.{needs}

@@ -8,7 +8,7 @@ use Rattle.arith.specs.Flow.{go, loop}
 use Rattle.solves.specs.Path.{refinement}
 use Rattle.solves.specs.Region.{vecAt, Does}
 use Rattle.solves.specs.View.{rowsOn, massesAt, listAt, factorAt, refinedAt, Refining, MASSES, RHS, SOLUTION}
-use Rattle.solves.proofs.DoesLaws.{done, over}
+use Rattle.solves.specs.DoesLaws.{done, over}
 use Rattle.solves.proofs.OperatorLaws.{rows-kept}
 use Rattle.solves.proofs.SearchLaws.{new-ended}
 use Rattle.solves.proofs.GradientLaws.{test-is}

@@ -8,7 +8,7 @@ use Rattle.solves.specs.declared.End.{End}
 use Rattle.solves.specs.Answer.{endAs}
 use Rattle.solves.specs.Region.{vecAt}
 use Rattle.solves.specs.View.{SOLUTION}
-use Rattle.solves.proofs.DoesLaws.{does-as}
+use Rattle.solves.specs.DoesLaws.{does-as}
 use Rattle.solves.proofs.OperatorLaws.{rows-kept}
 use Rattle.solves.proofs.RefineLaws.{solved-as, does-eq, linear-least, linear-path, linear-gradients}
 use borrow.Author.Needs.{needs}

@@ -1,18 +1,21 @@
+use lib.ListN.{length, length-set}
+use denote.Ref.{now}
+use Rattle.arith.specs.FlowLaws.{not-yes, not-no}
+use Rattle.step.proofs.TableLaws.{Summed, sum-none, sum-again, sum-stops, sum-ends}
 use native.Mathlib.Omega.{arith}
 use mathlib.Core.Path.{_≡_, refl, sym, ap, _∙_}
 use Prim.Native.Nat.{ℕ, _+_, _*_, _≤_, _<_, _-_}
-use lib.ListN.{length, getD, length-set}
 use Rattle.step.proofs.integrator.add_impulses.Statement.{statement}
 use Rattle.step.proofs.integrator.add_impulses.Tie as tie
 
 abbrev Inv-loop : tie.InvT-loop
-Inv-loop s₀ n k₀ s k = (k ≤ n) × (length s ≡ length s₀)
+Inv-loop s₀ n k₀ s k = (k ≤ n) × (length s ≡ length s₀) × (Summed n s₀ k s)
 
 abbrev μ-loop : tie.MeasureT-loop
 μ-loop s₀ n k₀ s k = n - k
 
 loop-holds : tie.Need-loop-holds Inv-loop μ-loop
-loop-holds c = (omega arith, refl)
+loop-holds c = (omega arith, refl, sum-none (c .before .args .n) _)
 
 add-sum : tie.Need-add-sum Inv-loop μ-loop
 add-sum c = omega arith
@@ -48,7 +51,7 @@ same-length : tie.Need-same-length Inv-loop μ-loop
 same-length c = simp length-set (omega arith)
 
 returns : tie.Need-returns Inv-loop μ-loop
-returns c = omega arith
+returns c = sum-stops (c .before .before .before .before .before .before .before .args .n) _ _ _ (c .before .before .before .before .before .loop .inv .2) (c .before .before .before .before .loop-test .taken) (c .before .before .before .before .before .before .before .pre .1) (omega arith) (c .before .is-finite .ensures) (not-yes _ (c .if1 .taken))
 
 add-k : tie.Need-add-k Inv-loop μ-loop
 add-k c = omega arith
@@ -57,13 +60,13 @@ loop-less : tie.Need-loop-less Inv-loop μ-loop
 loop-less c = omega arith
 
 loop-again : tie.Need-loop-again Inv-loop μ-loop
-loop-again c = (omega arith, simp length-set (omega arith))
+loop-again c = (omega arith, simp length-set (omega arith), sum-again (c .before .before .before .before .before .before .before .args .n) _ _ _ (c .before .before .before .before .before .loop .inv .2) (c .before .before .before .before .loop-test .taken) (c .before .before .before .before .before .before .before .pre .1) (omega arith) (c .before .is-finite .ensures) (not-no _ (c .if1 .left)))
 
 same-length-2 : tie.Need-same-length-2 Inv-loop μ-loop
 same-length-2 c = omega arith
 
 returns-2 : tie.Need-returns-2 Inv-loop μ-loop
-returns-2 c = omega arith
+returns-2 c = sum-ends (c .before .before .before .args .n) _ _ _ (c .before .loop .inv .2) (omega arith) (c .loop-test .left) (c .before .before .before .pre .1)
 
 pub add-impulses-spec : {M : Type 1} → statement M
 add-impulses-spec =

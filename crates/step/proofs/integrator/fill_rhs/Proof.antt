@@ -1,18 +1,26 @@
+use lib.ListN.{length, length-set}
+use denote.Ref.{now}
+use lib.Ieee as Ieee
+use Rattle.arith.specs.Real.{_⊘_}
+use Rattle.rows.specs.View.{at}
+use Rattle.solves.specs.Region.{Filled}
+use Rattle.solves.specs.RegionLaws.{filled-none, filled-all}
+use Rattle.solves.specs.View.{ROWS, RHS}
+use Rattle.step.proofs.TableLaws.{rhs-more, rhs-is}
 use native.Mathlib.Omega.{arith}
 use mathlib.Core.Path.{_≡_, refl, sym, ap, _∙_}
 use Prim.Native.Nat.{ℕ, _+_, _*_, _≤_, _<_, _-_}
-use lib.ListN.{length, getD, length-set}
 use Rattle.step.proofs.integrator.fill_rhs.Statement.{statement}
 use Rattle.step.proofs.integrator.fill_rhs.Tie as tie
 
 abbrev Inv-loop : tie.InvT-loop
-Inv-loop s₀ dt n k₀ s k = (k ≤ n) × (length s ≡ length s₀)
+Inv-loop s₀ dt n k₀ s k = (k ≤ n) × (length s ≡ length s₀) × (Filled RHS k (λ j. Ieee.neg (at s₀ (ROWS + 14 * j + 12)) ⊘ dt) s₀ s)
 
 abbrev μ-loop : tie.MeasureT-loop
 μ-loop s₀ dt n k₀ s k = n - k
 
 loop-holds : tie.Need-loop-holds Inv-loop μ-loop
-loop-holds c = (omega arith, refl)
+loop-holds c = (omega arith, refl, filled-none _ _ _)
 
 mul-s : tie.Need-mul-s Inv-loop μ-loop
 mul-s c = omega arith
@@ -45,13 +53,13 @@ loop-less : tie.Need-loop-less Inv-loop μ-loop
 loop-less c = omega arith
 
 loop-again : tie.Need-loop-again Inv-loop μ-loop
-loop-again c = (omega arith, simp length-set (omega arith))
+loop-again c = (omega arith, simp length-set (omega arith), rhs-more (c .before .before .before .args .dt) _ _ _ (c .before .before .loop .inv .2) (omega arith) (omega arith))
 
 same-length : tie.Need-same-length Inv-loop μ-loop
 same-length c = omega arith
 
 returns : tie.Need-returns Inv-loop μ-loop
-returns c = omega arith
+returns c = λ ia ib. rhs-is _ _ ia ib (c .before .before .args .dt) (filled-all (omega arith) (c .loop-test .left) (c .before .loop .inv .2)) (c .before .before .pre .1)
 
 pub fill-rhs-spec : {M : Type 1} → statement M
 fill-rhs-spec =

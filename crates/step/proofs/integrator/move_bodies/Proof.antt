@@ -1,19 +1,21 @@
+use lib.ListN.{length, length-set}
+use denote.Ref.{now}
+use Rattle.step.proofs.TableLaws.{body-case, Moved, move-none, move-again, move-stops, move-ends}
 use native.Mathlib.Omega.{arith}
 use mathlib.Core.Path.{_≡_, refl, sym, ap, _∙_}
 use Prim.Native.Nat.{ℕ, _+_, _*_, _≤_, _<_, _-_}
-use lib.ListN.{length, getD, length-set}
 use borrow.Author.Needs.{needs}
 use Rattle.step.proofs.integrator.move_bodies.Statement.{statement}
 use Rattle.step.proofs.integrator.move_bodies.Tie as tie
 
 abbrev Inv-loop : tie.InvT-loop
-Inv-loop s₀ n dt k₀ s k = (k ≤ n) × (length s ≡ length s₀)
+Inv-loop s₀ n dt k₀ s k = (k ≤ n) × (length s ≡ length s₀) × (Moved dt n s₀ k s)
 
 abbrev μ-loop : tie.MeasureT-loop
 μ-loop s₀ n dt k₀ s k = n - k
 
 loop-holds : tie.Need-loop-holds Inv-loop μ-loop
-loop-holds c = (omega arith, refl)
+loop-holds c = (omega arith, refl, move-none (c .before .args .dt) (c .before .args .n) _)
 
 load-generalized-requires : tie.Need-load-generalized-requires Inv-loop μ-loop
 load-generalized-requires c κs = omega arith
@@ -37,7 +39,7 @@ same-length : tie.Need-same-length Inv-loop μ-loop
 same-length c = omega arith
 
 returns : tie.Need-returns Inv-loop μ-loop
-returns c = omega arith
+returns c = move-stops (c .before .before .before .before .before .before .before .before .before .before .args .dt) (c .before .before .before .before .before .before .before .before .before .before .args .n) _ _ _ (c .before .before .before .before .before .before .before .before .loop .inv .2) (c .before .before .before .before .before .before .before .loop-test .taken) (c .before .before .before .before .before .before .before .before .before .before .pre .1) (c .before .before .before .before .before .load-generalized .ensures) (c .before .before .before .load-start .ensures) refl (body-case (c .before .before .kick-and-drift .result) (c .before .before .kick-and-drift .ensures) (c .enum-told2 .given .1))
 
 enum-told-3 : tie.Need-enum-told-3 Inv-loop μ-loop
 enum-told-3 c = search needs
@@ -46,7 +48,7 @@ same-length-2 : tie.Need-same-length-2 Inv-loop μ-loop
 same-length-2 c = omega arith
 
 returns-2 : tie.Need-returns-2 Inv-loop μ-loop
-returns-2 c = omega arith
+returns-2 c = move-stops (c .before .before .before .before .before .before .before .before .before .before .args .dt) (c .before .before .before .before .before .before .before .before .before .before .args .n) _ _ _ (c .before .before .before .before .before .before .before .before .loop .inv .2) (c .before .before .before .before .before .before .before .loop-test .taken) (c .before .before .before .before .before .before .before .before .before .before .pre .1) (c .before .before .before .before .before .load-generalized .ensures) (c .before .before .before .load-start .ensures) refl (body-case (c .before .before .kick-and-drift .result) (c .before .before .kick-and-drift .ensures) (c .enum-told3 .given .1))
 
 add-k : tie.Need-add-k Inv-loop μ-loop
 add-k c = omega arith
@@ -55,13 +57,13 @@ loop-less : tie.Need-loop-less Inv-loop μ-loop
 loop-less c = omega arith
 
 loop-again : tie.Need-loop-again Inv-loop μ-loop
-loop-again c = (omega arith, omega arith)
+loop-again c = (omega arith, omega (arith, c .before .before .store-candidate .ensures .0 .size), move-again (c .before .before .before .before .before .before .before .before .before .before .before .before .before .before .args .dt) (c .before .before .before .before .before .before .before .before .before .before .before .before .before .before .args .n) _ _ _ (c .before .before .before .before .before .before .before .before .before .before .before .before .loop .inv .2) (c .before .before .before .before .before .before .before .before .before .before .before .loop-test .taken) (c .before .before .before .before .before .before .before .before .before .before .before .before .before .before .pre .1) (c .before .before .before .before .before .before .before .before .before .load-generalized .ensures) (c .before .before .before .before .before .before .before .load-start .ensures) refl (body-case (c .before .before .before .before .before .before .kick-and-drift .result) (c .before .before .before .before .before .before .kick-and-drift .ensures) (c .before .before .before .before .enum-told .given .1)) (c .before .before .store-candidate .ensures))
 
 same-length-3 : tie.Need-same-length-3 Inv-loop μ-loop
 same-length-3 c = omega arith
 
 returns-3 : tie.Need-returns-3 Inv-loop μ-loop
-returns-3 c = omega arith
+returns-3 c = move-ends (c .before .before .before .args .dt) (c .before .before .before .args .n) _ _ _ (c .before .loop .inv .2) (omega arith) (c .loop-test .left) (c .before .before .before .pre .1)
 
 pub move-bodies-spec : {M : Type 1} → statement M
 move-bodies-spec =

@@ -1,19 +1,21 @@
+use lib.ListN.{length, length-set}
+use denote.Ref.{now}
+use Rattle.step.proofs.TableLaws.{Weighed, weigh-none, weigh-again, weigh-stops, weigh-ends}
 use native.Mathlib.Omega.{arith}
 use mathlib.Core.Path.{_≡_, refl, sym, ap, _∙_}
 use Prim.Native.Nat.{ℕ, _+_, _*_, _≤_, _<_, _-_}
-use lib.ListN.{length, getD, length-set}
 use borrow.Author.Needs.{needs}
 use Rattle.step.proofs.integrator.prepare_masses.Statement.{statement}
 use Rattle.step.proofs.integrator.prepare_masses.Tie as tie
 
 abbrev Inv-loop : tie.InvT-loop
-Inv-loop s₀ n moved k₀ s k = (k ≤ n) × (length s ≡ length s₀)
+Inv-loop s₀ n moved k₀ s k = (k ≤ n) × (length s ≡ length s₀) × (Weighed moved n s₀ k s)
 
 abbrev μ-loop : tie.MeasureT-loop
 μ-loop s₀ n moved k₀ s k = n - k
 
 loop-holds : tie.Need-loop-holds Inv-loop μ-loop
-loop-holds c = (omega arith, refl)
+loop-holds c = (omega arith, refl, weigh-none (c .before .args .moved) (c .before .args .n) _)
 
 load-moved-requires : tie.Need-load-moved-requires Inv-loop μ-loop
 load-moved-requires c κs = omega arith
@@ -28,7 +30,7 @@ same-length : tie.Need-same-length Inv-loop μ-loop
 same-length c = omega arith
 
 returns : tie.Need-returns Inv-loop μ-loop
-returns c = omega arith
+returns c = weigh-stops (c .before .before .before .before .before .before .before .before .before .before .before .args .moved) (c .before .before .before .before .before .before .before .before .before .before .before .args .n) _ _ _ (c .before .before .before .before .before .before .before .before .before .loop .inv .2) (c .before .before .before .before .before .before .before .before .loop-test .taken) (c .before .before .before .before .before .before .before .before .before .before .before .pre .1) (c .before .before .before .before .before .before .load-moved .ensures) _ (c .enum-told .given .1) (c .before .before .before .before .prepare-mass .ensures)
 
 enum-told-2 : tie.Need-enum-told-2 Inv-loop μ-loop
 enum-told-2 c = search needs
@@ -40,13 +42,13 @@ loop-less : tie.Need-loop-less Inv-loop μ-loop
 loop-less c = omega arith
 
 loop-again : tie.Need-loop-again Inv-loop μ-loop
-loop-again c = (omega arith, omega arith)
+loop-again c = (omega arith, omega (arith, c .before .before .before .before .prepare-mass .ensures .kept .size), weigh-again (c .before .before .before .before .before .before .before .before .before .before .before .args .moved) (c .before .before .before .before .before .before .before .before .before .before .before .args .n) _ _ _ (c .before .before .before .before .before .before .before .before .before .loop .inv .2) (c .before .before .before .before .before .before .before .before .loop-test .taken) (c .before .before .before .before .before .before .before .before .before .before .before .pre .1) (c .before .before .before .before .before .before .load-moved .ensures) _ (c .enum-told2 .given .1) (c .before .before .before .before .prepare-mass .ensures))
 
 same-length-2 : tie.Need-same-length-2 Inv-loop μ-loop
 same-length-2 c = omega arith
 
 returns-2 : tie.Need-returns-2 Inv-loop μ-loop
-returns-2 c = omega arith
+returns-2 c = weigh-ends (c .before .before .before .args .moved) (c .before .before .before .args .n) _ _ _ (c .before .loop .inv .2) (omega arith) (c .loop-test .left) (c .before .before .before .pre .1)
 
 pub prepare-masses-spec : {M : Type 1} → statement M
 prepare-masses-spec =

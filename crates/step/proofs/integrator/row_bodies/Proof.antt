@@ -1,3 +1,7 @@
+use Rattle.arith.specs.FlowLaws.{turns-end}
+use Rattle.rows.specs.Geometry.{rowCount}
+use Rattle.step.specs.RunView.{rowsBefore, Sides}
+use Rattle.step.proofs.RowLaws.{before-none, before-more, sides-none, sides-more, sides-end}
 use native.Mathlib.Omega.{arith}
 use mathlib.Core.Path.{_≡_, refl, sym, ap, _∙_}
 use Prim.Native.Nat.{ℕ, _+_, _*_, _≤_, _<_, _-_}
@@ -10,13 +14,13 @@ use Rattle.step.proofs.integrator.row_bodies.Statement.{statement}
 use Rattle.step.proofs.integrator.row_bodies.Tie as tie
 
 abbrev Inv-loop : tie.InvT-loop
-Inv-loop ia₀ ib₀ count joints n₀ k₀ ia ib n k = (k ≤ count) × (n ≤ 6 * k) × (length ia ≡ length ia₀) × (length ib ≡ length ib₀) × ((size : ℕ) → Joined joints count size → (j : ℕ) → j < n → getD ia j 0 < size) × ((size : ℕ) → Joined joints count size → (j : ℕ) → j < n → getD ib j 0 < size)
+Inv-loop ia₀ ib₀ count joints n₀ k₀ ia ib n k = (k ≤ count) × (n ≤ 6 * k) × (length ia ≡ length ia₀) × (length ib ≡ length ib₀) × ((size : ℕ) → Joined joints count size → (j : ℕ) → j < n → getD ia j 0 < size) × ((size : ℕ) → Joined joints count size → (j : ℕ) → j < n → getD ib j 0 < size) × (n ≡ rowsBefore joints k) × (Sides joints k ia ib)
 
 abbrev μ-loop : tie.MeasureT-loop
 μ-loop ia₀ ib₀ count joints n₀ k₀ ia ib n k = count - k
 
 loop-holds : tie.Need-loop-holds Inv-loop μ-loop
-loop-holds c = (omega arith, omega arith, refl, refl, (λ size q j h. absurd (omega arith)), (λ size q j h. absurd (omega arith)))
+loop-holds c = (omega arith, omega arith, refl, refl, (λ size q j h. absurd (omega arith)), (λ size q j h. absurd (omega arith)), before-none (c .before .before .args .t3), sides-none (c .before .before .args .t3) _ _)
 
 mul-joint : tie.Need-mul-joint Inv-loop μ-loop
 mul-joint c = omega arith
@@ -43,7 +47,7 @@ loop-less : tie.Need-loop-less Inv-loop μ-loop
 loop-less c = omega arith
 
 loop-again : tie.Need-loop-again Inv-loop μ-loop
-loop-again c = (omega arith, omega (arith, c .before .before .before .before .before .before .before .before .before .before .before .loop .inv, c .before .before .before .before .before .before .before .before .before .before .loop-test .taken, c .before .before .before .before .before .before .before .before .before .before .before .before .before .before .pre, c .before .before .before .before .before .before .before .before .row-count .ensures, count-most (jointIn (c .before .before .before .before .before .before .before .before .before .before .before .before .before .before .args .t3) (c .before .before .before .before .before .before .before .before .before .before .before .loop .k) .kind)), omega arith, omega arith, (λ size q. spread-less (c .before .before .before .before .before .before .fill .ensures) (c .before .before .before .before .before .before .before .before .before .before .before .loop .inv .4 size q) (q .a-there _ (c .before .before .before .before .before .before .before .before .before .before .loop-test .taken))), (λ size q. spread-less (c .before .before .fill2 .ensures) (c .before .before .before .before .before .before .before .before .before .before .before .loop .inv .5 size q) (q .b-there _ (c .before .before .before .before .before .before .before .before .before .before .loop-test .taken))))
+loop-again c = (omega arith, omega (arith, c .before .before .before .before .before .before .before .before .before .before .before .loop .inv, c .before .before .before .before .before .before .before .before .before .before .loop-test .taken, c .before .before .before .before .before .before .before .before .before .before .before .before .before .before .pre, c .before .before .before .before .before .before .before .before .row-count .ensures, count-most (jointIn (c .before .before .before .before .before .before .before .before .before .before .before .before .before .before .args .t3) (c .before .before .before .before .before .before .before .before .before .before .before .loop .k) .kind)), omega arith, omega arith, (λ size q. spread-less (c .before .before .before .before .before .before .fill .ensures) (c .before .before .before .before .before .before .before .before .before .before .before .loop .inv .4 size q) (q .a-there _ (c .before .before .before .before .before .before .before .before .before .before .loop-test .taken))), (λ size q. spread-less (c .before .before .fill2 .ensures) (c .before .before .before .before .before .before .before .before .before .before .before .loop .inv .5 size q) (q .b-there _ (c .before .before .before .before .before .before .before .before .before .before .loop-test .taken))), before-more (c .before .before .before .before .before .before .before .before .before .before .before .before .before .before .args .t3) (c .before .before .before .before .before .before .before .before .before .before .before .loop .k) _ (c .before .before .before .before .before .before .before .before .before .before .before .loop .inv .6) (c .before .before .before .before .before .before .before .before .row-count .ensures), sides-more (c .before .before .before .before .before .before .before .before .before .before .before .before .before .before .args .t3) (c .before .before .before .before .before .before .before .before .before .before .before .loop .k) _ (c .before .before .before .before .before .before .before .before .before .before .before .loop .inv .7) (c .before .before .before .before .before .before .before .before .before .before .before .loop .inv .6) (c .before .before .before .before .before .before .before .before .row-count .ensures) (c .before .before .before .before .before .before .fill .ensures) (c .before .before .fill2 .ensures))
 
 same-length : tie.Need-same-length Inv-loop μ-loop
 same-length c = omega arith
@@ -52,7 +56,7 @@ same-length-2 : tie.Need-same-length-2 Inv-loop μ-loop
 same-length-2 c = omega arith
 
 returns : tie.Need-returns Inv-loop μ-loop
-returns c = record { most = omega arith; a-there = c .before .loop .inv .4; b-there = c .before .loop .inv .5 }
+returns c = (record { most = omega arith; a-there = c .before .loop .inv .4; b-there = c .before .loop .inv .5 }, sides-end (c .before .before .before .before .args .t3) (omega arith) (c .loop-test .left) (c .before .loop .inv .7), turns-end (λ (j n : ℕ). n + rowCount (jointIn (c .before .before .before .before .args .t3) j .kind)) 0 (omega arith) (c .loop-test .left) (c .before .loop .inv .6))
 
 pub row-bodies-spec : {M : Type 1} → statement M
 row-bodies-spec =

@@ -1,18 +1,28 @@
+use lib.ListN.{length, length-set}
+use denote.Ref.{now}
+use mathlib.Core.Bool.{true}
+use mathlib.Core.List.{List}
+use lib.Ieee as Ieee
+use lib.Ieee.{Float}
+use Rattle.arith.specs.Flow.{every}
+use Rattle.arith.specs.FlowLaws.{every-none, every-more}
+use Rattle.rows.specs.View.{at}
+use Rattle.solves.specs.View.{ROWS}
+use Rattle.step.proofs.TableLaws.{rowTest, row-test, met-fails, met-ends}
 use native.Mathlib.Omega.{arith}
 use mathlib.Core.Path.{_≡_, refl, sym, ap, _∙_}
 use Prim.Native.Nat.{ℕ, _+_, _*_, _≤_, _<_, _-_}
-use lib.ListN.{length, getD, length-set}
 use Rattle.step.proofs.integrator.rows_met.Statement.{statement}
 use Rattle.step.proofs.integrator.rows_met.Tie as tie
 
 abbrev Inv-loop : tie.InvT-loop
-Inv-loop s n k₀ k = k ≤ n
+Inv-loop s n k₀ k = (k ≤ n) × ((ia ib : List ℕ) → true ≡ every k (rowTest s n ia ib))
 
 abbrev μ-loop : tie.MeasureT-loop
 μ-loop s n k₀ k = n - k
 
 loop-holds : tie.Need-loop-holds Inv-loop μ-loop
-loop-holds c = omega arith
+loop-holds c = (omega arith, λ ia ib. every-none (rowTest (now (c .before .args .s)) (c .before .args .n) ia ib))
 
 mul-value : tie.Need-mul-value Inv-loop μ-loop
 mul-value c = omega arith
@@ -48,7 +58,7 @@ shared-slice-read-if1 : tie.Need-shared-slice-read-if1 Inv-loop μ-loop
 shared-slice-read-if1 c = omega arith
 
 returns : tie.Need-returns Inv-loop μ-loop
-returns c = omega arith
+returns c = λ ia ib. met-fails (now (c .before .before .before .before .before .before .before .args .s)) (c .before .before .before .before .before .before .before .args .n) ia ib _ (c .before .before .before .before .loop-test .taken) (row-test (now (c .before .before .before .before .before .before .before .args .s)) (c .before .before .before .before .before .before .before .args .n) ia ib (c .before .before .before .before .before .loop .k) (c .before .before .before .before .loop-test .taken) (ap (λ (x : Float). Ieee.le x (at (now (c .before .before .before .before .before .before .before .args .s)) (ROWS + 14 * (c .before .before .before .before .before .loop .k) + 13))) (sym (c .before .before .abs .ensures)) ∙ c .if1 .left))
 
 add-k : tie.Need-add-k Inv-loop μ-loop
 add-k c = omega arith
@@ -57,10 +67,10 @@ loop-less : tie.Need-loop-less Inv-loop μ-loop
 loop-less c = omega arith
 
 loop-again : tie.Need-loop-again Inv-loop μ-loop
-loop-again c = omega arith
+loop-again c = (omega arith, λ ia ib. every-more (rowTest (now (c .before .before .before .before .before .before .before .args .s)) (c .before .before .before .before .before .before .before .args .n) ia ib) (c .before .before .before .before .before .loop .inv .1 ia ib) (row-test (now (c .before .before .before .before .before .before .before .args .s)) (c .before .before .before .before .before .before .before .args .n) ia ib (c .before .before .before .before .before .loop .k) (c .before .before .before .before .loop-test .taken) (ap (λ (x : Float). Ieee.le x (at (now (c .before .before .before .before .before .before .before .args .s)) (ROWS + 14 * (c .before .before .before .before .before .loop .k) + 13))) (sym (c .before .before .abs .ensures)) ∙ c .if1 .taken)))
 
 returns-2 : tie.Need-returns-2 Inv-loop μ-loop
-returns-2 c = omega arith
+returns-2 c = λ ia ib. met-ends (now (c .before .before .before .args .s)) (c .before .before .before .args .n) ia ib _ (c .before .loop .inv .1 ia ib) (omega arith) (c .loop-test .left)
 
 pub rows-met-spec : {M : Type 1} → statement M
 rows-met-spec =

@@ -1,8 +1,12 @@
+use Rattle.step.specs.RunView.{rowsBefore}
 use native.Mathlib.Omega.{arith}
 use mathlib.Core.Path.{_≡_, refl, sym, ap, _∙_}
 use Prim.Native.Nat.{ℕ, _+_, _*_, _≤_, _<_, _-_}
-use lib.ListN.{length, getD, length-set}
-use Rattle.step.proofs.StepLaws.{written-most, rows-same, rows-sixteen, joined-sixteen, rows-in, spread-none, spread-more, spread-end, spread-less}
+use lib.ListN.{length, length-set}
+use denote.Ref.{now}
+use Rattle.step.proofs.StepLaws.{joined-sixteen}
+use Rattle.step.proofs.RowLaws.{before-most}
+use Rattle.step.proofs.LoopLaws.{start-1, start-1-case, start-2, start-2-case, start-3, start-4}
 use borrow.Author.Needs.{needs}
 use Rattle.step.proofs.integrator.start.Statement.{statement}
 use Rattle.step.proofs.integrator.start.Tie as tie
@@ -13,47 +17,68 @@ start-bodies-requires c κs = search needs
 enum-told : tie.Need-enum-told
 enum-told c = search needs
 
-write-rows-requires : tie.Need-write-rows-requires
-write-rows-requires c κs = (omega (arith, c .before .before .before .before .before .before .before .before .before .pre .0), omega arith, joined-sixteen (c .before .before .before .before .before .before .before .before .before .pre .2))
-
 enum-told-2 : tie.Need-enum-told-2
 enum-told-2 c = search needs
-
-clear-requires : tie.Need-clear-requires
-clear-requires c κs = search needs
-
-prepare-masses-requires : tie.Need-prepare-masses-requires
-prepare-masses-requires c κs = search needs
-
-enum-told-3 : tie.Need-enum-told-3
-enum-told-3 c = search needs
-
-enum-told-4 : tie.Need-enum-told-4
-enum-told-4 c = search needs
 
 same-length : tie.Need-same-length
 same-length c = search needs
 
 returns : tie.Need-returns
-returns c = search needs
+returns c = λ ia ib S. start-1 (now (c .before .before .before .before .before .before .before .before .args .bodies)) (c .before .before .before .before .before .before .before .before .args .joints) (c .before .before .before .before .before .before .before .before .args .count) ia ib (rowsBefore (c .before .before .before .before .before .before .before .before .args .joints) (c .before .before .before .before .before .before .before .before .args .count)) _ refl (omega (arith, before-most (c .before .before .before .before .before .before .before .before .args .joints) (c .before .before .before .before .before .before .before .before .args .count), c .before .before .before .before .before .before .before .before .pre .1 .few)) (c .before .before .before .before .before .before .before .before .pre .1 .small) _ _ (c .before .before .before .before .start-bodies .result) (c .before .before .before .before .start-bodies .ensures) (start-1-case (now (c .before .before .before .before .before .before .before .before .args .bodies)) (c .before .before .before .before .before .before .before .before .args .joints) (c .before .before .before .before .before .before .before .before .args .count) ia ib (rowsBefore (c .before .before .before .before .before .before .before .before .args .joints) (c .before .before .before .before .before .before .before .before .args .count)) _ refl (omega (arith, before-most (c .before .before .before .before .before .before .before .before .args .joints) (c .before .before .before .before .before .before .before .before .args .count), c .before .before .before .before .before .before .before .before .pre .1 .few)) (c .before .before .before .before .before .before .before .before .pre .1 .small) _ _ (c .before .before .before .before .start-bodies .result) (c .before .before .before .before .start-bodies .ensures) (c .enum-told2 .given .1))
+
+enum-told-3 : tie.Need-enum-told-3
+enum-told-3 c = search needs
 
 same-length-2 : tie.Need-same-length-2
 same-length-2 c = search needs
 
 returns-2 : tie.Need-returns-2
-returns-2 c = search needs
+returns-2 c = λ ia ib S. start-1 (now (c .before .before .before .before .before .before .before .before .args .bodies)) (c .before .before .before .before .before .before .before .before .args .joints) (c .before .before .before .before .before .before .before .before .args .count) ia ib (rowsBefore (c .before .before .before .before .before .before .before .before .args .joints) (c .before .before .before .before .before .before .before .before .args .count)) _ refl (omega (arith, before-most (c .before .before .before .before .before .before .before .before .args .joints) (c .before .before .before .before .before .before .before .before .args .count), c .before .before .before .before .before .before .before .before .pre .1 .few)) (c .before .before .before .before .before .before .before .before .pre .1 .small) _ _ (c .before .before .before .before .start-bodies .result) (c .before .before .before .before .start-bodies .ensures) (start-1-case (now (c .before .before .before .before .before .before .before .before .args .bodies)) (c .before .before .before .before .before .before .before .before .args .joints) (c .before .before .before .before .before .before .before .before .args .count) ia ib (rowsBefore (c .before .before .before .before .before .before .before .before .args .joints) (c .before .before .before .before .before .before .before .before .args .count)) _ refl (omega (arith, before-most (c .before .before .before .before .before .before .before .before .args .joints) (c .before .before .before .before .before .before .before .before .args .count), c .before .before .before .before .before .before .before .before .pre .1 .few)) (c .before .before .before .before .before .before .before .before .pre .1 .small) _ _ (c .before .before .before .before .start-bodies .result) (c .before .before .before .before .start-bodies .ensures) (c .enum-told3 .given .1))
+
+write-rows-requires : tie.Need-write-rows-requires
+write-rows-requires c κs = (omega (arith, c .before .before .before .before .before .start-bodies .ensures .kept .size, c .before .before .before .before .before .before .before .before .before .pre .0), omega arith, joined-sixteen (c .before .before .before .before .before .before .before .before .before .pre .1))
+
+enum-told-4 : tie.Need-enum-told-4
+enum-told-4 c = search needs
+
+enum-told-5 : tie.Need-enum-told-5
+enum-told-5 c = search needs
 
 same-length-3 : tie.Need-same-length-3
 same-length-3 c = search needs
 
 returns-3 : tie.Need-returns-3
-returns-3 c = search needs
+returns-3 c = λ ia ib S. start-2 (now (c .before .before .before .before .before .before .before .before .before .before .before .before .before .before .args .bodies)) (c .before .before .before .before .before .before .before .before .before .before .before .before .before .before .args .joints) (c .before .before .before .before .before .before .before .before .before .before .before .before .before .before .args .count) ia ib (rowsBefore (c .before .before .before .before .before .before .before .before .before .before .before .before .before .before .args .joints) (c .before .before .before .before .before .before .before .before .before .before .before .before .before .before .args .count)) _ refl (omega (arith, before-most (c .before .before .before .before .before .before .before .before .before .before .before .before .before .before .args .joints) (c .before .before .before .before .before .before .before .before .before .before .before .before .before .before .args .count), c .before .before .before .before .before .before .before .before .before .before .before .before .before .before .pre .1 .few)) (c .before .before .before .before .before .before .before .before .before .before .before .before .before .before .pre .1 .small) _ _ (c .before .before .before .before .before .before .before .before .before .before .start-bodies .result) (c .before .before .before .before .before .before .before .before .before .before .start-bodies .ensures) (c .before .before .before .before .before .before .enum-told .given .1) _ (c .before .before .before .before .write-rows .result) (c .before .before .before .before .write-rows .ensures _ (c .before .before .before .before .before .before .before .before .before .before .before .before .before .before .pre .1) ia ib S) (start-2-case (now (c .before .before .before .before .before .before .before .before .before .before .before .before .before .before .args .bodies)) (c .before .before .before .before .before .before .before .before .before .before .before .before .before .before .args .joints) (c .before .before .before .before .before .before .before .before .before .before .before .before .before .before .args .count) ia ib (rowsBefore (c .before .before .before .before .before .before .before .before .before .before .before .before .before .before .args .joints) (c .before .before .before .before .before .before .before .before .before .before .before .before .before .before .args .count)) _ refl (omega (arith, before-most (c .before .before .before .before .before .before .before .before .before .before .before .before .before .before .args .joints) (c .before .before .before .before .before .before .before .before .before .before .before .before .before .before .args .count), c .before .before .before .before .before .before .before .before .before .before .before .before .before .before .pre .1 .few)) (c .before .before .before .before .before .before .before .before .before .before .before .before .before .before .pre .1 .small) _ _ (c .before .before .before .before .before .before .before .before .before .before .start-bodies .result) (c .before .before .before .before .before .before .before .before .before .before .start-bodies .ensures) (c .before .before .before .before .before .before .enum-told .given .1) _ (c .before .before .before .before .write-rows .result) (c .before .before .before .before .write-rows .ensures _ (c .before .before .before .before .before .before .before .before .before .before .before .before .before .before .pre .1) ia ib S) (c .enum-told5 .given .1))
+
+enum-told-6 : tie.Need-enum-told-6
+enum-told-6 c = search needs
 
 same-length-4 : tie.Need-same-length-4
 same-length-4 c = search needs
 
 returns-4 : tie.Need-returns-4
-returns-4 c = search needs
+returns-4 c = λ ia ib S. start-2 (now (c .before .before .before .before .before .before .before .before .before .before .before .before .before .before .args .bodies)) (c .before .before .before .before .before .before .before .before .before .before .before .before .before .before .args .joints) (c .before .before .before .before .before .before .before .before .before .before .before .before .before .before .args .count) ia ib (rowsBefore (c .before .before .before .before .before .before .before .before .before .before .before .before .before .before .args .joints) (c .before .before .before .before .before .before .before .before .before .before .before .before .before .before .args .count)) _ refl (omega (arith, before-most (c .before .before .before .before .before .before .before .before .before .before .before .before .before .before .args .joints) (c .before .before .before .before .before .before .before .before .before .before .before .before .before .before .args .count), c .before .before .before .before .before .before .before .before .before .before .before .before .before .before .pre .1 .few)) (c .before .before .before .before .before .before .before .before .before .before .before .before .before .before .pre .1 .small) _ _ (c .before .before .before .before .before .before .before .before .before .before .start-bodies .result) (c .before .before .before .before .before .before .before .before .before .before .start-bodies .ensures) (c .before .before .before .before .before .before .enum-told .given .1) _ (c .before .before .before .before .write-rows .result) (c .before .before .before .before .write-rows .ensures _ (c .before .before .before .before .before .before .before .before .before .before .before .before .before .before .pre .1) ia ib S) (start-2-case (now (c .before .before .before .before .before .before .before .before .before .before .before .before .before .before .args .bodies)) (c .before .before .before .before .before .before .before .before .before .before .before .before .before .before .args .joints) (c .before .before .before .before .before .before .before .before .before .before .before .before .before .before .args .count) ia ib (rowsBefore (c .before .before .before .before .before .before .before .before .before .before .before .before .before .before .args .joints) (c .before .before .before .before .before .before .before .before .before .before .before .before .before .before .args .count)) _ refl (omega (arith, before-most (c .before .before .before .before .before .before .before .before .before .before .before .before .before .before .args .joints) (c .before .before .before .before .before .before .before .before .before .before .before .before .before .before .args .count), c .before .before .before .before .before .before .before .before .before .before .before .before .before .before .pre .1 .few)) (c .before .before .before .before .before .before .before .before .before .before .before .before .before .before .pre .1 .small) _ _ (c .before .before .before .before .before .before .before .before .before .before .start-bodies .result) (c .before .before .before .before .before .before .before .before .before .before .start-bodies .ensures) (c .before .before .before .before .before .before .enum-told .given .1) _ (c .before .before .before .before .write-rows .result) (c .before .before .before .before .write-rows .ensures _ (c .before .before .before .before .before .before .before .before .before .before .before .before .before .before .pre .1) ia ib S) (c .enum-told6 .given .1))
+
+prepare-masses-requires : tie.Need-prepare-masses-requires
+prepare-masses-requires c κs = (omega (arith, c .before .before .before .before .s2 .given, c .before .before .before .before .before .before .before .before .before .before .before .start-bodies .ensures .kept .size, c .before .before .before .before .before .before .before .before .before .before .before .before .before .before .before .pre .0), c .before .before .before .before .before .before .before .before .before .before .before .before .before .before .before .pre .1 .small)
+
+enum-told-7 : tie.Need-enum-told-7
+enum-told-7 c = search needs
+
+enum-told-8 : tie.Need-enum-told-8
+enum-told-8 c = search needs
+
+same-length-5 : tie.Need-same-length-5
+same-length-5 c = search needs
+
+returns-5 : tie.Need-returns-5
+returns-5 c = λ ia ib S. start-4 (now (c .before .before .before .before .before .before .before .before .before .before .before .before .before .before .before .before .before .before .before .before .args .bodies)) (c .before .before .before .before .before .before .before .before .before .before .before .before .before .before .before .before .before .before .before .before .args .joints) (c .before .before .before .before .before .before .before .before .before .before .before .before .before .before .before .before .before .before .before .before .args .count) ia ib (rowsBefore (c .before .before .before .before .before .before .before .before .before .before .before .before .before .before .before .before .before .before .before .before .args .joints) (c .before .before .before .before .before .before .before .before .before .before .before .before .before .before .before .before .before .before .before .before .args .count)) _ refl (omega (arith, before-most (c .before .before .before .before .before .before .before .before .before .before .before .before .before .before .before .before .before .before .before .before .args .joints) (c .before .before .before .before .before .before .before .before .before .before .before .before .before .before .before .before .before .before .before .before .args .count), c .before .before .before .before .before .before .before .before .before .before .before .before .before .before .before .before .before .before .before .before .pre .1 .few)) (c .before .before .before .before .before .before .before .before .before .before .before .before .before .before .before .before .before .before .before .before .pre .1 .small) _ _ (c .before .before .before .before .before .before .before .before .before .before .before .before .before .before .before .before .start-bodies .result) (c .before .before .before .before .before .before .before .before .before .before .before .before .before .before .before .before .start-bodies .ensures) (c .before .before .before .before .before .before .before .before .before .before .before .before .enum-told .given .1) _ (c .before .before .before .before .before .before .before .before .before .before .write-rows .result) (c .before .before .before .before .before .before .before .before .before .before .write-rows .ensures _ (c .before .before .before .before .before .before .before .before .before .before .before .before .before .before .before .before .before .before .before .before .pre .1) ia ib S) (c .before .before .before .before .before .before .enum-told4 .given .1) _ (c .before .before .before .before .prepare-masses .result) (c .before .before .before .before .prepare-masses .ensures) (c .enum-told7 .given .1)
+
+same-length-6 : tie.Need-same-length-6
+same-length-6 c = search needs
+
+returns-6 : tie.Need-returns-6
+returns-6 c = λ ia ib S. start-3 (now (c .before .before .before .before .before .before .before .before .before .before .before .before .before .before .before .before .before .before .before .before .args .bodies)) (c .before .before .before .before .before .before .before .before .before .before .before .before .before .before .before .before .before .before .before .before .args .joints) (c .before .before .before .before .before .before .before .before .before .before .before .before .before .before .before .before .before .before .before .before .args .count) ia ib (rowsBefore (c .before .before .before .before .before .before .before .before .before .before .before .before .before .before .before .before .before .before .before .before .args .joints) (c .before .before .before .before .before .before .before .before .before .before .before .before .before .before .before .before .before .before .before .before .args .count)) _ refl (omega (arith, before-most (c .before .before .before .before .before .before .before .before .before .before .before .before .before .before .before .before .before .before .before .before .args .joints) (c .before .before .before .before .before .before .before .before .before .before .before .before .before .before .before .before .before .before .before .before .args .count), c .before .before .before .before .before .before .before .before .before .before .before .before .before .before .before .before .before .before .before .before .pre .1 .few)) (c .before .before .before .before .before .before .before .before .before .before .before .before .before .before .before .before .before .before .before .before .pre .1 .small) _ _ (c .before .before .before .before .before .before .before .before .before .before .before .before .before .before .before .before .start-bodies .result) (c .before .before .before .before .before .before .before .before .before .before .before .before .before .before .before .before .start-bodies .ensures) (c .before .before .before .before .before .before .before .before .before .before .before .before .enum-told .given .1) _ (c .before .before .before .before .before .before .before .before .before .before .write-rows .result) (c .before .before .before .before .before .before .before .before .before .before .write-rows .ensures _ (c .before .before .before .before .before .before .before .before .before .before .before .before .before .before .before .before .before .before .before .before .pre .1) ia ib S) (c .before .before .before .before .before .before .enum-told4 .given .1) _ (c .before .before .before .before .prepare-masses .result) (c .before .before .before .before .prepare-masses .ensures) (c .enum-told8 .given .1)
 
 pub start-spec : {M : Type 1} → statement M
 start-spec =
@@ -61,17 +86,24 @@ start-spec =
     (tie.spec
     start-bodies-requires
     enum-told
-    write-rows-requires
     enum-told-2
-    clear-requires
-    prepare-masses-requires
-    enum-told-3
-    enum-told-4
     same-length
     returns
+    enum-told-3
     same-length-2
     returns-2
+    write-rows-requires
+    enum-told-4
+    enum-told-5
     same-length-3
     returns-3
+    enum-told-6
     same-length-4
-    returns-4)
+    returns-4
+    prepare-masses-requires
+    enum-told-7
+    enum-told-8
+    same-length-5
+    returns-5
+    same-length-6
+    returns-6)

@@ -1,19 +1,22 @@
+use lib.ListN.{length, length-set}
+use denote.Ref.{now}
+use Rattle.rows.specs.AnswerLaws.{answer-done, answer-nonconvergent, answer-overflow}
+use Rattle.step.proofs.TableLaws.{Begun, begin-none, begin-again, begin-stops, begin-ends}
 use native.Mathlib.Omega.{arith}
 use mathlib.Core.Path.{_≡_, refl, sym, ap, _∙_}
 use Prim.Native.Nat.{ℕ, _+_, _*_, _≤_, _<_, _-_}
-use lib.ListN.{length, getD, length-set}
 use borrow.Author.Needs.{needs}
 use Rattle.step.proofs.integrator.start_bodies.Statement.{statement}
 use Rattle.step.proofs.integrator.start_bodies.Tie as tie
 
 abbrev Inv-loop : tie.InvT-loop
-Inv-loop s₀ bodies n k₀ s k = (k ≤ n) × (length s ≡ length s₀)
+Inv-loop s₀ bodies n k₀ s k = (k ≤ n) × (length s ≡ length s₀) × (Begun bodies n s₀ k s)
 
 abbrev μ-loop : tie.MeasureT-loop
 μ-loop s₀ bodies n k₀ s k = n - k
 
 loop-holds : tie.Need-loop-holds Inv-loop μ-loop
-loop-holds c = (omega arith, refl)
+loop-holds c = (omega arith, refl, begin-none (now (c .before .before .args .bodies)) (c .before .before .args .n) _)
 
 load-record-requires : tie.Need-load-record-requires Inv-loop μ-loop
 load-record-requires c κs = omega arith
@@ -37,7 +40,7 @@ same-length : tie.Need-same-length Inv-loop μ-loop
 same-length c = omega arith
 
 returns : tie.Need-returns Inv-loop μ-loop
-returns c = omega arith
+returns c = begin-stops (now (c .before .before .before .before .before .before .before .before .before .before .args .bodies)) (c .before .before .before .before .before .before .before .before .before .before .args .n) _ _ _ (c .before .before .before .before .before .before .before .loop .inv .2) (c .before .before .before .before .before .before .loop-test .taken) (c .before .before .before .before .before .before .before .before .before .before .pre .2) _ (c .before .before .before .before .before .load-record .ensures) (c .before .before .before .inverse-spd .ensures) refl (answer-nonconvergent _ _ (c .before .before .new .ensures) (c .enum-told2 .given .1))
 
 enum-told-3 : tie.Need-enum-told-3 Inv-loop μ-loop
 enum-told-3 c = search needs
@@ -46,7 +49,7 @@ same-length-2 : tie.Need-same-length-2 Inv-loop μ-loop
 same-length-2 c = omega arith
 
 returns-2 : tie.Need-returns-2 Inv-loop μ-loop
-returns-2 c = omega arith
+returns-2 c = begin-stops (now (c .before .before .before .before .before .before .before .before .before .before .args .bodies)) (c .before .before .before .before .before .before .before .before .before .before .args .n) _ _ _ (c .before .before .before .before .before .before .before .loop .inv .2) (c .before .before .before .before .before .before .loop-test .taken) (c .before .before .before .before .before .before .before .before .before .before .pre .2) _ (c .before .before .before .before .before .load-record .ensures) (c .before .before .before .inverse-spd .ensures) refl (answer-overflow _ _ (c .before .before .new .ensures) (c .enum-told3 .given .1))
 
 add-k : tie.Need-add-k Inv-loop μ-loop
 add-k c = omega arith
@@ -55,13 +58,13 @@ loop-less : tie.Need-loop-less Inv-loop μ-loop
 loop-less c = omega arith
 
 loop-again : tie.Need-loop-again Inv-loop μ-loop
-loop-again c = (omega arith, omega arith)
+loop-again c = (omega arith, omega (arith, c .before .before .store-start .ensures .0 .size), begin-again (now (c .before .before .before .before .before .before .before .before .before .before .before .before .before .before .args .bodies)) (c .before .before .before .before .before .before .before .before .before .before .before .before .before .before .args .n) _ _ _ (c .before .before .before .before .before .before .before .before .before .before .before .loop .inv .2) (c .before .before .before .before .before .before .before .before .before .before .loop-test .taken) (c .before .before .before .before .before .before .before .before .before .before .before .before .before .before .pre .2) _ (c .before .before .before .before .before .before .before .before .before .load-record .ensures) (c .before .before .before .before .before .before .before .inverse-spd .ensures) refl (answer-done _ _ (c .before .before .before .before .before .before .new .ensures) (c .before .before .before .before .enum-told .given .1)) (c .before .before .store-start .ensures))
 
 same-length-3 : tie.Need-same-length-3 Inv-loop μ-loop
 same-length-3 c = omega arith
 
 returns-3 : tie.Need-returns-3 Inv-loop μ-loop
-returns-3 c = omega arith
+returns-3 c = begin-ends (now (c .before .before .before .before .args .bodies)) (c .before .before .before .before .args .n) _ _ _ (c .before .loop .inv .2) (omega arith) (c .loop-test .left) (c .before .before .before .before .pre .2)
 
 pub start-bodies-spec : {M : Type 1} → statement M
 start-bodies-spec =

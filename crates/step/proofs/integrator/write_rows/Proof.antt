@@ -1,21 +1,26 @@
-use Rattle.step.proofs.StepLaws.{written-most, rows-same, rows-sixteen, joined-sixteen, rows-in, spread-none, spread-more, spread-end, spread-less}
+use lib.ListN.{length, length-set}
+use denote.Ref.{now}
+use mathlib.Core.List.{List}
+use Rattle.step.specs.Ready.{Joined}
+use Rattle.step.specs.RunView.{rowsBefore, Sides}
+use Rattle.step.proofs.RowLaws.{before-none, Wrote, wrote-none, wrote-rows, wrote-again, wrote-nonconvergent, wrote-overflow, wrote-ends}
+use Rattle.step.proofs.StepLaws.{written-most}
 use Rattle.rows.specs.Region.{count-most}
 use native.Mathlib.Omega.{arith}
 use mathlib.Core.Path.{_≡_, refl, sym, ap, _∙_}
 use Prim.Native.Nat.{ℕ, _+_, _*_, _≤_, _<_, _-_}
-use lib.ListN.{length, getD, length-set}
 use borrow.Author.Needs.{needs}
 use Rattle.step.proofs.integrator.write_rows.Statement.{statement}
 use Rattle.step.proofs.integrator.write_rows.Tie as tie
 
 abbrev Inv-loop : tie.InvT-loop
-Inv-loop s₀ count rows moved joints n₀ k₀ s n k = (k ≤ count) × (n ≤ 6 * k) × (length s ≡ length s₀)
+Inv-loop s₀ count rows moved joints n₀ k₀ s n k = (k ≤ count) × (n ≤ 6 * k) × (length s ≡ length s₀) × (n ≡ rowsBefore joints k) × ((size : ℕ) (J : Joined joints count size) (ia ib : List ℕ) (S : Sides joints count ia ib) → Wrote joints count moved rows s₀ size J ia ib S k n s)
 
 abbrev μ-loop : tie.MeasureT-loop
 μ-loop s₀ count rows moved joints n₀ k₀ s n k = count - k
 
 loop-holds : tie.Need-loop-holds Inv-loop μ-loop
-loop-holds c = (omega arith, omega arith, refl)
+loop-holds c = (omega arith, omega arith, refl, before-none (c .before .args .t2), λ size J ia ib S. wrote-none (c .before .args .t2) (c .before .args .count) (c .before .args .moved) (c .before .args .rows) _ size J ia ib S)
 
 mul-joint : tie.Need-mul-joint Inv-loop μ-loop
 mul-joint c = omega arith
@@ -51,7 +56,7 @@ same-length : tie.Need-same-length Inv-loop μ-loop
 same-length c = omega arith
 
 returns : tie.Need-returns Inv-loop μ-loop
-returns c = omega arith
+returns c = λ size J ia ib S. wrote-nonconvergent (c .before .before .before .before .before .before .before .before .before .before .before .before .before .before .args .t2) (c .before .before .before .before .before .before .before .before .before .before .before .before .before .before .args .count) (c .before .before .before .before .before .before .before .before .before .before .before .before .before .before .args .moved) (c .before .before .before .before .before .before .before .before .before .before .before .before .before .before .args .rows) _ size J ia ib S (c .before .before .before .before .before .before .before .before .before .before .before .before .loop .k) _ _ (c .before .before .before .before .before .before .before .before .before .before .before .before .loop .inv .4 size J ia ib S) (c .before .before .before .before .before .before .before .before .before .before .before .loop-test .taken) (omega (arith, c .before .before .before .before .before .before .before .before .before .before .before .before .loop .inv, c .before .before .before .before .before .before .before .before .before .before .before .loop-test .taken, c .before .before .before .before .before .before .before .before .before .before .before .before .before .before .pre .2 .few)) (c .before .before .before .before .before .before .before .before .before .before .before .before .before .before .pre .1) (c .before .before .before .before .before .before .before .before .before .before .before .before .loop .inv .3) (c .before .before .before .before .before .before .before .before .load-moved .ensures) (c .before .before .before .before .before .before .load-moved2 .ensures) _ (c .before .before .before .before .write-equality-rows .ensures) (c .enum-told .given .1)
 
 enum-told-2 : tie.Need-enum-told-2 Inv-loop μ-loop
 enum-told-2 c = search needs
@@ -60,7 +65,7 @@ same-length-2 : tie.Need-same-length-2 Inv-loop μ-loop
 same-length-2 c = omega arith
 
 returns-2 : tie.Need-returns-2 Inv-loop μ-loop
-returns-2 c = omega arith
+returns-2 c = λ size J ia ib S. wrote-overflow (c .before .before .before .before .before .before .before .before .before .before .before .before .before .before .args .t2) (c .before .before .before .before .before .before .before .before .before .before .before .before .before .before .args .count) (c .before .before .before .before .before .before .before .before .before .before .before .before .before .before .args .moved) (c .before .before .before .before .before .before .before .before .before .before .before .before .before .before .args .rows) _ size J ia ib S (c .before .before .before .before .before .before .before .before .before .before .before .before .loop .k) _ _ (c .before .before .before .before .before .before .before .before .before .before .before .before .loop .inv .4 size J ia ib S) (c .before .before .before .before .before .before .before .before .before .before .before .loop-test .taken) (omega (arith, c .before .before .before .before .before .before .before .before .before .before .before .before .loop .inv, c .before .before .before .before .before .before .before .before .before .before .before .loop-test .taken, c .before .before .before .before .before .before .before .before .before .before .before .before .before .before .pre .2 .few)) (c .before .before .before .before .before .before .before .before .before .before .before .before .before .before .pre .1) (c .before .before .before .before .before .before .before .before .before .before .before .before .loop .inv .3) (c .before .before .before .before .before .before .before .before .load-moved .ensures) (c .before .before .before .before .before .before .load-moved2 .ensures) _ (c .before .before .before .before .write-equality-rows .ensures) (c .enum-told2 .given .1)
 
 add-k : tie.Need-add-k Inv-loop μ-loop
 add-k c = omega (arith, c .before .before .before .before .before .before .before .before .before .before .before .before .before .loop .inv, c .before .before .before .before .before .before .before .before .before .before .before .before .loop-test .taken, c .before .before .before .before .before .before .before .before .before .before .before .before .before .before .before .pre)
@@ -69,13 +74,13 @@ loop-less : tie.Need-loop-less Inv-loop μ-loop
 loop-less c = omega arith
 
 loop-again : tie.Need-loop-again Inv-loop μ-loop
-loop-again c = (omega (arith, c .before .before .before .before .before .before .before .before .before .before .before .before .loop-test .taken), omega (arith, c .before .before .before .before .before .before .before .before .before .before .before .before .before .loop .inv, c .before .before .before .before .before .before .before .before .before .before .before .before .loop-test .taken, c .before .before .before .before .before .before .before .before .before .before .before .before .before .before .before .pre .2 .few, written-most (c .before .before .before .before .before .write-equality-rows .ensures) _ (c .before .m .given .1)), omega (arith, c .before .before .before .before .before .before .before .before .before .before .before .before .before .loop .inv .2))
+loop-again c = (omega (arith, c .before .before .before .before .before .before .before .before .before .before .before .before .loop-test .taken), omega (arith, c .before .before .before .before .before .before .before .before .before .before .before .before .before .loop .inv .1, c .before .before .before .before .before .before .before .before .before .before .before .before .loop-test .taken, c .before .before .before .before .before .before .before .before .before .before .before .before .before .before .before .pre .2 .few, written-most (c .before .before .before .before .before .write-equality-rows .ensures) _ (c .before .m .given .1)), omega (arith, c .before .before .before .before .before .before .before .before .before .before .before .before .before .loop .inv .2, c .before .before .before .before .before .write-equality-rows .ensures .kept .size), wrote-rows (c .before .before .before .before .before .before .before .before .before .before .before .before .before .before .before .args .t2) (c .before .before .before .before .before .before .before .before .before .before .before .before .before .loop .k) _ (c .before .before .before .before .before .before .before .before .before .before .before .before .before .loop .inv .3) (c .before .before .before .before .before .write-equality-rows .ensures) _ (c .before .m .given .1), λ size J ia ib S. wrote-again (c .before .before .before .before .before .before .before .before .before .before .before .before .before .before .before .args .t2) (c .before .before .before .before .before .before .before .before .before .before .before .before .before .before .before .args .count) (c .before .before .before .before .before .before .before .before .before .before .before .before .before .before .before .args .moved) (c .before .before .before .before .before .before .before .before .before .before .before .before .before .before .before .args .rows) _ size J ia ib S (c .before .before .before .before .before .before .before .before .before .before .before .before .before .loop .k) _ _ (c .before .before .before .before .before .before .before .before .before .before .before .before .before .loop .inv .4 size J ia ib S) (c .before .before .before .before .before .before .before .before .before .before .before .before .loop-test .taken) (omega (arith, c .before .before .before .before .before .before .before .before .before .before .before .before .before .loop .inv .1, c .before .before .before .before .before .before .before .before .before .before .before .before .loop-test .taken, c .before .before .before .before .before .before .before .before .before .before .before .before .before .before .before .pre .2 .few)) (c .before .before .before .before .before .before .before .before .before .before .before .before .before .before .before .pre .1) (c .before .before .before .before .before .before .before .before .before .before .before .before .before .loop .inv .3) (c .before .before .before .before .before .before .before .before .before .load-moved .ensures) (c .before .before .before .before .before .before .before .load-moved2 .ensures) _ (c .before .before .before .before .before .write-equality-rows .ensures) (c .before .m .given .1))
 
 same-length-3 : tie.Need-same-length-3 Inv-loop μ-loop
 same-length-3 c = omega arith
 
 returns-3 : tie.Need-returns-3 Inv-loop μ-loop
-returns-3 c = omega arith
+returns-3 c = λ size J ia ib S. wrote-ends (c .before .before .before .args .t2) (c .before .before .before .args .count) (c .before .before .before .args .moved) (c .before .before .before .args .rows) _ size J ia ib S (c .before .loop .k) _ _ (c .before .loop .inv .4 size J ia ib S) (c .before .loop .inv .3) (omega arith) (c .loop-test .left)
 
 pub write-rows-spec : {M : Type 1} → statement M
 write-rows-spec =

@@ -1,18 +1,22 @@
 use native.Mathlib.Omega.{arith}
-use mathlib.Core.Path.{_≡_, refl, sym, ap, _∙_}
-use Prim.Native.Nat.{ℕ, _+_, _*_, _≤_, _<_, _-_}
-use lib.ListN.{length, getD, length-set}
+use mathlib.Core.Path.{_≡_}
+use Prim.Native.Nat.{_≤_, _-_}
+use mathlib.Core.Bool.{true}
+use denote.Ref.{now}
+use Rattle.arith.specs.Flow.{every}
+use Rattle.arith.specs.FlowLaws.{every-none, every-more}
+use Rattle.step.proofs.VelocityLaws.{tenth-12, small, small-is, compatible-fails, compatible-ends}
 use Rattle.step.proofs.velocity.compatible.Statement.{statement}
 use Rattle.step.proofs.velocity.compatible.Tie as tie
 
 abbrev Inv-loop : tie.InvT-loop
-Inv-loop s n k₀ k = k ≤ n
+Inv-loop s n k₀ k = (k ≤ n) × (true ≡ every k (small s n))
 
 abbrev μ-loop : tie.MeasureT-loop
 μ-loop s n k₀ k = n - k
 
 loop-holds : tie.Need-loop-holds Inv-loop μ-loop
-loop-holds c = omega arith
+loop-holds c = (omega arith, every-none _)
 
 add-abs : tie.Need-add-abs Inv-loop μ-loop
 add-abs c = omega arith
@@ -27,7 +31,7 @@ abs-requires : tie.Need-abs-requires Inv-loop μ-loop
 abs-requires c κs = omega arith
 
 returns : tie.Need-returns Inv-loop μ-loop
-returns c = omega arith
+returns c = compatible-fails (now (c .before .before .before .before .before .before .args .s)) _ (c .before .before .before .loop-test .taken) (small-is (now (c .before .before .before .before .before .before .args .s)) _ (c .before .before .before .loop-test .taken) (c .before .abs .ensures) tenth-12 (c .if1 .left))
 
 add-k : tie.Need-add-k Inv-loop μ-loop
 add-k c = omega arith
@@ -36,10 +40,10 @@ loop-less : tie.Need-loop-less Inv-loop μ-loop
 loop-less c = omega arith
 
 loop-again : tie.Need-loop-again Inv-loop μ-loop
-loop-again c = omega arith
+loop-again c = (omega arith, every-more (small (now (c .before .before .before .before .before .before .args .s)) (c .before .before .before .before .before .before .args .n)) (c .before .before .before .before .loop .inv .1) (small-is (now (c .before .before .before .before .before .before .args .s)) _ (c .before .before .before .loop-test .taken) (c .before .abs .ensures) tenth-12 (c .if1 .taken)))
 
 returns-2 : tie.Need-returns-2 Inv-loop μ-loop
-returns-2 c = omega arith
+returns-2 c = compatible-ends (now (c .before .before .before .args .s)) _ (c .before .loop .inv .0) (c .loop-test .left) (c .before .loop .inv .1)
 
 pub compatible-spec : {M : Type 1} → statement M
 compatible-spec =

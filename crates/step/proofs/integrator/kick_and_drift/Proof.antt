@@ -1,0 +1,41 @@
+use Rattle.step.proofs.TableLaws.{kick-drifts, kick-nonconvergent, kick-overflow}
+use borrow.Author.Needs.{needs}
+use Rattle.step.proofs.integrator.kick_and_drift.Statement.{statement}
+use Rattle.step.proofs.integrator.kick_and_drift.Tie as tie
+
+kick-requires : tie.Need-kick-requires
+kick-requires c κs = search needs
+
+enum-told : tie.Need-enum-told
+enum-told c = search needs
+
+drift-requires : tie.Need-drift-requires
+drift-requires c κs = search needs
+
+enum-told-2 : tie.Need-enum-told-2
+enum-told-2 c = search needs
+
+enum-told-3 : tie.Need-enum-told-3
+enum-told-3 c = search needs
+
+returns : tie.Need-returns
+returns c = kick-drifts (c .before .before .before .before .args .dt) (c .before .before .before .before .args .body) (record { linear = c .before .before .before .before .args .linear; angular = c .before .before .before .before .args .angular }) (c .before .before .before .kick .ensures) (c .before .enum-told .given .1) (c .drift .ensures)
+
+returns-2 : tie.Need-returns-2
+returns-2 c = kick-nonconvergent (c .before .before .before .args .dt) (c .before .before .before .args .body) (record { linear = c .before .before .before .args .linear; angular = c .before .before .before .args .angular }) (c .before .before .kick .ensures) (c .enum-told2 .given .1)
+
+returns-3 : tie.Need-returns-3
+returns-3 c = kick-overflow (c .before .before .before .args .dt) (c .before .before .before .args .body) (record { linear = c .before .before .before .args .linear; angular = c .before .before .before .args .angular }) (c .before .before .kick .ensures) (c .enum-told3 .given .1)
+
+pub kick-and-drift-spec : {M : Type 1} → statement M
+kick-and-drift-spec =
+    tie.close
+    (tie.spec
+    kick-requires
+    enum-told
+    drift-requires
+    enum-told-2
+    enum-told-3
+    returns
+    returns-2
+    returns-3)

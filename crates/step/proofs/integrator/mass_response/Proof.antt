@@ -1,0 +1,45 @@
+use lib.Ieee.{round, ofBits}
+use mathlib.Core.Path.{ap, _∙_}
+use Rattle.vectors.specs.Matrix.{matProductOf}
+use Rattle.step.proofs.TableLaws.{mass-is}
+use borrow.Author.Needs.{needs}
+use Rattle.step.proofs.integrator.mass_response.Statement.{statement}
+use Rattle.step.proofs.integrator.mass_response.Tie as tie
+
+to-mat3-requires : tie.Need-to-mat3-requires
+to-mat3-requires c κs = search needs
+
+product-requires : tie.Need-product-requires
+product-requires c κs = search needs
+
+transpose-requires : tie.Need-transpose-requires
+transpose-requires c κs = search needs
+
+product-requires-2 : tie.Need-product-requires-2
+product-requires-2 c κs = search needs
+
+is-finite-requires : tie.Need-is-finite-requires
+is-finite-requires c κs = search needs
+
+is-finite-requires-2 : tie.Need-is-finite-requires-2
+is-finite-requires-2 c κs = search needs
+
+all-three-requires : tie.Need-all-three-requires
+all-three-requires c κs = search needs
+
+returns : tie.Need-returns
+unfolding round ofBits
+returns c = mass-is (c .before .before .before .before .before .before .before .before .before .before .args .body) (c .before .before .before .before .before .before .before .before .before .to-mat3 .ensures) (c .before .before .before .before .before .before .product .ensures) (c .before .before .before .before .product2 .ensures ∙ ap (matProductOf _) (c .before .before .before .before .before .transpose .ensures)) (c .before .before .is-finite .ensures) (c .before .is-finite2 .ensures) (c .all-three .ensures)
+
+pub mass-response-spec : {M : Type 1} → statement M
+mass-response-spec =
+    tie.close
+    (tie.spec
+    to-mat3-requires
+    product-requires
+    transpose-requires
+    product-requires-2
+    is-finite-requires
+    is-finite-requires-2
+    all-three-requires
+    returns)

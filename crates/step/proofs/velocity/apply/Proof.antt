@@ -1,0 +1,43 @@
+use borrow.Author.Needs.{needs}
+use native.Mathlib.Omega.{arith}
+use mathlib.Core.Path.{_∙_}
+use Rattle.step.proofs.VelocityLaws.{apply-stops, apply-then}
+use Rattle.step.proofs.velocity.apply.Statement.{statement}
+use Rattle.step.proofs.velocity.apply.Tie as tie
+
+transpose-requires : tie.Need-transpose-requires
+transpose-requires c κs = (c .before .before .pre, record { low = omega arith; high = omega arith })
+
+enum-told : tie.Need-enum-told
+enum-told c = search needs
+
+same-length : tie.Need-same-length
+same-length c = c .before .before .before .before .transpose .ensures .kept .size
+
+returns : tie.Need-returns
+returns c = apply-stops (c .before .before .before .before .before .before .before .pre) _ (c .before .before .before .before .transpose .ensures) (c .enum-told .given .1)
+
+enum-told-2 : tie.Need-enum-told-2
+enum-told-2 c = search needs
+
+kick-candidates-requires : tie.Need-kick-candidates-requires
+kick-candidates-requires c κs = omega (arith, c .before .before .before .before .before .transpose .ensures .kept .size, c .before .before .before .before .before .before .before .before .pre .whole, c .before .before .before .before .before .before .before .before .pre .bodies)
+
+same-length-2 : tie.Need-same-length-2
+same-length-2 c = c .before .before .kick-candidates .ensures .kept .size ∙ c .before .before .before .before .before .before .before .before .transpose .ensures .kept .size
+
+returns-2 : tie.Need-returns-2
+returns-2 c = apply-then (c .before .before .before .before .before .before .before .before .before .before .before .pre) _ (c .before .before .before .before .before .before .before .before .transpose .ensures) (c .before .before .before .before .enum-told2 .given .1) (c .before .before .kick-candidates .ensures)
+
+pub apply-spec : {M : Type 1} → statement M
+apply-spec =
+    tie.close
+    (tie.spec
+    transpose-requires
+    enum-told
+    same-length
+    returns
+    enum-told-2
+    kick-candidates-requires
+    same-length-2
+    returns-2)

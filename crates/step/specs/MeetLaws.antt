@@ -1,0 +1,221 @@
+-- Whatever answers as the definition does is `Answered`: each way that `solveOf` goes, and for the accepted one demand 3, joint by joint.
+use Prim.Native.Nat.{ℕ, _*_, _/_, _≤_, _<_}
+use mathlib.Core.Path.{_≡_, refl, sym, ap, _∙_, subst, subst₂}
+use mathlib.Core.Bool.{Bool, true, false, cond, _&&_}
+use mathlib.Core.List.{List}
+use native.Mathlib.Omega.{arith}
+use borrow.Author.Tests.{eqb-true, eqb-false}
+use lib.Dec.{T}
+use lib.ListN.{length}
+use lib.Ieee.{Float}
+use Rattle.arith.specs.Real.{ratio}
+use Rattle.arith.specs.Flow.{Turn, go, stop}
+use Rattle.arith.specs.FlowLaws.{every-at}
+use Rattle.vectors.specs.declared.vector.Vec3.{Vec3}
+use Rattle.vectors.specs.Quaternion.{isNormalizedOf}
+use Rattle.vectors.specs.Laws.Tests.{both}
+use Rattle.rows.specs.declared.body.RigidBody.{RigidBody}
+use Rattle.rows.specs.declared.body.BodyState.{BodyState}
+use Rattle.rows.specs.declared.geometry.Joint.{Joint}
+use Rattle.rows.specs.declared.geometry.Kind.{Kind}
+use Rattle.rows.specs.declared.geometry.Kind.the-variants.{Ball, Hinge, Cylindrical, Planar, Distance, ConeTwist}
+use Rattle.rows.specs.Fault.{Fault, nonConvergent, arithmeticOverflow}
+use Rattle.rows.specs.Body.{stateWith, stateOf}
+use Rattle.rows.specs.Region.{tab-length, tab-at}
+use Rattle.rows.specs.ExactGeometry.{statePlace, recordPlace, Met, Stands}
+use Rattle.rows.specs.Laws.RowsIn.{Each, rows-met, rows-each}
+use Rattle.rows.specs.Laws.Met.{KindIn, stands, met}
+use Rattle.solves.specs.Solver.{noRow}
+use Rattle.step.specs.declared.Outcome.{Outcome}
+use Rattle.step.specs.declared.Outcome.the-variants.{Accepted, Ground}
+use Rattle.step.specs.declared.Report.{Report}
+use Rattle.step.specs.Records.{recordAt, bodyCount, recordsOf, stateAt}
+use Rattle.step.specs.Checks.{numberOf, withinOf, massInRange, bodyInRange, frameOk, kindOk, jointIn, refusalOf, isAccepted}
+use Rattle.step.specs.CheckLaws.{Ready, number-zero, refused-number, accepted}
+use Rattle.step.specs.Step.{faultOutcome, noState, noRecord, bodyIn, recordIn, stateIn, jointRows, writeRows, rowsMet, statesOf, Counted, runOf, Stepped, grounded, handBack, cleared, settled, solveOf}
+use Rattle.step.specs.BackLaws.{back-length, back-state}
+use Rattle.step.specs.TurnLaws.{each-at}
+use Rattle.step.specs.RunLaws.{Ran, ran}
+use Rattle.step.specs.Answered.{Answered}
+
+-- ---- tests that were passed
+yes-T : {b : Bool} → b ≡ true → T b
+yes-T e = subst T (sym e) tt
+
+kind-in : (kind : Kind) → T (kindOk kind) → KindIn kind
+kind-in Ball t = tt
+kind-in Hinge t = tt
+kind-in Cylindrical t = tt
+kind-in Planar t = tt
+kind-in (Distance length) t = t
+kind-in (ConeTwist x y lower upper) t = tt
+
+local-in : (body : RigidBody) → bodyInRange body ≡ true → T (withinOf (body .«center_of_mass») (ratio 64 1))
+local-in body e =
+    let o = withinOf (body .origin) (ratio 8192 1) in
+    let c = withinOf (body .«center_of_mass») (ratio 64 1) in
+    both o c (both (o && c) (massInRange (body .mass)) (both (o && c && massInRange (body .mass)) (isNormalizedOf (body .rotation)) (yes-T e) .0) .0) .1
+
+-- ---- an accepted run: its joints, and its states
+module _ (bodies : List Float) (joints : List Joint) (count : ℕ) (dt : Float) (scratch : ℕ) (ready : Ready bodies joints count dt scratch) (states : List BodyState) (r : Ran (recordsOf bodies) joints count states) (on-ground : grounded states ≡ true) where
+  records : length (recordsOf bodies) ≡ bodyCount bodies
+  records = tab-length (bodyCount bodies) (recordAt bodies)
+
+  last-size : length (r .last) ≡ bodyCount bodies
+  last-size = r .locals .size ∙ records
+
+  abbrev old : ℕ → BodyState
+  old k = stateWith (recordIn (recordsOf bodies) k .origin) (recordIn (recordsOf bodies) k .rotation) (recordIn (recordsOf bodies) k .«linear_velocity») (recordIn (recordsOf bodies) k .«angular_velocity»)
+
+  module _ (k : ℕ) (there : k < bodyCount bodies) where
+    in-last : k < length (r .last)
+    in-last = subst (λ (n : ℕ). k < n) (sym last-size) there
+
+    in-candidate : k < length (r .candidate)
+    in-candidate = subst (λ (n : ℕ). k < n) (r .stay .size) in-last
+
+    local : T (withinOf (bodyIn (r .last) k .«center_of_mass») (ratio 64 1))
+    local =
+        let e : recordIn (recordsOf bodies) k ≡ recordAt bodies k = tab-at (bodyCount bodies) (recordAt bodies) noRecord k there in
+        let c : recordAt bodies k .«center_of_mass» ≡ bodyIn (r .last) k .«center_of_mass» = sym (ap (λ (b : RigidBody). b .«center_of_mass») e) ∙ r .locals .same k (subst (λ (n : ℕ). k < n) (sym records) there) in
+        subst (λ (v : Vec3). T (withinOf v (ratio 64 1))) c (local-in (recordAt bodies k) (ready .in-range k there))
+
+    state : stateOf (bodyIn (r .last) k) (old k) ≡ go (stateIn states k)
+    unfolding statesOf
+    state = each-at (length (r .last)) _ states (r .states-are) .at noState k in-last
+
+    in-states : k < length states
+    unfolding statesOf
+    in-states = subst (λ (n : ℕ). k < n) (sym (each-at (length (r .last)) _ states (r .states-are) .size)) in-last
+
+    ground : T (withinOf (stateIn states k .origin) (ratio 8192 1))
+    unfolding grounded
+    ground = yes-T (every-at (λ (i : ℕ). withinOf (stateIn states i .origin) (ratio 8192 1)) (length states) (sym on-ground) in-states)
+
+    back : stateIn states k ≡ stateAt (handBack bodies states) (26 * k)
+    back = sym (back-state bodies states k there)
+
+    stood : Stands (recordAt (handBack bodies states) k .origin) (recordAt (handBack bodies states) k .rotation)
+    stood = subst (λ (s : BodyState). Stands (s .origin) (s .rotation)) back (stands (bodyIn (r .last) k) (old k) (stateIn states k) state)
+
+  module _ (k : ℕ) (l : k < count) where
+    abbrev joint : Joint
+    joint = jointIn joints k
+
+    abbrev a : ℕ
+    a = joint .«body_a»
+
+    abbrev b : ℕ
+    b = joint .«body_b»
+
+    -- its rows are within their tolerances
+    rows-of : Each (jointRows joints (r .candidate) k)
+    unfolding writeRows rowsMet
+    rows-of = rows-each (jointRows joints (r .candidate)) count (r .rows) (r .rows-are) (rows-met noRow (r .rows) (sym (r .rows-met))) k l
+
+    met-states : Met joint (statePlace (stateIn states a)) (statePlace (stateIn states b))
+    met-states =
+        let numbers = both (frameOk (joint .«frame_a») && frameOk (joint .«frame_b»)) (kindOk (joint .kind)) (yes-T (ready .numbers k l)) in
+        let frames = both (frameOk (joint .«frame_a»)) (frameOk (joint .«frame_b»)) (numbers .0) in
+        let at-a = ready .a-there k l in
+        let at-b = ready .b-there k l in
+        met joint (bodyIn (r .candidate) a) (bodyIn (r .candidate) b) (rows-of .rows) (rows-of .is) (rows-of .within) (frames .0) (frames .1) (kind-in (joint .kind) (numbers .1))
+        (bodyIn (r .last) a) (bodyIn (r .last) b) (r .stay .same a (in-candidate a at-a)) (r .stay .same b (in-candidate b at-b)) (local a at-a) (local b at-b)
+        (old a) (old b) (stateIn states a) (stateIn states b) (state a at-a) (state b at-b) (ground a at-a) (ground b at-b)
+
+    met-records : Met joint (recordPlace (recordAt (handBack bodies states) a)) (recordPlace (recordAt (handBack bodies states) b))
+    met-records = subst₂ (Met joint) (ap statePlace (back a (ready .a-there k l))) (ap statePlace (back b (ready .b-there k l))) met-states
+
+-- ---- the ways of a step
+fault-late : (fault : Fault) → 10 ≤ numberOf (faultOutcome fault)
+fault-late nonConvergent = omega arith
+fault-late arithmeticOverflow = omega arith
+
+module _ (bodies : List Float) (joints : List Joint) (count : ℕ) (dt : Float) (scratch : List Float) where
+  abbrev Solved : Stepped → Type 0
+  Solved s = s ≡ solveOf bodies joints count dt scratch
+
+  abbrev Says : Stepped → Type 0
+  Says s = Answered bodies (s .bodies) joints count dt scratch (s .scratch) (record { outcome = s .outcome; nonlinear = s .nonlinear; linear = s .linear })
+
+  -- 1 to 9
+  abbrev checked : Outcome → Stepped
+  checked o = record { outcome = o; nonlinear = 0; linear = 0; bodies = bodies; scratch = scratch }
+
+  says-checked : (o : Outcome) → 1 ≤ numberOf o → numberOf o ≤ 9 → Solved (checked o) → Says (checked o)
+  says-checked o low high is = record {
+    is = is;
+    joins = λ h. absurd (omega (arith, ap numberOf h));
+    meets = λ h. absurd (omega (arith, ap numberOf h));
+    stands = λ h. absurd (omega (arith, ap numberOf h));
+    refused = λ h. refl;
+    early = λ h g. (refl, refl, refl);
+    accepted = λ h. absurd (omega (arith, ap numberOf h));
+    late = λ h. absurd (omega arith);
+  }
+
+  module _ (ready : Ready bodies joints count dt (length scratch)) where
+    -- 10 to 12
+    abbrev failed : Outcome → ℕ → ℕ → Stepped
+    failed o n l = record { outcome = o; nonlinear = n; linear = l; bodies = bodies; scratch = cleared scratch }
+
+    says-failed : (o : Outcome) (n l : ℕ) → 10 ≤ numberOf o → Solved (failed o n l) → Says (failed o n l)
+    says-failed o n l low is = record {
+      is = is;
+      joins = λ h. absurd (omega (arith, ap numberOf h));
+      meets = λ h. absurd (omega (arith, ap numberOf h));
+      stands = λ h. absurd (omega (arith, ap numberOf h));
+      refused = λ h. refl;
+      early = λ h g. absurd (omega arith);
+      accepted = λ h. (ready .room, refl);
+      late = λ h. (ready .room, refl);
+    }
+
+    -- accepted
+    abbrev moved : Counted (List BodyState) → Stepped
+    moved c = record { outcome = Accepted; nonlinear = c .nonlinear; linear = c .linear; bodies = handBack bodies (c .answer); scratch = cleared scratch }
+
+    says-moved : (c : Counted (List BodyState)) → runOf (recordsOf bodies) joints count dt ≡ go c → grounded (c .answer) ≡ true → Solved (moved c) → Says (moved c)
+    says-moved c e g is = record {
+      is = is;
+      joins = λ h k l. (same (ready .a-there k l), same (ready .b-there k l));
+      meets = λ h k l. met-records bodies joints count dt (length scratch) ready (c .answer) end g k l;
+      stands = λ h k l. stood bodies joints count dt (length scratch) ready (c .answer) end g k (subst (λ (n : ℕ). k < n / 26) (back-length bodies (c .answer)) l);
+      refused = λ h. absurd (omega arith);
+      early = λ h. absurd (omega arith);
+      accepted = λ h. (ready .room, refl);
+      late = λ h. absurd (omega arith);
+    }
+      where
+        end : Ran (recordsOf bodies) joints count (c .answer)
+        end = ran (recordsOf bodies) joints count dt c e
+
+        same : {k : ℕ} → k < bodyCount bodies → k < bodyCount (handBack bodies (c .answer))
+        same {k} h = subst (λ (n : ℕ). k < n / 26) (sym (back-length bodies (c .answer))) h
+
+    -- however the run ends
+    says-run : (t : Turn (Counted (List BodyState)) (Counted Fault)) → runOf (recordsOf bodies) joints count dt ≡ t → Solved (settled bodies (cleared scratch) t) → Says (settled bodies (cleared scratch) t)
+    says-run (stop c) e is = says-failed (faultOutcome (c .answer)) (c .nonlinear) (c .linear) (fault-late (c .answer)) is
+    says-run (go c) e is = by-ground (grounded (c .answer)) refl is
+      where
+        by-ground : (g : Bool) → grounded (c .answer) ≡ g → Solved (cond g (moved c) (failed Ground (c .nonlinear) (c .linear))) → Says (cond g (moved c) (failed Ground (c .nonlinear) (c .linear)))
+        by-ground true g is = says-moved c e g is
+        by-ground false g is = says-failed Ground (c .nonlinear) (c .linear) (omega arith) is
+
+  says : (b : Bool) → isAccepted (refusalOf bodies joints count dt (length scratch)) ≡ b
+      → Solved (cond b (settled bodies (cleared scratch) (runOf (recordsOf bodies) joints count dt)) (checked (refusalOf bodies joints count dt (length scratch))))
+      → Says (cond b (settled bodies (cleared scratch) (runOf (recordsOf bodies) joints count dt)) (checked (refusalOf bodies joints count dt (length scratch))))
+  says true e is = says-run (accepted bodies joints count dt (length scratch) (number-zero _ (eqb-true _ _ e))) (runOf (recordsOf bodies) joints count dt) refl is
+  says false e is =
+      let n = refused-number bodies joints count dt (length scratch) (λ q. eqb-false _ _ e (ap numberOf q)) in
+      says-checked (refusalOf bodies joints count dt (length scratch)) (n .0) (n .1) is
+
+  solve-says : Says (solveOf bodies joints count dt scratch)
+  unfolding solveOf
+  solve-says = says (isAccepted (refusalOf bodies joints count dt (length scratch))) refl refl
+
+-- the step's contract, from its first line
+pub answered : (bodies after : List Float) (joints : List Joint) (count : ℕ) (dt : Float) (scratch left : List Float) (r : Report)
+    → record { outcome = r .outcome; nonlinear = r .nonlinear; linear = r .linear; bodies = after; scratch = left } ≡ solveOf bodies joints count dt scratch
+    → Answered bodies after joints count dt scratch left r
+answered bodies after joints count dt scratch left r is = subst (Says bodies joints count dt scratch) (sym is) (solve-says bodies joints count dt scratch)
