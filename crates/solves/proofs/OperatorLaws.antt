@@ -28,7 +28,7 @@ use Rattle.solves.specs.Solver.{rowIn, generalizedIn, massIn, noGenerali
 use Rattle.solves.specs.Answer.{ranAs}
 use Rattle.solves.specs.View.{rowOn, rowsOn, generalizedAt, generalizedsAt, massAt, massesAt, Rows, Place, Shares, GENERALIZED, MASSES, END}
 use Rattle.solves.specs.DoesLaws.{number-yes, number-no, ran-done, ran-over, does-stop, does-then}
-use Rattle.solves.specs.ViewLaws.{kept-rows, kept-generalized, kept-masses, row-in, share-in, mass-in, shares-set, shares-more, shares-none}
+use Rattle.solves.specs.ViewLaws.{kept-rows, kept-masses, row-in, share-in, mass-in, shares-set, shares-more, shares-none}
 
 -- dot
 abbrev pub dotTurn : List Float → List Float → ℕ → Float → Float

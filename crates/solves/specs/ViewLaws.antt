@@ -27,9 +27,6 @@ module _ {P : ℕ → Type 0} {s t : List Float} (kept : Kept P s t) where
     angular = kept-vec3 kept (off + 6 * i + 3) (λ k a b. w k (omega arith) (omega arith)) j;
   }
 
-  pub kept-generalized : (off m : ℕ) → Over P off (6 * m) → generalizedsAt t off m ≡ generalizedsAt s off m
-  kept-generalized off m w = tab-ext m λ i h. kept-share off i (λ k a b. w k (omega arith) (omega arith))
-
   kept-mass : (off i : ℕ) → Over P (off + 10 * i) 10 → massAt t off i ≡ massAt s off i
   kept-mass off i w = λ j. record {
     linear = kept .same (off + 10 * i) (w (off + 10 * i) (omega arith) (omega arith)) j;

@@ -2,7 +2,6 @@
 use Prim.Native.Nat.{ℕ, _^_, _/_, _%_, _≤_, _<_}
 use borrow.Author.Tests.{lt-ltb, le-ltb, eq-eqb, ne-eqb}
 use lib.Dec.{ltb, leb, eqb}
-use lib.Ieee as Ieee
 use lib.Ieee.{Float, ofBits, round}
 use mathlib.Core.Path.{_≡_, refl, sym, ap, _∙_}
 use mathlib.Core.Bool.{Bool, true, false, cond, not, _&&_, _||_}

@@ -3,13 +3,15 @@ use Prim.Native.Nat.{ℕ, _+_, _≤_, _<_}
 use mathlib.Core.Path.{_≡_, _∙_, ap}
 use mathlib.Core.List.{List}
 use native.Mathlib.Omega.{arith}
+use lib.ListN.{length, set}
 use lib.Ieee.{Float}
 use Rattle.arith.specs.Flow.{go, stop, tab, each}
 use Rattle.arith.specs.FlowLaws.{each-none, each-more, each-stop, each-end}
 use Rattle.rows.specs.Fault.{Fault, Result}
-use Rattle.rows.specs.View.{Kept}
-use Rattle.rows.specs.Region.{tab-more, kept-refl, kept-then, kept-more}
-use Rattle.solves.specs.Region.{Does}
+use Rattle.rows.specs.View.{Out, Kept}
+use Rattle.rows.specs.Region.{tab-more, kept-refl, kept-set, kept-then, kept-more}
+use Rattle.solves.specs.Region.{vecAt, Does}
+use Rattle.solves.specs.RegionLaws.{vec-more}
 
 module _ {A : Type 0} (view : List Float → ℕ → A) (f : ℕ → Result A) (s₀ : List Float) where
   pub so-none : (P : ℕ → Type 0) → Does P s₀ s₀ (go (tab 0 (view s₀))) (each 0 f)
@@ -28,3 +30,8 @@ module _ {A : Type 0} (view : List Float → ℕ → A) (f : ℕ → Result A) (
     so-end n {m} q a b =
         let same : n ≡ k = omega arith in
         record { kept = kept-more (so .kept) w; is = ap (λ (j : ℕ). go (tab j (view s))) same ∙ each-end f (omega arith) (omega arith) (so .is) }
+
+-- one more number, stored in its place
+pub so-put : (off : ℕ) (f : ℕ → Result Float) (s₀ : List Float) {P : ℕ → Type 0} (k : ℕ) (s : List Float) → Does P s₀ s (go (vecAt s off k)) (each k f) → (R : ℕ → Type 0) → ((i : ℕ) → R i → P i)
+    → (x : Float) → ((i : ℕ) → R i → Out (off + k) 1 i) → off + k < length s → go x ≡ f k → Does R s₀ (set s (off + k) x) (go (vecAt (set s (off + k) x) off (k + 1))) (each (k + 1) f)
+so-put off f s₀ k s so R w x v h e = record { kept = kept-then (kept-more (so .kept) w) (kept-set s (off + k) x) v; is = ap go (vec-more s off k x h) ∙ each-more f (so .is) e }

@@ -40,7 +40,7 @@ use Rattle.step.specs.ViewLaws.{kept-candidates}
 use Rattle.step.specs.BackLaws.{handed-back}
 use Rattle.step.specs.Step.{noState, stateIn, prepareMasses, Started, startOf, Left, Found, nonlinearLoop, velocityLoop, statesOf, Counted, counted, finishOf, runOf, Stepped, grounded, cleared, settled}
 use Rattle.step.specs.RunView.{rowsBefore, Sides, startedAt, foundAt, Trying, Correcting, loopedAs, endedAs, progressAs}
-use Rattle.step.proofs.LoopLaws.{finish-case}
+use Rattle.step.proofs.SolveLaws.{finish-case}
 
 -- what a run answers
 abbrev RunEnd : Type 0

@@ -4,6 +4,7 @@ pub mod BodyLaws
 pub mod AnsweredLaws
 pub mod PassLaws
 pub mod MotionLaws
+pub mod FrameLaws
 pub mod EachLaws
 pub mod TableLaws
 pub mod SolveLaws

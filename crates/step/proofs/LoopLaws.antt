@@ -1,5 +1,5 @@
 -- The calls of integrator.rt one after the other: what stands before the first pass, one nonlinear pass, and the run.
-use Prim.Native.Nat.{ℕ, _+_, _-_, _≤_, _<_}
+use Prim.Native.Nat.{ℕ, _+_, _≤_, _<_}
 use mathlib.Core.Path.{_≡_, refl, sym, _∙_, ap, subst}
 use mathlib.Core.Bool.{Bool, true, false}
 use mathlib.Core.List.{List}
@@ -39,13 +39,9 @@ use Rattle.step.specs.Records.{recordAt, recordsOf, bodyCount}
 use Rattle.step.specs.Step.{startBodies, writeRows, prepareMasses, Started, startOf, Took, Left, Found, taking, moveBodies, rowsMet, rhsOf, addImpulses, candidateOf, correctedBy, nonlinearPass, nonlinearLoop}
 use Rattle.step.specs.RunView.{startedAt, foundAt, Trying, passAs, loopedAs}
 use Rattle.step.proofs.PassLaws.{Reached, reached-none, reached-next, left-met, left-nonconvergent, left-overflow, left-spent}
-use Rattle.step.proofs.SolveLaws.{solved-answer, solved-passes, nonconvergent-answer, nonconvergent-passes, overflow-answer, overflow-passes, not-declined}
+use Rattle.step.proofs.SolveLaws.{finish-case, turn-nonconvergent, turn-overflow, turn-next, turn-stops, not-declined}
 
--- ---- the cases of an end
-pub finish-case : {A : Type 0} (x : A) (r : Finish) {q : Finish} {d : Result A} → finishAs r x ≡ d → r ≡ q → finishAs q x ≡ d
-finish-case x r e h = sym (ap (λ (o : Finish). finishAs o x) h) ∙ e
-
--- the value goes into a record
+-- ---- an end whose value goes into a record
 finish-then : {A B : Type 0} (r : Finish) (x : A) (f : A → B) → finishAs r (f x) ≡ (finishAs r x >>= λ y. go (f y))
 unfolding _>>=_
 finish-then Ends.Done x f = refl
@@ -60,10 +56,6 @@ module _ {P : ℕ → Type 0} {s t : List Float} (kept : Kept P s t) where
     rows = kept-rows kept ia ib START-ROWS n (λ i a b. w i (omega arith)) j;
     masses = kept-masses kept MASSES size (λ i a b. w i (omega arith)) j;
   }
-
--- the shares are among what a pass writes
-not-shares : (i : ℕ) → Out IMPULSES (START - IMPULSES) i → Shares i
-not-shares i x = omega arith
 
 -- ---- start
 module _ (bodies : List Float) (joints : List Joint) (count : ℕ) (ia ib : List ℕ) (m size : ℕ) (es : size ≡ bodyCount bodies) (l : m ≤ 96) (g : size ≤ 16) (s s₁ : List Float) (r₁ : Finish)
@@ -137,7 +129,7 @@ module _ (joints : List Joint) (count : ℕ) (dt : Float) (ia ib : List ℕ) (n 
   pub candidate-1 : r₁ ≡ Outcomes.ArithmeticOverflow → Tried s₁ (stop arithmeticOverflow)
   unfolding candidateOf
   candidate-1 h = (
-    record { kept = kept-more (d₁ .kept) (λ i x. not-shares i (x .1)); is = then-stop onShares (ran-over (generalizedsAt s₁ GENERALIZED size) d₁ h ∙ shares-are) },
+    record { kept = kept-more (d₁ .kept) (λ i x. omega (arith, x .1)); is = then-stop onShares (ran-over (generalizedsAt s₁ GENERALIZED size) d₁ h ∙ shares-are) },
     kept-vec (d₁ .kept) IMPULSES n (λ i a b. omega arith),
   )
 
@@ -155,7 +147,7 @@ module _ (joints : List Joint) (count : ℕ) (dt : Float) (ia ib : List ℕ) (n 
 
     pub candidate-2 : {f : Fault} → stop f ≡ moveBodies dt (startBodiesAt s₁ size) (generalizedsAt s₁ GENERALIZED size) → Tried s₂ (stop f)
     candidate-2 e = (
-      record { kept = kept-more tried₂ (λ i x. (not-shares i (x .1), x .2)); is = rest₂ (then-stop onMoved (e ∙ moved-are)) },
+      record { kept = kept-more tried₂ (λ i x. (omega (arith, x .1), x .2)); is = rest₂ (then-stop onMoved (e ∙ moved-are)) },
       kept-vec tried₂ IMPULSES n (λ i a b. (omega arith, omega arith)),
     )
 
@@ -165,7 +157,7 @@ module _ (joints : List Joint) (count : ℕ) (dt : Float) (ia ib : List ℕ) (n 
     pub candidate-3 : r₂ ≡ Ends.Done → (m : ℕ) → n ≡ m → (s₃ : List Float) (r₃ : Finish) → Does (λ i. Out ROWS 1344 i) s₂ s₃ (finishAs r₃ (rowsOn ia ib s₃ ROWS m)) (writeRows joints count (candidatesAt s₂ size))
         → Tried s₃ (finishAs r₃ (foundAt ia ib s₃ n size))
     candidate-3 h₂ m em s₃ r₃ d₃ = (
-      record { kept = kept-more tried₃ (λ i x. (not-shares i (x .1), x .2, x .0)); is = answer },
+      record { kept = kept-more tried₃ (λ i x. (omega (arith, x .1), x .2, x .0)); is = answer },
       kept-vec tried₃ IMPULSES n (λ i a b. (omega arith, omega arith, omega arith)),
     )
       where
@@ -197,68 +189,37 @@ module _ (dt : Float) (cyclic : Bool) (ia ib : List ℕ) (n size : ℕ) (l : n �
     is = d₂ .is ∙ (λ j. ended (linearSolve cyclic (kept-rows (d₁ .kept) ia ib START-ROWS n (λ i a b. omega arith) j) (kept-masses (d₁ .kept) MASSES size (λ i a b. omega arith) j) (d₁ .is j)));
   }
 
-  corrected₂ : Kept (λ i. Out RHS (START - RHS) i) s s₂
-  corrected₂ = kept-then (kept-more (d₁ .kept) (λ i x. omega arith)) (d₂ .kept) (λ i x. omega arith)
+  corrected₂ : Kept Trying s s₂
+  corrected₂ = kept-then (kept-more (d₁ .kept) (λ i x. omega (arith, x .1))) (d₂ .kept) (λ i x. omega (arith, x .1))
 
   impulses₂ : vecAt s₂ IMPULSES n ≡ vecAt s IMPULSES n
-  impulses₂ = kept-vec corrected₂ IMPULSES n (λ i a b. omega arith)
-
-  abbrev onSum : List Float → Turn (Took (List Float)) (Took (Result Found))
-  onSum impulses = go (record { answer = impulses; passes = solve .passes })
-
-  abbrev onSolution : List Float → Turn (Took (List Float)) (Took (Result Found))
-  onSolution solution = taking (solve .passes) (addImpulses (vecAt s IMPULSES n) solution) >>= onSum
-
-  within-try : (i : ℕ) → Trying i → Out RHS (START - RHS) i
-  within-try i x = inner i (x .1)
-    where
-      inner : (i : ℕ) → Out IMPULSES (START - IMPULSES) i → Out RHS (START - RHS) i
-      inner i x = omega arith
-
-  -- the solve failed
-  fails : {f : Fault} → stop f ≡ solve .answer → r₂ .passes ≡ solve .passes → Corrects s₂ (stop (record { answer = stop f; passes = r₂ .passes }))
-  unfolding correctedBy
-  fails {f} e p = record {
-    kept = kept-more corrected₂ within-try;
-    is = ap (λ (q : ℕ). stop (record { answer = stop f; passes = q })) p ∙ then-stop onSolution (ap (taking (solve .passes)) e);
-  }
+  impulses₂ = kept-vec (d₂ .kept) IMPULSES n (λ i a b. omega arith) ∙ kept-vec (d₁ .kept) IMPULSES n (λ i a b. omega arith)
 
   pub correct-nonconvergent : r₂ .end ≡ Solves.NonConvergent → Corrects s₂ (stop (record { answer = stop nonConvergent; passes = r₂ .passes }))
-  correct-nonconvergent h = fails (nonconvergent-answer r₂ n solved h) (nonconvergent-passes r₂ n solved h)
+  unfolding correctedBy
+  correct-nonconvergent h = record { kept = corrected₂; is = turn-nonconvergent r₂ n solved (addImpulses (vecAt s IMPULSES n)) h }
 
   pub correct-overflow : r₂ .end ≡ Solves.ArithmeticOverflow → Corrects s₂ (stop (record { answer = stop arithmeticOverflow; passes = r₂ .passes }))
-  correct-overflow h = fails (overflow-answer r₂ n solved h) (overflow-passes r₂ n solved h)
+  unfolding correctedBy
+  correct-overflow h = record { kept = corrected₂; is = turn-overflow r₂ n solved (addImpulses (vecAt s IMPULSES n)) h }
 
   pub correct-declined : {A : Type 0} → r₂ .end ≡ Solves.Declined → A
   correct-declined h = not-declined r₂ n solved h
 
   module _ (h : r₂ .end ≡ Solves.Solved) (s₃ : List Float) (r₃ : Outcome) (d₃ : Does (λ i. Out IMPULSES 96 i) s₂ s₃ (ranAs r₃ (vecAt s₃ IMPULSES n)) (addImpulses (vecAt s₂ IMPULSES n) (vecAt s₂ SOLUTION n))) where
     corrected₃ : Kept Trying s s₃
-    corrected₃ = kept-then (kept-more corrected₂ within-try) (d₃ .kept) (λ i x. inner i (x .1))
-      where
-        inner : (i : ℕ) → Out IMPULSES (START - IMPULSES) i → Out IMPULSES 96 i
-        inner i x = omega arith
+    corrected₃ = kept-then corrected₂ (d₃ .kept) (λ i x. omega (arith, x .1))
 
     sums : {x : Result (List Float)} → x ≡ addImpulses (vecAt s₂ IMPULSES n) (vecAt s₂ SOLUTION n) → x ≡ addImpulses (vecAt s IMPULSES n) (vecAt s₂ SOLUTION n)
     sums e = e ∙ ap (λ (v : List Float). addImpulses v (vecAt s₂ SOLUTION n)) impulses₂
 
-    rest₃ : {x : Turn (Took (List Float)) (Took (Result Found))} → x ≡ onSolution (vecAt s₂ SOLUTION n) → x ≡ correctedBy dt cyclic (startedAt ia ib s n size) (vecAt s IMPULSES n) (rowsOn ia ib s ROWS n)
-    unfolding correctedBy
-    rest₃ e = e ∙ then-go onSolution (ap (taking (solve .passes)) (solved-answer r₂ n solved h))
-
     pub correct-over : r₃ ≡ Outcomes.ArithmeticOverflow → Corrects s₃ (stop (record { answer = stop arithmeticOverflow; passes = r₂ .passes }))
-    correct-over q = record {
-      kept = corrected₃;
-      is = ap (λ (q : ℕ). stop (record { answer = stop arithmeticOverflow; passes = q })) (solved-passes r₂ n solved h)
-          ∙ rest₃ (then-stop onSum (ap (taking (solve .passes)) (sums (ran-over (vecAt s₃ IMPULSES n) d₃ q))));
-    }
+    unfolding correctedBy
+    correct-over q = record { kept = corrected₃; is = turn-stops r₂ n solved (addImpulses (vecAt s IMPULSES n)) h (sums (ran-over (vecAt s₃ IMPULSES n) d₃ q)) }
 
     pub correct-next : r₃ ≡ Outcomes.Done → Corrects s₃ (go (record { answer = vecAt s₃ IMPULSES n; passes = r₂ .passes }))
-    correct-next q = record {
-      kept = corrected₃;
-      is = ap (λ (q : ℕ). go (record { answer = vecAt s₃ IMPULSES n; passes = q })) (solved-passes r₂ n solved h)
-          ∙ rest₃ (then-go onSum (ap (taking (solve .passes)) (sums (ran-done (vecAt s₃ IMPULSES n) d₃ q))));
-    }
+    unfolding correctedBy
+    correct-next q = record { kept = corrected₃; is = turn-next r₂ n solved (addImpulses (vecAt s IMPULSES n)) h (sums (ran-done (vecAt s₃ IMPULSES n) d₃ q)) }
 
 -- ---- nonlinear_pass
 module _ (joints : List Joint) (count : ℕ) (dt : Float) (cyclic : Bool) (ia ib : List ℕ) (n size : ℕ) (l : n ≤ 96) (g : size ≤ 16) (s s₁ : List Float) (r₁ : Finish)
@@ -359,9 +320,6 @@ module _ (joints : List Joint) (count : ℕ) (dt : Float) (cyclic : Bool) (ia ib
   pub turned-from : {before t : List Float} → Filled IMPULSES n (λ _. ratio 0 1) before s → {x : Left Found} → Does Trying s t x (nonlinearLoop joints count dt cyclic (startedAt ia ib s n size))
       → Does Trying before t x (nonlinearLoop joints count dt cyclic (startedAt ia ib before n size))
   turned-from f d = record {
-    kept = kept-then (kept-more (f .kept) (λ i x. inner i (x .1))) (d .kept) (λ i x. x);
-    is = d .is ∙ ap (nonlinearLoop joints count dt cyclic) (kept-started (f .kept) ia ib n size l g (λ i x. inner i (x .1)));
+    kept = kept-then (kept-more (f .kept) (λ i x. omega (arith, l, x .1))) (d .kept) (λ i x. x);
+    is = d .is ∙ ap (nonlinearLoop joints count dt cyclic) (kept-started (f .kept) ia ib n size l g (λ i x. omega (arith, l, x .1)));
   }
-    where
-      inner : (i : ℕ) → Out IMPULSES (START - IMPULSES) i → Out IMPULSES n i
-      inner i x = omega (arith, l)

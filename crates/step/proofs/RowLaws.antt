@@ -26,7 +26,7 @@ use Rattle.step.specs.Ready.{Joined, Spread}
 use Rattle.step.specs.View.{startBodyAt, candidateAt}
 use Rattle.step.specs.Step.{jointRows, writeRows}
 use Rattle.step.specs.RunView.{bodiesAt, rowsBefore, Sides}
-use Rattle.step.proofs.TableLaws.{body-in}
+use Rattle.step.proofs.FrameLaws.{body-in}
 
 -- ---- where the rows of a joint stand
 module _ (joints : List Joint) where
@@ -112,8 +112,8 @@ module _ (joints : List Joint) (count : ℕ) (moved : Bool) (rows : ℕ) (s₀ :
     rows-are : writtenAs r t (rows + 14 * n) (jointIn joints k .«body_a») (jointIn joints k .«body_b») ≡ jointRows joints (bodiesAt moved s₀ size) k
     rows-are =
         w .is
-        ∙ ap (λ (x : MomentumBody). writeEqualityRows (jointIn joints k) x b) (body-in s₀ s (so .kept) (λ i x y. omega arith) (λ i x y. omega arith) moved size _ (J .a-there k h) (J .small) ea)
-        ∙ ap (writeEqualityRows (jointIn joints k) _) (body-in s₀ s (so .kept) (λ i x y. omega arith) (λ i x y. omega arith) moved size _ (J .b-there k h) (J .small) eb)
+        ∙ ap (λ (x : MomentumBody). writeEqualityRows (jointIn joints k) x b) (body-in (so .kept) (λ i x y. omega arith) (λ i x y. omega arith) moved size _ (J .a-there k h) (J .small) ea)
+        ∙ ap (writeEqualityRows (jointIn joints k) _) (body-in (so .kept) (λ i x y. omega arith) (λ i x y. omega arith) moved size _ (J .b-there k h) (J .small) eb)
 
     case : {x : Written} → r ≡ x → writtenAs x t (rows + 14 * n) (jointIn joints k .«body_a») (jointIn joints k .«body_b») ≡ jointRows joints (bodiesAt moved s₀ size) k
     case q = sym (ap (λ (y : Written). writtenAs y t (rows + 14 * n) (jointIn joints k .«body_a») (jointIn joints k .«body_b»)) q) ∙ rows-are

@@ -14,7 +14,6 @@ use Rattle.rows.specs.declared.geometry.Written.the-variants as Written
 use Rattle.rows.specs.Answer.{Writes}
 use Rattle.rows.specs.Region.{count-most}
 use Rattle.solves.specs.View.{Rows}
-use Rattle.step.specs.declared.Outcome.the-variants as Outcomes
 use Rattle.step.specs.Ready.{Joined, RowBodies, Spread}
 
 -- a joint has at most six rows

@@ -1,5 +1,5 @@
 -- The functions of integrator.rt that fill one table of the scratch each: bodies, masses, rows, impulses, states.
-use Prim.Native.Nat.{ℕ, _+_, _*_, _-_, _≤_, _<_}
+use Prim.Native.Nat.{ℕ, _+_, _*_, _≤_, _<_}
 use mathlib.Core.Path.{_≡_, refl, sym, _∙_, ap, subst}
 use mathlib.Core.Bool.{Bool, true, false, cond, not, _&&_}
 use mathlib.Core.List.{List}
@@ -25,15 +25,15 @@ use Rattle.rows.specs.declared.body.MomentumBody.{MomentumBody}
 use Rattle.rows.specs.declared.geometry.EqualityRow.{EqualityRow}
 use Rattle.rows.specs.Fault.{Fault, arithmeticOverflow, Result}
 use Rattle.rows.specs.Body.{newOf, kickOf, driftOf, stateWith, stateOf}
-use Rattle.rows.specs.AnswerLaws.{answer-is}
+use Rattle.rows.specs.AnswerLaws.{answer-is, answer-done, answer-nonconvergent, answer-overflow}
 use Rattle.rows.specs.View.{at, Out, Kept}
 use Rattle.rows.specs.Answer.{answerOf, finishAs, bodyAs}
-use Rattle.rows.specs.Region.{Over, tab-length, tab-ext, tab-at, kept-refl, kept-set, kept-then, kept-more}
+use Rattle.rows.specs.Region.{tab-length, tab-ext, tab-at, kept-refl, kept-set, kept-then, kept-more}
 use Rattle.rows.specs.Laws.Results.{go-same}
 use Rattle.solves.specs.declared.places.Generalized.{Generalized}
 use Rattle.solves.specs.declared.places.MassResponse.{MassResponse}
 use Rattle.solves.specs.Region.{vecAt, Filled, Does}
-use Rattle.solves.specs.RegionLaws.{vec-at, vec-more, filled-vec, filled-more}
+use Rattle.solves.specs.RegionLaws.{vec-at, filled-vec, filled-more}
 use Rattle.solves.specs.Solver.{noRow, rowIn, generalizedIn, tryNumber}
 use Rattle.solves.specs.declared.Outcome.{Outcome}
 use Rattle.solves.specs.declared.Outcome.the-variants as Outcomes
@@ -45,9 +45,10 @@ use Rattle.step.specs.declared.integrator.MassAnswer.{MassAnswer}
 use Rattle.step.specs.Records.{recordAt, recordsOf, bodyCount, stateAt}
 use Rattle.step.specs.View.{colsOf, startBodyAt, candidateAt, startBodiesAt, candidatesAt, statesAt, heldOf, movedTo}
 use Rattle.step.specs.ViewLaws.{kept-start, kept-candidate, kept-state}
-use Rattle.step.specs.Step.{noBody, noRecord, bodyIn, recordIn, startBodies, massResponse, prepareMasses, kickAndDrift, moveBodies, rowsMet, rhsOf, addImpulses, statesOf}
+use Rattle.step.specs.Step.{noRecord, bodyIn, recordIn, startBodies, massResponse, prepareMasses, kickAndDrift, moveBodies, rowsMet, rhsOf, addImpulses, statesOf}
 use Rattle.step.specs.RunView.{bodiesAt, massAs}
-use Rattle.step.proofs.EachLaws.{so-none, so-more, so-stop, so-end}
+use Rattle.step.proofs.FrameLaws.{candidate-in, start-in, body-in}
+use Rattle.step.proofs.EachLaws.{so-none, so-more, so-put, so-stop, so-end}
 use Rattle.step.proofs.MotionLaws.{drift-moved, new-held}
 
 -- ---- start_bodies
@@ -81,12 +82,6 @@ module _ (bodies : List Float) (n : ℕ) (s₀ : List Float) where
   pub begin-ends : (k : ℕ) (s : List Float) → Begun k s → k ≤ n → n ≤ k → n ≤ 16 → Does (λ i. Out START 416 i) s₀ s (go (startBodiesAt s n)) (startBodies (tab n (recordAt bodies)))
   unfolding startBodies
   begin-ends k s so a b l = so-end startBodyAt begin s₀ k s so (λ i. Out START 416 i) (λ i x. omega arith) n (sym (tab-length n (recordAt bodies))) a b
-
--- ---- load_moved, and its body in the list
-pub body-in : {P : ℕ → Type 0} (s t : List Float) → Kept P s t → Over P START 416 → Over P CANDIDATE 208 → (moved : Bool) (n k : ℕ) → k < n → n ≤ 16
-    → {body : MomentumBody} → body ≡ cond moved (candidateAt t k) (startBodyAt t k) → body ≡ bodyIn (bodiesAt moved s n) k
-body-in s t kept v w true n k h l e = e ∙ kept-candidate kept k (λ i a b. w i (omega arith) (omega arith)) (λ i a b. v i (omega arith) (omega arith)) ∙ sym (tab-at n (candidateAt s) noBody k h)
-body-in s t kept v w false n k h l e = e ∙ kept-start kept k (λ i a b. v i (omega arith) (omega arith)) ∙ sym (tab-at n (startBodyAt s) noBody k h)
 
 bodies-length : (moved : Bool) (s : List Float) (n : ℕ) → n ≡ length (bodiesAt moved s n)
 bodies-length true s n = sym (tab-length n (candidateAt s))
@@ -142,7 +137,7 @@ module _ (moved : Bool) (n : ℕ) (s₀ : List Float) where
 
   module _ (k : ℕ) (s : List Float) (so : Weighed k s) (h : k < n) (l : n ≤ 16) {body : MomentumBody} (eb : body ≡ cond moved (candidateAt s k) (startBodyAt s k)) where
     weigh-turn : massResponse body ≡ weigh k
-    weigh-turn = ap massResponse (body-in s₀ s (so .kept) (λ i a b. omega arith) (λ i a b. omega arith) moved n k h l eb)
+    weigh-turn = ap massResponse (body-in (so .kept) (λ i a b. omega arith) (λ i a b. omega arith) moved n k h l eb)
 
     pub weigh-again : {t : List Float} (r : Outcome) → r ≡ Outcomes.Done → Does (λ j. Out (MASSES + 10 * k) 10 j) s t (ranAs r (massAt t MASSES k)) (massResponse body) → Weighed (k + 1) t
     weigh-again {t} r q d = record {
@@ -171,28 +166,19 @@ mass-is body {turned} {a} {b} {f} {g} {h} et ea eb ef eg eh =
     answer : OptionMat3 → Mat3 → Result MassResponse
     answer t angular = cond (t .some && finiteMat angular && isFinite (ratio 1 1 ⊘ body .mass)) (go (record { linear = ratio 1 1 ⊘ body .mass; angular = angular })) (stop arithmeticOverflow)
 
--- ---- kick_and_drift, and the cases of a body's answer
-pub body-case : (r : BodyAnswer) {x : Finish} {d : Result MomentumBody} → bodyAs r ≡ d → r .outcome ≡ x → finishAs x (r .body) ≡ d
-body-case r e h = sym (ap (λ (o : Finish). finishAs o (r .body)) h) ∙ e
-
+-- ---- kick_and_drift
 module _ (dt : Float) (body : MomentumBody) (kick : Generalized) {kicked : BodyAnswer} (e : kicked ≡ answerOf body (kickOf body (kick .linear) (kick .angular))) where
-  kick-is : bodyAs kicked ≡ kickOf body (kick .linear) (kick .angular)
-  kick-is = ap bodyAs e ∙ answer-is body (kickOf body (kick .linear) (kick .angular))
-
   abbrev drifting : MomentumBody → Result MomentumBody
   drifting b = driftOf b dt
 
   pub kick-drifts : {r : BodyAnswer} → kicked .outcome ≡ Ends.Done → r ≡ answerOf (kicked .body) (driftOf (kicked .body) dt) → bodyAs r ≡ kickAndDrift dt body kick
-  kick-drifts h q = ap bodyAs q ∙ answer-is (kicked .body) (driftOf (kicked .body) dt) ∙ then-go drifting (body-case kicked kick-is h)
-
-  kick-fails : {f : Fault} → stop f ≡ kickOf body (kick .linear) (kick .angular) → bodyAs kicked ≡ kickAndDrift dt body kick
-  kick-fails q = kick-is ∙ sym q ∙ then-stop drifting q
+  kick-drifts h q = ap bodyAs q ∙ answer-is (kicked .body) (driftOf (kicked .body) dt) ∙ then-go drifting (answer-done body _ e h)
 
   pub kick-nonconvergent : kicked .outcome ≡ Ends.NonConvergent → bodyAs kicked ≡ kickAndDrift dt body kick
-  kick-nonconvergent h = kick-fails (body-case kicked kick-is h)
+  kick-nonconvergent h = ap (λ (o : Finish). finishAs o (kicked .body)) h ∙ then-stop drifting (answer-nonconvergent body _ e h)
 
   pub kick-overflow : kicked .outcome ≡ Ends.ArithmeticOverflow → bodyAs kicked ≡ kickAndDrift dt body kick
-  kick-overflow h = kick-fails (body-case kicked kick-is h)
+  kick-overflow h = ap (λ (o : Finish). finishAs o (kicked .body)) h ∙ then-stop drifting (answer-overflow body _ e h)
 
 -- ---- move_bodies
 module _ (dt : Float) (n : ℕ) (s₀ : List Float) where
@@ -210,7 +196,7 @@ module _ (dt : Float) (n : ℕ) (s₀ : List Float) where
     move-turn : d ≡ move k
     move-turn =
         let g : share ≡ generalizedIn (generalizedsAt s₀ GENERALIZED n) k = share-in (so .kept) GENERALIZED n k (λ i a b. omega arith) h eg in
-        let b : start ≡ bodyIn (startBodiesAt s₀ n) k = eb ∙ kept-start (so .kept) k (λ i a b. omega arith) ∙ sym (tab-at n (startBodyAt s₀) noBody k h) in
+        let b : start ≡ bodyIn (startBodiesAt s₀ n) k = start-in (so .kept) n k (λ i a b. omega arith) h eb in
         e ∙ ap (λ (x : MomentumBody). kickAndDrift dt x share) b ∙ ap (kickAndDrift dt (bodyIn (startBodiesAt s₀ n) k)) g
 
     pub move-again : {t : List Float} {b : MomentumBody} → go b ≡ d → (Kept (λ j. Out (CANDIDATE + 13 * k) 13 j) s t) × (candidateAt t k ≡ movedTo b (startBodyAt s k)) → Moved (k + 1) t
@@ -279,10 +265,7 @@ module _ (n : ℕ) (s₀ : List Float) where
         cc
 
     pub sum-again : b ≡ true → Summed (k + 1) (set s (IMPULSES + k) (at s (IMPULSES + k) ⊕ at s (SOLUTION + k)))
-    sum-again q = record {
-      kept = kept-then (kept-more (so .kept) (λ i x. omega arith)) (kept-set s (IMPULSES + k) _) (λ i x. omega arith);
-      is = ap go (vec-more s IMPULSES k _ g) ∙ each-more sum (so .is) (number-yes sum-is e q);
-    }
+    sum-again q = so-put IMPULSES sum s₀ k s so (λ i. Out IMPULSES (k + 1) i) (λ i x. omega arith) _ (λ i x. omega arith) g (number-yes sum-is e q)
 
     pub sum-stops : b ≡ false → Does (λ i. Out IMPULSES 96 i) s₀ (set s (IMPULSES + k) (at s (IMPULSES + k) ⊕ at s (SOLUTION + k))) (stop arithmeticOverflow) (addImpulses (vecAt s₀ IMPULSES n) (vecAt s₀ SOLUTION n))
     unfolding addImpulses
@@ -312,7 +295,7 @@ module _ (bodies : List Float) (n : ℕ) (s₀ : List Float) where
       (eb : body ≡ candidateAt s k) (e : d ≡ stateOf body (stateAt bodies (26 * k))) where
     state-turn : d ≡ stating k
     state-turn =
-        let b : body ≡ bodyIn (candidatesAt s₀ n) k = eb ∙ kept-candidate (so .kept) k (λ i x y. omega arith) (λ i x y. omega arith) ∙ sym (tab-at n (candidateAt s₀) noBody k h) in
+        let b : body ≡ bodyIn (candidatesAt s₀ n) k = candidate-in (so .kept) n k (λ i x y. omega arith) (λ i x y. omega arith) h eb in
         e ∙ ap (λ (x : MomentumBody). stateOf x (stateAt bodies (26 * k))) b ∙ ap (λ (x : RigidBody). stateOf (bodyIn (candidatesAt s₀ n) k) (old k x)) (sym (tab-at (bodyCount bodies) (recordAt bodies) noRecord k (omega arith)))
 
     pub state-again : {t : List Float} {state : BodyState} → go state ≡ d → (Kept (λ j. Out (CANDIDATE + 13 * k) 13 j) s t) × (stateAt t (CANDIDATE + 13 * k) ≡ state) → Stated (k + 1) t

@@ -1,5 +1,5 @@
 -- The velocity loop: from reads of the scratch and the calls' contracts to the definitions over lists.
-use Prim.Native.Nat.{ℕ, _+_, _*_, _-_, _^_, _≤_, _<_}
+use Prim.Native.Nat.{ℕ, _+_, _*_, _^_, _≤_, _<_}
 use mathlib.Core.Path.{_≡_, refl, sym, _∙_, ap, subst}
 use mathlib.Core.Bool.{Bool, true, false}
 use mathlib.Core.List.{List}
@@ -8,8 +8,8 @@ use lib.ListN.{length, set}
 use lib.Ieee as Ieee
 use lib.Ieee.{Float, ofBits, round}
 use Rattle.arith.specs.Real.{F, ratio, isFinite, absOf, _⊕_}
-use Rattle.arith.specs.Flow.{Turn, go, stop, _>>=_, tab, each, every}
-use Rattle.arith.specs.FlowLaws.{then-go, then-stop, each-none, each-more, each-stop, each-end, every-fail, every-end}
+use Rattle.arith.specs.Flow.{Turn, go, stop, _>>=_, each, every}
+use Rattle.arith.specs.FlowLaws.{then-go, then-stop, every-fail, every-end}
 use Rattle.vectors.specs.declared.vector.Vec3.{Vec3}
 use Rattle.vectors.specs.declared.vector.OptionVec3.{OptionVec3}
 use Rattle.vectors.specs.declared.vector.OptionVec3.the-variants.{Some, None}
@@ -17,40 +17,37 @@ use Rattle.vectors.specs.Vector.{dotOf, divOf}
 use Rattle.rows.specs.declared.body.Finish.{Finish}
 use Rattle.rows.specs.declared.body.Finish.the-variants as Ends
 use Rattle.rows.specs.declared.body.MomentumBody.{MomentumBody}
-use Rattle.rows.specs.declared.body.BodyAnswer.{BodyAnswer}
 use Rattle.rows.specs.declared.geometry.EqualityRow.{EqualityRow}
 use Rattle.rows.specs.Fault.{Fault, nonConvergent, arithmeticOverflow, Result, vectorOr}
 use Rattle.rows.specs.Body.{omegaOf, kickOf}
 use Rattle.rows.specs.View.{at, Out, Kept}
-use Rattle.rows.specs.Region.{tab-length, tab-at, kept-set, kept-refl, kept-then, kept-more, Over}
-use Rattle.rows.specs.Answer.{answerOf, finishAs}
-use Rattle.rows.specs.AnswerLaws.{vector-go, vector-stop, answer-done, answer-nonconvergent, answer-overflow}
+use Rattle.rows.specs.Region.{tab-length, kept-refl, kept-then, kept-more}
+use Rattle.rows.specs.Answer.{finishAs}
+use Rattle.rows.specs.AnswerLaws.{vector-go, vector-stop}
 use Rattle.solves.specs.declared.places.Generalized.{Generalized}
 use Rattle.solves.specs.declared.Outcome.{Outcome}
 use Rattle.solves.specs.declared.Outcome.the-variants as Outcomes
 use Rattle.solves.specs.declared.End.the-variants as Solved
 use Rattle.solves.specs.declared.Ended.{Ended}
-use Rattle.solves.specs.Solver.{rowIn, generalizedIn, transpose, Solve}
+use Rattle.solves.specs.Solver.{rowIn, generalizedIn, transpose}
 use Rattle.solves.specs.Path.{ended, linearSolve}
 use Rattle.solves.specs.Answer.{ranAs, solveAs}
 use Rattle.solves.specs.Region.{vecAt, Does}
-use Rattle.solves.specs.RegionLaws.{vec-at, vec-more}
-use Rattle.solves.specs.View.{ROWS, MASSES, RHS, SOLUTION, GENERALIZED, START, CANDIDATE, Rows, Shares, Work, rowOn, rowsOn, generalizedAt, generalizedsAt, massesAt}
+use Rattle.solves.specs.RegionLaws.{vec-at}
+use Rattle.solves.specs.View.{ROWS, MASSES, RHS, SOLUTION, GENERALIZED, CANDIDATE, Rows, Shares, Work, rowOn, rowsOn, generalizedAt, generalizedsAt, massesAt}
 use Rattle.solves.specs.ViewLaws.{kept-rows, kept-masses, row-in, share-in}
 use Rattle.solves.specs.DoesLaws.{number-yes, number-no, goes-on, returns-if, ran-done, ran-over, does-stop, does-then}
 use Rattle.step.specs.declared.passes.PassEnd.the-variants as Passes
 use Rattle.step.specs.declared.passes.Passed.{Passed}
 use Rattle.step.specs.View.{startBodyAt, candidateAt, candidatesAt, movedTo}
-use Rattle.step.specs.ViewLaws.{kept-candidate, kept-candidates, candidates-more}
-use Rattle.step.specs.Step.{noBody, bodyIn, Took, taking, velocityOf, velocityRhs, compatibleOf, kickBodies, reactionOf, velocitiesBy, velocityPass, velocityLoop}
+use Rattle.step.specs.ViewLaws.{kept-candidate, kept-candidates}
+use Rattle.step.specs.Step.{bodyIn, Took, taking, velocityOf, velocityRhs, compatibleOf, kickBodies, reactionOf, velocitiesBy, velocityPass, velocityLoop}
 use Rattle.step.specs.RunView.{Correcting, passAs, loopedAs}
+use Rattle.step.proofs.FrameLaws.{candidate-in}
+use Rattle.step.proofs.EachLaws.{so-none, so-more, so-put, so-stop, so-end}
 use Rattle.step.proofs.MotionLaws.{kick-moved}
 use Rattle.step.proofs.PassLaws.{Reached, reached-none, reached-next, left-met, left-nonconvergent, left-overflow, left-spent}
-use Rattle.step.proofs.SolveLaws.{solved-answer, solved-passes, nonconvergent-answer, nonconvergent-passes, overflow-answer, overflow-passes, not-declined}
-
--- a candidate that was loaded is one of the list
-pub body-in : {P : ℕ → Type 0} {s t : List Float} → Kept P s t → (m i : ℕ) {b : MomentumBody} → Over P (CANDIDATE + 13 * i) 13 → Over P (START + 26 * i + 13) 13 → i < m → b ≡ candidateAt t i → b ≡ bodyIn (candidatesAt s m) i
-body-in {P} {s} kept m i v w h e = e ∙ kept-candidate kept i v w ∙ sym (tab-at m (candidateAt s) noBody i h)
+use Rattle.step.proofs.SolveLaws.{finish-case, turn-nonconvergent, turn-overflow, turn-next, turn-stops, not-declined}
 
 -- velocity
 module _ (row : EqualityRow) (a b : MomentumBody) {o : OptionVec3} (ea : vectorOr arithmeticOverflow o ≡ omegaOf a) where
@@ -77,8 +74,12 @@ module _ (row : EqualityRow) (a b : MomentumBody) {o : OptionVec3} (ea : vectorO
       velocity-4 h = number-no total et h ∙ then-go _ (vector-go eb hb) ∙ then-go _ (vector-go ea ha)
 
 -- velocity_rhs
-abbrev pub rhsTurn : List EqualityRow → List MomentumBody → ℕ → Result Float
-rhsTurn rows candidate k = velocityOf (rowIn rows k) (bodyIn candidate (rowIn rows k .a)) (bodyIn candidate (rowIn rows k .b)) >>= λ (value : Float). go (Ieee.neg value)
+module _ (ia ib : List ℕ) (n bodies : ℕ) (s₀ : List Float) where
+  abbrev oppose : ℕ → Result Float
+  oppose k = velocityOf (rowIn (rowsOn ia ib s₀ ROWS n) k) (bodyIn (candidatesAt s₀ bodies) (rowIn (rowsOn ia ib s₀ ROWS n) k .a)) (bodyIn (candidatesAt s₀ bodies) (rowIn (rowsOn ia ib s₀ ROWS n) k .b)) >>= λ (value : Float). go (Ieee.neg value)
+
+  abbrev pub Opposed : ℕ → List Float → Type 0
+  Opposed k s = Does (λ i. Out RHS 96 i) s₀ s (go (vecAt s RHS k)) (each k oppose)
 
 module _ {s₀ : List Float} {ia ib : List ℕ} {n bodies : ℕ} (pre : Rows s₀ ia ib ROWS n bodies) where
   abbrev R : List EqualityRow
@@ -87,15 +88,8 @@ module _ {s₀ : List Float} {ia ib : List ℕ} {n bodies : ℕ} (pre : Rows s�
   abbrev C : List MomentumBody
   C = candidatesAt s₀ bodies
 
-  abbrev turnR : ℕ → Result Float
-  turnR = rhsTurn R C
-
-  abbrev pub RhsSo : ℕ → List Float → Type 0
-  RhsSo k s = Does (λ i. Out RHS 96 i) s₀ s (go (vecAt s RHS k)) (each k turnR)
-
-  pub rhs-none : RhsSo 0 s₀
-  unfolding tab
-  rhs-none = record { kept = kept-refl _ s₀; is = each-none turnR }
+  pub rhs-none : Opposed ia ib n bodies s₀ 0 s₀
+  rhs-none = so-none (λ s k. at s (RHS + k)) (oppose ia ib n bodies s₀) s₀ _
 
   -- a loaded row is on bodies of the list
   module _ {k : ℕ} (h : k < n) (s : List Float) {row : EqualityRow} (er : row ≡ rowOn ia ib s ROWS k) where
@@ -105,38 +99,28 @@ module _ {s₀ : List Float} {ia ib : List ℕ} {n bodies : ℕ} (pre : Rows s�
     pub row-b : row .b < bodies
     row-b = subst (λ (q : EqualityRow). q .b < bodies) (sym er) (pre .b-there k h)
 
-  module _ {k : ℕ} {s : List Float} {row : EqualityRow} {a b : MomentumBody} (inv : RhsSo k s) (h : k < n) (er : row ≡ rowOn ia ib s ROWS k) (ea : a ≡ candidateAt s (row .a)) (eb : b ≡ candidateAt s (row .b)) where
+  module _ {k : ℕ} {s : List Float} {row : EqualityRow} {a b : MomentumBody} (so : Opposed ia ib n bodies s₀ k s) (h : k < n) (er : row ≡ rowOn ia ib s ROWS k) (ea : a ≡ candidateAt s (row .a)) (eb : b ≡ candidateAt s (row .b)) where
     rhs-turn : velocityOf row a b ≡ velocityOf (rowIn R k) (bodyIn C (rowIn R k .a)) (bodyIn C (rowIn R k .b))
     rhs-turn =
-        let x : row ≡ rowIn R k = row-in (inv .kept) ia ib ROWS n k (λ i p q. omega (arith, pre .most)) h er in
+        let x : row ≡ rowIn R k = row-in (so .kept) ia ib ROWS n k (λ i p q. omega (arith, pre .most)) h er in
         let la : row .a < bodies = row-a h s er in
         let lb : row .b < bodies = row-b h s er in
         let most : bodies ≤ 16 = pre .bodies in
-        let y : a ≡ bodyIn C (row .a) = body-in (inv .kept) bodies (row .a) (λ i p q. omega arith) (λ i p q. omega arith) la ea in
-        let z : b ≡ bodyIn C (row .b) = body-in (inv .kept) bodies (row .b) (λ i p q. omega arith) (λ i p q. omega arith) lb eb in
+        let y : a ≡ bodyIn C (row .a) = candidate-in (so .kept) bodies (row .a) (λ i p q. omega arith) (λ i p q. omega arith) la ea in
+        let z : b ≡ bodyIn C (row .b) = candidate-in (so .kept) bodies (row .b) (λ i p q. omega arith) (λ i p q. omega arith) lb eb in
         cc
 
-    pub rhs-again : {v : Float} → go v ≡ velocityOf row a b → RhsSo (k + 1) (set s (RHS + k) (Ieee.neg v))
-    rhs-again {v} e = record {
-      kept = kept-then (inv .kept) (kept-set s (RHS + k) (Ieee.neg v)) (λ i p. omega (arith, pre .most));
-      is = ap go (vec-more s RHS k (Ieee.neg v) (omega (arith, pre .most, pre .whole, inv .kept .size))) ∙ each-more turnR (inv .is) (then-go _ (e ∙ rhs-turn));
-    }
+    pub rhs-again : {v : Float} → go v ≡ velocityOf row a b → Opposed ia ib n bodies s₀ (k + 1) (set s (RHS + k) (Ieee.neg v))
+    rhs-again {v} e = so-put RHS (oppose ia ib n bodies s₀) s₀ k s so (λ i. Out RHS 96 i) (λ i x. x) (Ieee.neg v) (λ i x. omega (arith, pre .most)) (omega (arith, pre .most, pre .whole, so .kept .size)) (then-go _ (e ∙ rhs-turn))
 
     pub rhs-stops : stop arithmeticOverflow ≡ velocityOf row a b → Does (λ i. Out RHS 96 i) s₀ s (stop arithmeticOverflow) (velocityRhs R C)
     unfolding velocityRhs
-    rhs-stops e = record {
-      kept = inv .kept;
-      is = each-stop turnR n h (inv .is) (then-stop _ (e ∙ rhs-turn)) ∙ ap (λ (m : ℕ). each m turnR) (sym (tab-length n (rowOn ia ib s₀ ROWS)));
-    }
+    rhs-stops e =
+        so-stop (λ s k. at s (RHS + k)) (oppose ia ib n bodies s₀) s₀ k s so (λ i. Out RHS 96 i) (λ i x. x) (sym (tab-length n (rowOn ia ib s₀ ROWS))) h (kept-refl (λ i. Out RHS 96 i) s) (λ i x. x) (then-stop _ (e ∙ rhs-turn))
 
-  pub rhs-ends : {k : ℕ} {s : List Float} → RhsSo k s → k ≤ n → n ≤ k → Does (λ i. Out RHS 96 i) s₀ s (go (vecAt s RHS n)) (velocityRhs R C)
+  pub rhs-ends : {k : ℕ} {s : List Float} → Opposed ia ib n bodies s₀ k s → k ≤ n → n ≤ k → Does (λ i. Out RHS 96 i) s₀ s (go (vecAt s RHS n)) (velocityRhs R C)
   unfolding velocityRhs
-  rhs-ends {k} {s} inv a b =
-      let same : k ≡ n = omega arith in
-      record {
-        kept = inv .kept;
-        is = ap (λ (m : ℕ). go (vecAt s RHS m)) (sym same) ∙ each-end turnR a b (inv .is) ∙ ap (λ (m : ℕ). each m turnR) (sym (tab-length n (rowOn ia ib s₀ ROWS)));
-      }
+  rhs-ends {k} {s} so a b = so-end (λ s k. at s (RHS + k)) (oppose ia ib n bodies s₀) s₀ k s so (λ i. Out RHS 96 i) (λ i x. x) n (sym (tab-length n (rowOn ia ib s₀ ROWS))) a b
 
 -- compatible
 pub tenth-12 : F 0x3d71_9799_812d_ea11 ≡ ratio 1 (10 ^ 12)
@@ -161,71 +145,46 @@ module _ (s : List Float) (n : ℕ) where
   compatible-ends a b e = every-end small a b e ∙ ap (λ (m : ℕ). every m small) (sym (tab-length n (λ j. at s (RHS + j))))
 
 -- kick_candidates
-abbrev pub kickTurn : List MomentumBody → List Generalized → ℕ → Result MomentumBody
-kickTurn candidate generalized k = kickOf (bodyIn candidate k) (generalizedIn generalized k .linear) (generalizedIn generalized k .angular)
-
-module _ (s₀ : List Float) (bodies : ℕ) (most : bodies ≤ 16) where
+module _ (s₀ : List Float) (bodies : ℕ) where
   abbrev B : List MomentumBody
   B = candidatesAt s₀ bodies
 
   abbrev G : List Generalized
   G = generalizedsAt s₀ GENERALIZED bodies
 
-  abbrev kicking : ℕ → Result MomentumBody
-  kicking = kickTurn B G
+  abbrev kick : ℕ → Result MomentumBody
+  kick k = kickOf (bodyIn B k) (generalizedIn G k .linear) (generalizedIn G k .angular)
 
-  abbrev pub KickSo : ℕ → List Float → Type 0
-  KickSo k s = Does (λ i. Out CANDIDATE (13 * k) i) s₀ s (go (candidatesAt s k)) (each k kicking)
+  abbrev pub Kicked : ℕ → List Float → Type 0
+  Kicked k s = Does (λ i. Out CANDIDATE (13 * k) i) s₀ s (go (candidatesAt s k)) (each k kick)
 
-  pub kick-none : KickSo 0 s₀
-  unfolding tab
-  kick-none = record { kept = kept-refl _ s₀; is = each-none kicking }
+  pub kick-none : Kicked 0 s₀
+  kick-none = so-none candidateAt kick s₀ _
 
-  long : each bodies kicking ≡ kickBodies B G
-  unfolding kickBodies
-  long = ap (λ (m : ℕ). each m kicking) (sym (tab-length bodies (candidateAt s₀)))
-
-  module _ {k : ℕ} {s : List Float} {share : Generalized} {old : MomentumBody} {r : BodyAnswer} (inv : KickSo k s) (h : k < bodies)
-      (es : share ≡ generalizedAt s GENERALIZED k) (eo : old ≡ candidateAt s k) (er : r ≡ answerOf old (kickOf old (share .linear) (share .angular))) where
-    kick-turn : kickOf old (share .linear) (share .angular) ≡ kicking k
+  module _ {k : ℕ} {s : List Float} (so : Kicked k s) (h : k < bodies) (most : bodies ≤ 16) {share : Generalized} {old : MomentumBody} {d : Result MomentumBody}
+      (es : share ≡ generalizedAt s GENERALIZED k) (eo : old ≡ candidateAt s k) (e : d ≡ kickOf old (share .linear) (share .angular)) where
+    kick-turn : d ≡ kick k
     kick-turn =
-        let a : share ≡ generalizedIn G k = share-in (inv .kept) GENERALIZED bodies k (λ i x y. omega arith) h es in
-        let b : old ≡ bodyIn B k = body-in (inv .kept) bodies k (λ i x y. omega arith) (λ i x y. omega arith) h eo in
+        let a : share ≡ generalizedIn G k = share-in (so .kept) GENERALIZED bodies k (λ i x y. omega arith) h es in
+        let b : old ≡ bodyIn B k = candidate-in (so .kept) bodies k (λ i x y. omega arith) (λ i x y. omega arith) h eo in
         cc
 
-    pub kick-again : {t : List Float} → r .outcome ≡ Ends.Done → (Kept (λ j. Out (CANDIDATE + 13 * k) 13 j) s t) × (candidateAt t k ≡ movedTo (r .body) (startBodyAt s k)) → KickSo (k + 1) t
-    kick-again {t} q st = record {
-      kept = kept-then (kept-more (inv .kept) (λ i x. omega arith)) (st .0) (λ i x. omega arith);
-      is = ap go (candidates-more k (omega arith) (st .0, st .1 ∙ whole)) ∙ each-more kicking (inv .is) (kicked ∙ kick-turn);
-    }
-      where
-        kicked : go (r .body) ≡ kickOf old (share .linear) (share .angular)
-        kicked = answer-done old _ er q
+    pub kick-again : {t : List Float} {b : MomentumBody} → go b ≡ d → (Kept (λ j. Out (CANDIDATE + 13 * k) 13 j) s t) × (candidateAt t k ≡ movedTo b (startBodyAt s k)) → Kicked (k + 1) t
+    kick-again {t} {b} q st =
+        so-more candidateAt kick s₀ k s so (λ i. Out CANDIDATE (13 * (k + 1)) i) (λ i x. omega arith) (st .0) (λ i x. omega arith)
+        (λ i g. kept-candidate (st .0) i (λ j x y. omega arith) (λ j x y. omega arith))
+        (st .1 ∙ kick-moved (startBodyAt s k) (candidateAt s k) (share .linear) (share .angular) refl refl refl (q ∙ e ∙ ap (λ (x : MomentumBody). kickOf x (share .linear) (share .angular)) eo)) (q ∙ kick-turn)
 
-        whole : movedTo (r .body) (startBodyAt s k) ≡ r .body
-        whole = kick-moved (startBodyAt s k) (candidateAt s k) (share .linear) (share .angular) refl refl refl (kicked ∙ ap (λ (b : MomentumBody). kickOf b (share .linear) (share .angular)) eo)
+    pub kick-stops : {f : Fault} → stop f ≡ d → Does (λ i. Out CANDIDATE 208 i) s₀ s (stop f) (kickBodies B G)
+    unfolding kickBodies
+    kick-stops q =
+        so-stop candidateAt kick s₀ k s so (λ i. Out CANDIDATE 208 i) (λ i x. omega arith) (sym (tab-length bodies (candidateAt s₀))) h (kept-refl (λ i. Out CANDIDATE 208 i) s) (λ i x. x) (q ∙ kick-turn)
 
-    stops : {f : Fault} → stop f ≡ kickOf old (share .linear) (share .angular) → Does (λ i. Out CANDIDATE 208 i) s₀ s (stop f) (kickBodies B G)
-    stops q = record { kept = kept-more (inv .kept) (λ i x. omega arith); is = each-stop kicking bodies h (inv .is) (q ∙ kick-turn) ∙ long }
-
-    pub kick-nonconvergent : r .outcome ≡ Ends.NonConvergent → Does (λ i. Out CANDIDATE 208 i) s₀ s (stop nonConvergent) (kickBodies B G)
-    kick-nonconvergent q = stops (answer-nonconvergent old _ er q)
-
-    pub kick-overflow : r .outcome ≡ Ends.ArithmeticOverflow → Does (λ i. Out CANDIDATE 208 i) s₀ s (stop arithmeticOverflow) (kickBodies B G)
-    kick-overflow q = stops (answer-overflow old _ er q)
-
-  pub kick-ends : {k : ℕ} {s : List Float} → KickSo k s → k ≤ bodies → bodies ≤ k → Does (λ i. Out CANDIDATE 208 i) s₀ s (go (candidatesAt s bodies)) (kickBodies B G)
-  kick-ends {k} {s} inv a b =
-      let same : k ≡ bodies = omega arith in
-      record {
-        kept = kept-more (inv .kept) (λ i x. omega arith);
-        is = ap (λ (m : ℕ). go (candidatesAt s m)) (sym same) ∙ each-end kicking a b (inv .is) ∙ long;
-      }
+  pub kick-ends : {k : ℕ} {s : List Float} → Kicked k s → k ≤ bodies → bodies ≤ k → bodies ≤ 16 → Does (λ i. Out CANDIDATE 208 i) s₀ s (go (candidatesAt s bodies)) (kickBodies B G)
+  unfolding kickBodies
+  kick-ends {k} {s} so a b most = so-end candidateAt kick s₀ k s so (λ i. Out CANDIDATE 208 i) (λ i x. omega arith) bodies (sym (tab-length bodies (candidateAt s₀))) a b
 
 -- apply
-in-shares : (i : ℕ) → Out RHS (START - RHS) i → Shares i
-in-shares i x = omega arith
-
 module _ {s : List Float} {ia ib : List ℕ} {n bodies : ℕ} (pre : Rows s ia ib ROWS n bodies) {t : List Float} (r : Outcome)
     (d : Does Shares s t (ranAs r (generalizedsAt t GENERALIZED bodies)) (transpose (rowsOn ia ib s ROWS n) (vecAt s SOLUTION n) bodies)) where
   -- `length candidate` is bodies
@@ -234,12 +193,12 @@ module _ {s : List Float} {ia ib : List ℕ} {n bodies : ℕ} (pre : Rows s ia i
 
   pub apply-stops : r ≡ Outcomes.ArithmeticOverflow → Does Correcting s t (stop arithmeticOverflow) (reactionOf (rowsOn ia ib s ROWS n) (candidatesAt s bodies) (vecAt s SOLUTION n))
   unfolding reactionOf
-  apply-stops h = does-stop _ first Correcting _ (λ i x. in-shares i (x .0)) h
+  apply-stops h = does-stop _ first Correcting _ (λ i x. omega (arith, x .0)) h
 
   pub apply-then : r ≡ Outcomes.Done → {u : List Float} {y : Result (List MomentumBody)} → Does (λ i. Out CANDIDATE 208 i) t u y (kickBodies (candidatesAt t bodies) (generalizedsAt t GENERALIZED bodies))
       → Does Correcting s u y (reactionOf (rowsOn ia ib s ROWS n) (candidatesAt s bodies) (vecAt s SOLUTION n))
   unfolding reactionOf
-  apply-then h {u} {y} e = does-then _ first Correcting (λ i. Out CANDIDATE 208 i) _ (λ i x. in-shares i (x .0)) (λ i x. x .1) h second
+  apply-then h {u} {y} e = does-then _ first Correcting (λ i. Out CANDIDATE 208 i) _ (λ i x. omega (arith, x .0)) (λ i x. x .1) h second
     where
       second : Does (λ i. Out CANDIDATE 208 i) t u y (kickBodies (candidatesAt s bodies) (generalizedsAt t GENERALIZED bodies))
       second = record {
@@ -248,84 +207,62 @@ module _ {s : List Float} {ia ib : List ℕ} {n bodies : ℕ} (pre : Rows s ia i
       }
 
 -- correct_velocities
-in-work : (i : ℕ) → Out RHS (START - RHS) i → Work i
-in-work i x = omega arith
-
--- a turn whose solve took so many passes, by its reaction
-abbrev turnOf : ℕ → Result (List MomentumBody) → Turn (Took (List MomentumBody)) (Took (Result (List MomentumBody)))
-turnOf passes r = taking passes r >>= λ (candidate : List MomentumBody). go (record { answer = candidate; passes = passes })
-
 module _ {s : List Float} {ia ib : List ℕ} {n bodies : ℕ} (pre : Rows s ia ib ROWS n bodies) (cyclic : Bool) {t : List Float} (r : Ended)
     (d : (Does Work s t (solveAs r (vecAt t SOLUTION n)) (ended (linearSolve cyclic (rowsOn ia ib s ROWS n) (massesAt s MASSES bodies) (vecAt s RHS n)))) × (r .passes ≤ 4 * n + 64)) where
-  abbrev S : Solve
-  S = linearSolve cyclic (rowsOn ia ib s ROWS n) (massesAt s MASSES bodies) (vecAt s RHS n)
+  abbrev Corrects : List Float → Turn (Took (List MomentumBody)) (Took (Result (List MomentumBody))) → Type 0
+  Corrects u x = (Does Correcting s u x (velocitiesBy cyclic (rowsOn ia ib s ROWS n) (massesAt s MASSES bodies) (candidatesAt s bodies) (vecAt s RHS n))) × (r .passes ≤ 448)
 
-  abbrev Velocities : Turn (Took (List MomentumBody)) (Took (Result (List MomentumBody)))
-  Velocities = velocitiesBy cyclic (rowsOn ia ib s ROWS n) (massesAt s MASSES bodies) (candidatesAt s bodies) (vecAt s RHS n)
+  abbrev react : List Float → Result (List MomentumBody)
+  react = reactionOf (rowsOn ia ib s ROWS n) (candidatesAt s bodies)
 
-  frame : Kept Correcting s t
-  frame = kept-more (d .0 .kept) (λ i x. in-work i (x .0))
+  solving : Kept Correcting s t
+  solving = kept-more (d .0 .kept) (λ i x. omega (arith, x .0))
 
   few : r .passes ≤ 448
   few = omega (arith, d .1, pre .most)
 
-  lost : {f : Fault} → stop f ≡ S .answer → r .passes ≡ S .passes → Does Correcting s t (stop (record { answer = stop f; passes = r .passes })) Velocities
+  pub solve-nonconvergent : r .end ≡ Solved.NonConvergent → Corrects t (stop (record { answer = stop nonConvergent; passes = r .passes }))
   unfolding velocitiesBy
-  lost {f} ea ep = record {
-    kept = frame;
-    is = ap (λ (m : ℕ). stop (record { answer = stop f; passes = m })) ep ∙ then-stop _ (ap (taking {B = List MomentumBody} (S .passes)) ea);
-  }
+  solve-nonconvergent h = (record { kept = solving; is = turn-nonconvergent r n (d .0) react h }, few)
 
-  pub solve-nonconvergent : r .end ≡ Solved.NonConvergent → (Does Correcting s t (stop (record { answer = stop nonConvergent; passes = r .passes })) Velocities) × (r .passes ≤ 448)
-  solve-nonconvergent h = (lost (nonconvergent-answer r n (d .0) h) (nonconvergent-passes r n (d .0) h), few)
-
-  pub solve-overflow : r .end ≡ Solved.ArithmeticOverflow → (Does Correcting s t (stop (record { answer = stop arithmeticOverflow; passes = r .passes })) Velocities) × (r .passes ≤ 448)
-  solve-overflow h = (lost (overflow-answer r n (d .0) h) (overflow-passes r n (d .0) h), few)
+  pub solve-overflow : r .end ≡ Solved.ArithmeticOverflow → Corrects t (stop (record { answer = stop arithmeticOverflow; passes = r .passes }))
+  unfolding velocitiesBy
+  solve-overflow h = (record { kept = solving; is = turn-overflow r n (d .0) react h }, few)
 
   pub solve-declined : {A : Type 0} → r .end ≡ Solved.Declined → A
   solve-declined h = not-declined r n (d .0) h
 
   -- solved: the reaction ends the turn
   module _ (h : r .end ≡ Solved.Solved) {u : List Float} (f : Finish) (e : Does Correcting t u (finishAs f (candidatesAt u bodies)) (reactionOf (rowsOn ia ib t ROWS n) (candidatesAt t bodies) (vecAt t SOLUTION n))) where
-    reaction : finishAs f (candidatesAt u bodies) ≡ reactionOf (rowsOn ia ib s ROWS n) (candidatesAt s bodies) (vecAt t SOLUTION n)
-    reaction =
-        e .is
-        ∙ ap (λ (l : List EqualityRow). reactionOf l (candidatesAt t bodies) (vecAt t SOLUTION n)) (kept-rows (d .0 .kept) ia ib ROWS n (λ i a b. omega (arith, pre .most)))
-        ∙ ap (λ (l : List MomentumBody). reactionOf (rowsOn ia ib s ROWS n) l (vecAt t SOLUTION n)) (kept-candidates (d .0 .kept) bodies (λ i a b. omega (arith, pre .bodies)) (λ i a b. omega (arith, pre .bodies)))
+    reacted : {q : Finish} → f ≡ q → finishAs q (candidatesAt u bodies) ≡ react (vecAt t SOLUTION n)
+    reacted g = finish-case (candidatesAt u bodies) f (e .is ∙ same) g
+      where
+        same : reactionOf (rowsOn ia ib t ROWS n) (candidatesAt t bodies) (vecAt t SOLUTION n) ≡ react (vecAt t SOLUTION n)
+        same = λ j. reactionOf (kept-rows (d .0 .kept) ia ib ROWS n (λ i a b. omega (arith, pre .most)) j) (kept-candidates (d .0 .kept) bodies (λ i a b. omega (arith, pre .bodies)) (λ i a b. omega (arith, pre .bodies)) j) (vecAt t SOLUTION n)
 
-    turned : turnOf (r .passes) (finishAs f (candidatesAt u bodies)) ≡ Velocities
+    reacting : Kept Correcting s u
+    reacting = kept-then solving (e .kept) (λ i x. x)
+
+    pub reacted-next : f ≡ Ends.Done → Corrects u (go (record { answer = candidatesAt u bodies; passes = r .passes }))
     unfolding velocitiesBy
-    turned =
-        ap (turnOf (r .passes)) reaction
-        ∙ ap (λ (m : ℕ). turnOf m (reactionOf (rowsOn ia ib s ROWS n) (candidatesAt s bodies) (vecAt t SOLUTION n))) (solved-passes r n (d .0) h)
-        ∙ then-go _ (ap (taking {B = List MomentumBody} (S .passes)) (solved-answer r n (d .0) h))
+    reacted-next g = (record { kept = reacting; is = turn-next r n (d .0) react h (reacted g) }, few)
 
-    ends : {x : Finish} → f ≡ x → (Does Correcting s u (turnOf (r .passes) (finishAs x (candidatesAt u bodies))) Velocities) × (r .passes ≤ 448)
-    ends g = (record { kept = kept-then frame (e .kept) (λ i x. x); is = ap (λ (y : Finish). turnOf (r .passes) (finishAs y (candidatesAt u bodies))) (sym g) ∙ turned }, few)
+    pub reacted-nonconvergent : f ≡ Ends.NonConvergent → Corrects u (stop (record { answer = stop nonConvergent; passes = r .passes }))
+    unfolding velocitiesBy
+    reacted-nonconvergent g = (record { kept = reacting; is = turn-stops r n (d .0) react h (reacted g) }, few)
 
-    pub reacted-next : f ≡ Ends.Done → (Does Correcting s u (go (record { answer = candidatesAt u bodies; passes = r .passes })) Velocities) × (r .passes ≤ 448)
-    unfolding _>>=_
-    reacted-next g = ends g
-
-    pub reacted-nonconvergent : f ≡ Ends.NonConvergent → (Does Correcting s u (stop (record { answer = stop nonConvergent; passes = r .passes })) Velocities) × (r .passes ≤ 448)
-    unfolding _>>=_
-    reacted-nonconvergent g = ends g
-
-    pub reacted-overflow : f ≡ Ends.ArithmeticOverflow → (Does Correcting s u (stop (record { answer = stop arithmeticOverflow; passes = r .passes })) Velocities) × (r .passes ≤ 448)
-    unfolding _>>=_
-    reacted-overflow g = ends g
+    pub reacted-overflow : f ≡ Ends.ArithmeticOverflow → Corrects u (stop (record { answer = stop arithmeticOverflow; passes = r .passes }))
+    unfolding velocitiesBy
+    reacted-overflow g = (record { kept = reacting; is = turn-stops r n (d .0) react h (reacted g) }, few)
 
 -- velocity_pass
-in-rhs : (i : ℕ) → Out RHS (START - RHS) i → Out RHS 96 i
-in-rhs i x = omega arith
-
 module _ {s : List Float} {ia ib : List ℕ} {n bodies : ℕ} (pre : Rows s ia ib ROWS n bodies) (cyclic : Bool) {t : List Float} (r : Outcome)
     (d : Does (Out RHS 96) s t (ranAs r (vecAt t RHS n)) (velocityRhs (rowsOn ia ib s ROWS n) (candidatesAt s bodies))) where
   abbrev Pass : Turn (Took (List MomentumBody)) (Took (Result (List MomentumBody)))
   Pass = velocityPass cyclic (rowsOn ia ib s ROWS n) (massesAt s MASSES bodies) (candidatesAt s bodies)
 
   within : Kept Correcting s t
-  within = kept-more (d .kept) (λ i x. in-rhs i (x .0))
+  within = kept-more (d .kept) (λ i x. omega (arith, x .0))
 
   candidates : candidatesAt t bodies ≡ candidatesAt s bodies
   candidates = kept-candidates (d .kept) bodies (λ i a b. omega (arith, pre .bodies)) (λ i a b. omega (arith, pre .bodies))
@@ -381,12 +318,9 @@ module _ {s₀ : List Float} {ia ib : List ℕ} {n bodies : ℕ} (pre : Rows s�
 
     turn : passAs r (candidatesAt t bodies) (candidatesAt t bodies) ≡ P (candidatesAt s bodies)
     turn =
-        let x : rowsOn ia ib s ROWS n ≡ rowsOn ia ib s₀ ROWS n = kept-rows (inv .kept) ia ib ROWS n (λ i a b. low i (omega (arith, pre .most))) in
-        let z : massesAt s MASSES bodies ≡ massesAt s₀ MASSES bodies = kept-masses (inv .kept) MASSES bodies (λ i a b. low i (omega (arith, pre .bodies))) in
+        let x : rowsOn ia ib s ROWS n ≡ rowsOn ia ib s₀ ROWS n = kept-rows (inv .kept) ia ib ROWS n (λ i a b. omega (arith, pre .most)) in
+        let z : massesAt s MASSES bodies ≡ massesAt s₀ MASSES bodies = kept-masses (inv .kept) MASSES bodies (λ i a b. omega (arith, pre .bodies)) in
         d .0 .is ∙ (cc)
-      where
-        low : (i : ℕ) → i < RHS → Correcting i
-        low i h = (omega arith, omega arith)
 
     pub loop-next : r .end ≡ Passes.Next → Looping P s₀ t bodies (k + 1) (before + r .passes)
     loop-next h = record { kept = keeps; reached = reached-next P (candidatesAt s₀ bodies) k (inv .reached) r (candidatesAt t bodies) (candidatesAt t bodies) turn h }

@@ -102,7 +102,7 @@ startOf bodies joints count = do
   masses ← prepareMasses start
   go (record { start = start; rows = rows; masses = masses })
 
--- ---- loops whose turns take linear solves
+-- ---- loops whose turns take linear solves: a turn goes on with what the next one starts from, or stops with the loop's answer
 -- an answer, and the linear passes that it took
 pub record Took (A : Type 0) : Type 0 where
   pub answer : A
@@ -129,9 +129,11 @@ abbrev pub leftAfter : {A B : Type 0} → ℕ → Turn (Took A) (Left B) → Lef
 leftAfter most (go t) = record { answer = stop nonConvergent; begun = most; passes = t .passes }
 leftAfter most (stop left) = left
 
+-- one turn, with the counts
 abbrev pub summedTurn : {A B : Type 0} → (A → Turn (Took A) (Took (Result B))) → ℕ → Took A → Turn (Took A) (Left B)
 summedTurn pass k t = summed k (t .passes) (pass (t .answer))
 
+-- at most `most` turns, from a
 abbrev pub passesOf : {A B : Type 0} → ℕ → (A → Turn (Took A) (Took (Result B))) → A → Left B
 passesOf most pass a = leftAfter most (loop most (summedTurn pass) (record { answer = a; passes = 0 }))
 
@@ -178,12 +180,14 @@ correctedBy dt cyclic s impulses rows =
       go (record { answer = next; passes = solve .passes })
 
 module _ (joints : List Joint) (count : ℕ) (dt : Float) (cyclic : Bool) (s : Started) where
+  -- one pass, from the impulses so far: candidates, rows, and where these are not met a correction
   unfoldable pub nonlinearPass : List Float → Turn (Took (List Float)) (Took (Result Found))
   nonlinearPass impulses = do
     found ← taking 0 (candidateOf joints count dt s impulses)
     _ ← returnIf (rowsMet (found .rows)) (record { answer = go found; passes = 0 })
     correctedBy dt cyclic s impulses (found .rows)
 
+  -- from no impulse; each pass is counted when it is begun
   unfoldable pub nonlinearLoop : Left Found
   nonlinearLoop = passesOf 32 nonlinearPass (replicate (length (s .rows)) (ratio 0 1))
 
@@ -207,12 +211,14 @@ compatibleOf rhs = every (length rhs) (λ k. Ieee.le (absOf (at rhs k)) (ratio 1
 unfoldable pub kickBodies : List MomentumBody → List Generalized → Result (List MomentumBody)
 kickBodies candidate generalized = each (length candidate) (λ k. kickOf (bodyIn candidate k) (generalizedIn generalized k .linear) (generalizedIn generalized k .angular))
 
+-- the candidates kicked by a solution, along their own rows
 unfoldable pub reactionOf : List EqualityRow → List MomentumBody → List Float → Result (List MomentumBody)
 reactionOf rows candidate solution = do
   generalized ← transpose rows solution (length candidate)
   kickBodies candidate generalized
 
 module _ (cyclic : Bool) (rows : List EqualityRow) (masses : List MassResponse) where
+  -- one correction
   unfoldable pub velocitiesBy : List MomentumBody → List Float → Turn (Took (List MomentumBody)) (Took (Result (List MomentumBody)))
   velocitiesBy candidate rhs =
       let solve : Solve = linearSolve cyclic rows masses rhs in do

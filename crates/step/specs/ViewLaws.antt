@@ -2,9 +2,8 @@
 use Prim.Native.Nat.{ℕ, zero, suc, _+_, _*_, _-_, _≤_, _<_}
 use mathlib.Core.Path.{_≡_, refl, sym, _∙_, ap}
 use mathlib.Core.Bool.{Bool, true, false, cond, not}
-use mathlib.Core.List.{List, [], _∷_, _++_}
+use mathlib.Core.List.{List}
 use native.Mathlib.Omega.{arith}
-use lib.ListN.{set}
 use lib.Ieee.{Float}
 use Rattle.vectors.specs.declared.vector.Vec3.{Vec3}
 use Rattle.vectors.specs.declared.quaternion.Quat.{Quat}
@@ -16,9 +15,9 @@ use Rattle.vectors.specs.Matrix.{fromCols, finiteMat, done, uninverted, solveSp
 use Rattle.rows.specs.declared.body.BodyState.{BodyState}
 use Rattle.rows.specs.declared.body.MomentumBody.{MomentumBody}
 use Rattle.rows.specs.View.{at, Out, Kept}
-use Rattle.rows.specs.Region.{Over, kept-vec3, tab-ext, tab-set, tab-more}
+use Rattle.rows.specs.Region.{Over, kept-vec3, tab-ext}
 use Rattle.solves.specs.View.{START, CANDIDATE}
-use Rattle.step.specs.Records.{quatAt, matAt, stateAt, recordAt}
+use Rattle.step.specs.Records.{quatAt, matAt, stateAt}
 use Rattle.step.specs.View.{colsOf, bodyFrom, startBodyAt, candidateAt, startBodiesAt, candidatesAt, heldOf, movedTo, Handed}
 
 -- a matrix made of three columns is what a store writes of it
@@ -111,21 +110,6 @@ module _ {P : ℕ → Type 0} {s t : List Float} (kept : Kept P s t) where
   pub kept-candidates : (n : ℕ) → Over P START (26 * n) → Over P CANDIDATE (13 * n) → candidatesAt t n ≡ candidatesAt s n
   kept-candidates n v w = tab-ext n λ k h. kept-candidate k (λ i a b. w i (omega arith) (omega arith)) (λ i a b. v i (omega arith) (omega arith))
 
--- one more body stored, or one of them stored anew
-pub starts-more : {s t : List Float} (k : ℕ) {b : MomentumBody} → (Kept (λ j. Out (START + 26 * k) 26 j) s t) × (startBodyAt t k ≡ b)
-    → startBodiesAt t (k + 1) ≡ startBodiesAt s k ++ (b ∷ [])
-starts-more {s} {t} k e = tab-more k (λ i h. kept-start (e .0) i (λ j a b. omega arith)) (e .1)
-
-module _ {s t : List Float} (k : ℕ) (l : k < 16) {b : MomentumBody} (e : (Kept (λ j. Out (CANDIDATE + 13 * k) 13 j) s t) × (candidateAt t k ≡ b)) where
-  stays : (i : ℕ) → i < 16 → (i ≡ k → ⊥) → candidateAt t i ≡ candidateAt s i
-  stays i h q = kept-candidate (e .0) i (λ j a c. omega arith) (λ j a c. omega arith)
-
-  pub candidates-more : candidatesAt t (k + 1) ≡ candidatesAt s k ++ (b ∷ [])
-  candidates-more = tab-more k (λ i h. stays i (omega arith) (λ q. omega arith)) (e .1)
-
-  pub candidates-set : (n : ℕ) → n ≤ 16 → k < n → set (candidatesAt s n) k b ≡ candidatesAt t n
-  candidates-set n h g = ap (set (candidatesAt s n) k) (sym (e .1)) ∙ tab-set n (candidateAt s) (candidateAt t) b k g (λ i a q. stays i (omega arith) q)
-
 -- the 13 doubles of a state, one by one
 pub state-at : (s t : List Float) (i k : ℕ) → stateAt t i ≡ stateAt s k → (j : ℕ) → j < 13 → at t (i + j) ≡ at s (k + j)
 state-at s t i k e = by
@@ -180,26 +164,3 @@ module _ {n : ℕ} {s bodies after : List Float} (h : Handed n s bodies after) (
     where
       apart : (m : ℕ) → Out (26 * m) 13 (26 * k + j)
       apart m = omega arith
-
-  old : Over (λ i. (m : ℕ) → m < n → Out (26 * m) 13 i) (26 * k + 13) 13
-  old i a b m q = omega arith
-
-  -- the record: the state of the scratch, with the mass, local centre and inertia that went in
-  pub handed-record : recordAt after k ≡ record {
-    origin = stateAt s (CANDIDATE + 13 * k) .origin;
-    rotation = stateAt s (CANDIDATE + 13 * k) .rotation;
-    «linear_velocity» = stateAt s (CANDIDATE + 13 * k) .«linear_velocity»;
-    «angular_velocity» = stateAt s (CANDIDATE + 13 * k) .«angular_velocity»;
-    mass = recordAt bodies k .mass;
-    «center_of_mass» = recordAt bodies k .«center_of_mass»;
-    inertia = recordAt bodies k .inertia;
-  }
-  handed-record = λ j. record {
-    origin = ap (λ (b : BodyState). b .origin) (h .there k l) j;
-    rotation = ap (λ (b : BodyState). b .rotation) (h .there k l) j;
-    «linear_velocity» = ap (λ (b : BodyState). b .«linear_velocity») (h .there k l) j;
-    «angular_velocity» = ap (λ (b : BodyState). b .«angular_velocity») (h .there k l) j;
-    mass = h .kept .same (26 * k + 13) (old (26 * k + 13) (omega arith) (omega arith)) j;
-    «center_of_mass» = kept-vec3 (h .kept) (26 * k + 14) (λ i a b. old i (omega arith) (omega arith)) j;
-    inertia = kept-mat (h .kept) (26 * k + 17) (λ i a b. old i (omega arith) (omega arith)) j;
-  }

@@ -1,9 +1,9 @@
-use lib.ListN.{length, length-set}
-use denote.Ref.{now}
-use Rattle.step.proofs.TableLaws.{body-case, Moved, move-none, move-again, move-stops, move-ends}
+use lib.ListN.{length}
+use Rattle.step.proofs.SolveLaws.{finish-case}
+use Rattle.step.proofs.TableLaws.{Moved, move-none, move-again, move-stops, move-ends}
 use native.Mathlib.Omega.{arith}
-use mathlib.Core.Path.{_≡_, refl, sym, ap, _∙_}
-use Prim.Native.Nat.{ℕ, _+_, _*_, _≤_, _<_, _-_}
+use mathlib.Core.Path.{_≡_, refl}
+use Prim.Native.Nat.{_≤_, _-_}
 use borrow.Author.Needs.{needs}
 use Rattle.step.proofs.integrator.move_bodies.Statement.{statement}
 use Rattle.step.proofs.integrator.move_bodies.Tie as tie
@@ -39,7 +39,7 @@ same-length : tie.Need-same-length Inv-loop μ-loop
 same-length c = omega arith
 
 returns : tie.Need-returns Inv-loop μ-loop
-returns c = move-stops (c .before .before .before .before .before .before .before .before .before .before .args .dt) (c .before .before .before .before .before .before .before .before .before .before .args .n) _ _ _ (c .before .before .before .before .before .before .before .before .loop .inv .2) (c .before .before .before .before .before .before .before .loop-test .taken) (c .before .before .before .before .before .before .before .before .before .before .pre .1) (c .before .before .before .before .before .load-generalized .ensures) (c .before .before .before .load-start .ensures) refl (body-case (c .before .before .kick-and-drift .result) (c .before .before .kick-and-drift .ensures) (c .enum-told2 .given .1))
+returns c = move-stops (c .before .before .before .before .before .before .before .before .before .before .args .dt) (c .before .before .before .before .before .before .before .before .before .before .args .n) _ _ _ (c .before .before .before .before .before .before .before .before .loop .inv .2) (c .before .before .before .before .before .before .before .loop-test .taken) (c .before .before .before .before .before .before .before .before .before .before .pre .1) (c .before .before .before .before .before .load-generalized .ensures) (c .before .before .before .load-start .ensures) refl (finish-case (c .before .before .kick-and-drift .result .body) (c .before .before .kick-and-drift .result .outcome) (c .before .before .kick-and-drift .ensures) (c .enum-told2 .given .1))
 
 enum-told-3 : tie.Need-enum-told-3 Inv-loop μ-loop
 enum-told-3 c = search needs
@@ -48,7 +48,7 @@ same-length-2 : tie.Need-same-length-2 Inv-loop μ-loop
 same-length-2 c = omega arith
 
 returns-2 : tie.Need-returns-2 Inv-loop μ-loop
-returns-2 c = move-stops (c .before .before .before .before .before .before .before .before .before .before .args .dt) (c .before .before .before .before .before .before .before .before .before .before .args .n) _ _ _ (c .before .before .before .before .before .before .before .before .loop .inv .2) (c .before .before .before .before .before .before .before .loop-test .taken) (c .before .before .before .before .before .before .before .before .before .before .pre .1) (c .before .before .before .before .before .load-generalized .ensures) (c .before .before .before .load-start .ensures) refl (body-case (c .before .before .kick-and-drift .result) (c .before .before .kick-and-drift .ensures) (c .enum-told3 .given .1))
+returns-2 c = move-stops (c .before .before .before .before .before .before .before .before .before .before .args .dt) (c .before .before .before .before .before .before .before .before .before .before .args .n) _ _ _ (c .before .before .before .before .before .before .before .before .loop .inv .2) (c .before .before .before .before .before .before .before .loop-test .taken) (c .before .before .before .before .before .before .before .before .before .before .pre .1) (c .before .before .before .before .before .load-generalized .ensures) (c .before .before .before .load-start .ensures) refl (finish-case (c .before .before .kick-and-drift .result .body) (c .before .before .kick-and-drift .result .outcome) (c .before .before .kick-and-drift .ensures) (c .enum-told3 .given .1))
 
 add-k : tie.Need-add-k Inv-loop μ-loop
 add-k c = omega arith
@@ -57,7 +57,7 @@ loop-less : tie.Need-loop-less Inv-loop μ-loop
 loop-less c = omega arith
 
 loop-again : tie.Need-loop-again Inv-loop μ-loop
-loop-again c = (omega arith, omega (arith, c .before .before .store-candidate .ensures .0 .size), move-again (c .before .before .before .before .before .before .before .before .before .before .before .before .before .before .args .dt) (c .before .before .before .before .before .before .before .before .before .before .before .before .before .before .args .n) _ _ _ (c .before .before .before .before .before .before .before .before .before .before .before .before .loop .inv .2) (c .before .before .before .before .before .before .before .before .before .before .before .loop-test .taken) (c .before .before .before .before .before .before .before .before .before .before .before .before .before .before .pre .1) (c .before .before .before .before .before .before .before .before .before .load-generalized .ensures) (c .before .before .before .before .before .before .before .load-start .ensures) refl (body-case (c .before .before .before .before .before .before .kick-and-drift .result) (c .before .before .before .before .before .before .kick-and-drift .ensures) (c .before .before .before .before .enum-told .given .1)) (c .before .before .store-candidate .ensures))
+loop-again c = (omega arith, omega (arith, c .before .before .store-candidate .ensures .0 .size), move-again (c .before .before .before .before .before .before .before .before .before .before .before .before .before .before .args .dt) (c .before .before .before .before .before .before .before .before .before .before .before .before .before .before .args .n) _ _ _ (c .before .before .before .before .before .before .before .before .before .before .before .before .loop .inv .2) (c .before .before .before .before .before .before .before .before .before .before .before .loop-test .taken) (c .before .before .before .before .before .before .before .before .before .before .before .before .before .before .pre .1) (c .before .before .before .before .before .before .before .before .before .load-generalized .ensures) (c .before .before .before .before .before .before .before .load-start .ensures) refl (finish-case (c .before .before .before .before .before .before .kick-and-drift .result .body) (c .before .before .before .before .before .before .kick-and-drift .result .outcome) (c .before .before .before .before .before .before .kick-and-drift .ensures) (c .before .before .before .before .enum-told .given .1)) (c .before .before .store-candidate .ensures))
 
 same-length-3 : tie.Need-same-length-3 Inv-loop μ-loop
 same-length-3 c = omega arith

@@ -1,25 +1,21 @@
 use borrow.Author.Needs.{needs}
 use native.Mathlib.Omega.{arith}
 use mathlib.Core.Path.{_≡_, refl}
-use Prim.Native.Nat.{_*_, _≤_, _-_}
+use Prim.Native.Nat.{_≤_, _-_}
 use lib.ListN.{length}
-use Rattle.arith.specs.Flow.{go, each}
-use Rattle.rows.specs.View.{Out}
-use Rattle.solves.specs.Region.{Does}
-use Rattle.solves.specs.View.{CANDIDATE, GENERALIZED, generalizedsAt}
-use Rattle.step.specs.View.{candidatesAt}
-use Rattle.step.proofs.VelocityLaws.{kickTurn, kick-none, kick-again, kick-nonconvergent, kick-overflow, kick-ends}
+use Rattle.rows.specs.AnswerLaws.{answer-done, answer-nonconvergent, answer-overflow}
+use Rattle.step.proofs.VelocityLaws.{Kicked, kick-none, kick-again, kick-stops, kick-ends}
 use Rattle.step.proofs.velocity.kick_candidates.Statement.{statement}
 use Rattle.step.proofs.velocity.kick_candidates.Tie as tie
 
 abbrev Inv-loop : tie.InvT-loop
-Inv-loop s₀ bodies k₀ s k = (k ≤ bodies) × (length s ≡ length s₀) × (Does (λ i. Out CANDIDATE (13 * k) i) s₀ s (go (candidatesAt s k)) (each k (kickTurn (candidatesAt s₀ bodies) (generalizedsAt s₀ GENERALIZED bodies))))
+Inv-loop s₀ bodies k₀ s k = (k ≤ bodies) × (length s ≡ length s₀) × (Kicked s₀ bodies k s)
 
 abbrev μ-loop : tie.MeasureT-loop
 μ-loop s₀ bodies k₀ s k = bodies - k
 
 loop-holds : tie.Need-loop-holds Inv-loop μ-loop
-loop-holds c = (omega arith, refl, kick-none _ _ (c .before .pre .1))
+loop-holds c = (omega arith, refl, kick-none _ _)
 
 load-generalized-requires : tie.Need-load-generalized-requires Inv-loop μ-loop
 load-generalized-requires c κs = omega arith
@@ -43,7 +39,7 @@ same-length : tie.Need-same-length Inv-loop μ-loop
 same-length c = omega arith
 
 returns : tie.Need-returns Inv-loop μ-loop
-returns c = kick-nonconvergent _ _ (c .before .before .before .before .before .before .before .before .before .before .pre .1) (c .before .before .before .before .before .before .before .before .loop .inv .2) (c .before .before .before .before .before .before .before .loop-test .taken) (c .before .before .before .before .before .load-generalized .ensures) (c .before .before .before .load-candidate .ensures) (c .before .before .kick .ensures) (c .enum-told2 .given .1)
+returns c = kick-stops _ _ (c .before .before .before .before .before .before .before .before .loop .inv .2) (c .before .before .before .before .before .before .before .loop-test .taken) (c .before .before .before .before .before .before .before .before .before .before .pre .1) (c .before .before .before .before .before .load-generalized .ensures) (c .before .before .before .load-candidate .ensures) refl (answer-nonconvergent _ _ (c .before .before .kick .ensures) (c .enum-told2 .given .1))
 
 enum-told-3 : tie.Need-enum-told-3 Inv-loop μ-loop
 enum-told-3 c = search needs
@@ -52,7 +48,7 @@ same-length-2 : tie.Need-same-length-2 Inv-loop μ-loop
 same-length-2 c = omega arith
 
 returns-2 : tie.Need-returns-2 Inv-loop μ-loop
-returns-2 c = kick-overflow _ _ (c .before .before .before .before .before .before .before .before .before .before .pre .1) (c .before .before .before .before .before .before .before .before .loop .inv .2) (c .before .before .before .before .before .before .before .loop-test .taken) (c .before .before .before .before .before .load-generalized .ensures) (c .before .before .before .load-candidate .ensures) (c .before .before .kick .ensures) (c .enum-told3 .given .1)
+returns-2 c = kick-stops _ _ (c .before .before .before .before .before .before .before .before .loop .inv .2) (c .before .before .before .before .before .before .before .loop-test .taken) (c .before .before .before .before .before .before .before .before .before .before .pre .1) (c .before .before .before .before .before .load-generalized .ensures) (c .before .before .before .load-candidate .ensures) refl (answer-overflow _ _ (c .before .before .kick .ensures) (c .enum-told3 .given .1))
 
 add-k : tie.Need-add-k Inv-loop μ-loop
 add-k c = omega arith
@@ -61,13 +57,13 @@ loop-less : tie.Need-loop-less Inv-loop μ-loop
 loop-less c = omega arith
 
 loop-again : tie.Need-loop-again Inv-loop μ-loop
-loop-again c = (omega (arith, c .before .before .before .before .before .before .before .before .before .before .before .loop-test .taken), omega (arith, c .before .before .store-candidate .ensures .0 .size, c .before .before .before .before .before .before .before .before .before .before .before .before .loop .inv .1), kick-again _ _ (c .before .before .before .before .before .before .before .before .before .before .before .before .before .before .pre .1) (c .before .before .before .before .before .before .before .before .before .before .before .before .loop .inv .2) (c .before .before .before .before .before .before .before .before .before .before .before .loop-test .taken) (c .before .before .before .before .before .before .before .before .before .load-generalized .ensures) (c .before .before .before .before .before .before .before .load-candidate .ensures) (c .before .before .before .before .before .before .kick .ensures) (c .before .before .before .before .enum-told .given .1) (c .before .before .store-candidate .ensures))
+loop-again c = (omega (arith, c .before .before .before .before .before .before .before .before .before .before .before .loop-test .taken), omega (arith, c .before .before .store-candidate .ensures .0 .size, c .before .before .before .before .before .before .before .before .before .before .before .before .loop .inv .1), kick-again _ _ (c .before .before .before .before .before .before .before .before .before .before .before .before .loop .inv .2) (c .before .before .before .before .before .before .before .before .before .before .before .loop-test .taken) (c .before .before .before .before .before .before .before .before .before .before .before .before .before .before .pre .1) (c .before .before .before .before .before .before .before .before .before .load-generalized .ensures) (c .before .before .before .before .before .before .before .load-candidate .ensures) refl (answer-done _ _ (c .before .before .before .before .before .before .kick .ensures) (c .before .before .before .before .enum-told .given .1)) (c .before .before .store-candidate .ensures))
 
 same-length-3 : tie.Need-same-length-3 Inv-loop μ-loop
 same-length-3 c = omega arith
 
 returns-3 : tie.Need-returns-3 Inv-loop μ-loop
-returns-3 c = kick-ends _ _ (c .before .before .before .pre .1) (c .before .loop .inv .2) (omega arith) (c .loop-test .left)
+returns-3 c = kick-ends _ _ (c .before .loop .inv .2) (omega arith) (c .loop-test .left) (c .before .before .before .pre .1)
 
 pub kick-candidates-spec : {M : Type 1} → statement M
 kick-candidates-spec =

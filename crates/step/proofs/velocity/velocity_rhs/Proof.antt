@@ -3,18 +3,13 @@ use native.Mathlib.Omega.{arith}
 use mathlib.Core.Path.{_≡_, refl}
 use Prim.Native.Nat.{_≤_, _-_}
 use lib.ListN.{length, length-set}
-use Rattle.arith.specs.Flow.{go, each}
-use Rattle.rows.specs.View.{Out}
-use Rattle.solves.specs.Region.{vecAt, Does}
-use Rattle.solves.specs.View.{RHS, ROWS, rowsOn}
 use Rattle.solves.specs.DoesLaws.{sum-there, sum-over}
-use Rattle.step.specs.View.{candidatesAt}
-use Rattle.step.proofs.VelocityLaws.{rhsTurn, rhs-none, row-a, row-b, rhs-again, rhs-stops, rhs-ends}
+use Rattle.step.proofs.VelocityLaws.{Opposed, rhs-none, row-a, row-b, rhs-again, rhs-stops, rhs-ends}
 use Rattle.step.proofs.velocity.velocity_rhs.Statement.{statement}
 use Rattle.step.proofs.velocity.velocity_rhs.Tie as tie
 
 abbrev Inv-loop : tie.InvT-loop
-Inv-loop s₀ ia ib n bodies k₀ s k = (k ≤ n) × (length s ≡ length s₀) × (Does (λ i. Out RHS 96 i) s₀ s (go (vecAt s RHS k)) (each k (rhsTurn (rowsOn ia ib s₀ ROWS n) (candidatesAt s₀ bodies))))
+Inv-loop s₀ ia ib n bodies k₀ s k = (k ≤ n) × (length s ≡ length s₀) × (Opposed ia ib n bodies s₀ k s)
 
 abbrev μ-loop : tie.MeasureT-loop
 μ-loop s₀ ia ib n bodies k₀ s k = n - k
