@@ -11,6 +11,8 @@ use crate::bodies::store_state;
 use crate::passes::Looped;
 use crate::passes::PassEnd;
 use crate::passes::Passed;
+use crate::passes::loop_left;
+use crate::passes::pass_ended;
 use crate::velocity::velocity_loop;
 use arith::number::abs;
 use arith::number::is_finite;
@@ -304,29 +306,14 @@ fn correct(
     match end {
         End::Solved => {
             if let Outcome::ArithmeticOverflow = add_impulses(s, n) {
-                return Passed {
-                    end: PassEnd::ArithmeticOverflow,
-                    passes,
-                };
+                return pass_ended(PassEnd::ArithmeticOverflow, passes);
             }
-            Passed {
-                end: PassEnd::Next,
-                passes,
-            }
+            pass_ended(PassEnd::Next, passes)
         }
-        End::ArithmeticOverflow => Passed {
-            end: PassEnd::ArithmeticOverflow,
-            passes,
-        },
-        End::NonConvergent => Passed {
-            end: PassEnd::NonConvergent,
-            passes,
-        },
+        End::ArithmeticOverflow => pass_ended(PassEnd::ArithmeticOverflow, passes),
+        End::NonConvergent => pass_ended(PassEnd::NonConvergent, passes),
         // Only the path declines, inside of the solve.
-        End::Declined => Passed {
-            end: PassEnd::NonConvergent,
-            passes,
-        },
+        End::Declined => pass_ended(PassEnd::NonConvergent, passes),
     }
 }
 
@@ -411,33 +398,17 @@ fn nonlinear_loop(
         match end {
             PassEnd::Next => {}
             PassEnd::Met => {
-                return Looped {
-                    finish: Finish::Done,
-                    begun: k + 1,
-                    passes,
-                };
+                return loop_left(Finish::Done, k + 1, passes);
             }
             PassEnd::NonConvergent => {
-                return Looped {
-                    finish: Finish::NonConvergent,
-                    begun: k + 1,
-                    passes,
-                };
+                return loop_left(Finish::NonConvergent, k + 1, passes);
             }
             PassEnd::ArithmeticOverflow => {
-                return Looped {
-                    finish: Finish::ArithmeticOverflow,
-                    begun: k + 1,
-                    passes,
-                };
+                return loop_left(Finish::ArithmeticOverflow, k + 1, passes);
             }
         }
     }
-    Looped {
-        finish: Finish::NonConvergent,
-        begun: 32,
-        passes,
-    }
+    loop_left(Finish::NonConvergent, 32, passes)
 }
 
 // The states of the candidates, in their places.
@@ -457,6 +428,16 @@ fn make_states(s: &mut [f64], bodies: &[f64], n: usize) -> Finish
     Finish::Done
 }
 
+fn run_ended(finish: Finish, nonlinear: usize, linear: usize) -> Progress
+    ensures { λ r. ⌜ r ≡ record { finish = finish; nonlinear = nonlinear; linear = linear } ⌝ }
+{
+    Progress {
+        finish,
+        nonlinear,
+        linear,
+    }
+}
+
 // The velocity loop and the states, after the nonlinear loop met its rows.
 fn finish_run(
     s: &mut [f64],
@@ -472,11 +453,7 @@ fn finish_run(
 {
     let size = bodies.len() / RECORD;
     if let Outcome::ArithmeticOverflow = prepare_masses(s, size, true) {
-        return Progress {
-            finish: Finish::ArithmeticOverflow,
-            nonlinear: met.begun,
-            linear: met.passes,
-        };
+        return run_ended(Finish::ArithmeticOverflow, met.begun, met.passes);
     }
     let corrected = velocity_loop(s, ia, ib, n, size, size <= count);
     let linear = met.passes + corrected.passes;
@@ -484,22 +461,10 @@ fn finish_run(
     match finish {
         Finish::Done => {
             let made = make_states(s, bodies, size);
-            Progress {
-                finish: made,
-                nonlinear: met.begun,
-                linear,
-            }
+            run_ended(made, met.begun, linear)
         }
-        Finish::NonConvergent => Progress {
-            finish: Finish::NonConvergent,
-            nonlinear: met.begun,
-            linear,
-        },
-        Finish::ArithmeticOverflow => Progress {
-            finish: Finish::ArithmeticOverflow,
-            nonlinear: met.begun,
-            linear,
-        },
+        Finish::NonConvergent => run_ended(Finish::NonConvergent, met.begun, linear),
+        Finish::ArithmeticOverflow => run_ended(Finish::ArithmeticOverflow, met.begun, linear),
     }
 }
 
@@ -545,33 +510,17 @@ pub fn run(bodies: &[f64], joints: [Joint; 16], count: usize, dt: f64, s: &mut [
     match start(s, bodies, joints, count) {
         Finish::Done => {}
         Finish::NonConvergent => {
-            return Progress {
-                finish: Finish::NonConvergent,
-                nonlinear: 0,
-                linear: 0,
-            };
+            return run_ended(Finish::NonConvergent, 0, 0);
         }
         Finish::ArithmeticOverflow => {
-            return Progress {
-                finish: Finish::ArithmeticOverflow,
-                nonlinear: 0,
-                linear: 0,
-            };
+            return run_ended(Finish::ArithmeticOverflow, 0, 0);
         }
     }
     let met = nonlinear_loop(s, &ia, &ib, joints, count, n, size, dt);
     let finish = met.finish;
     match finish {
         Finish::Done => finish_run(s, &ia, &ib, bodies, count, n, met),
-        Finish::NonConvergent => Progress {
-            finish: Finish::NonConvergent,
-            nonlinear: met.begun,
-            linear: met.passes,
-        },
-        Finish::ArithmeticOverflow => Progress {
-            finish: Finish::ArithmeticOverflow,
-            nonlinear: met.begun,
-            linear: met.passes,
-        },
+        Finish::NonConvergent => run_ended(Finish::NonConvergent, met.begun, met.passes),
+        Finish::ArithmeticOverflow => run_ended(Finish::ArithmeticOverflow, met.begun, met.passes),
     }
 }

@@ -1,5 +1,6 @@
 // How the turns of the step's two loops end, and the loops: each turn takes at most one linear solve.
 use rows::body::Finish;
+ghost use mathlib.Core.Path.{_≡_};
 
 // Met: the loop is left with what it was after.
 pub enum PassEnd {
@@ -20,4 +21,20 @@ pub struct Looped {
     pub finish: Finish,
     pub begun: usize,
     pub passes: usize,
+}
+
+pub fn pass_ended(end: PassEnd, passes: usize) -> Passed
+    ensures { λ r. ⌜ r ≡ record { end = end; passes = passes } ⌝ }
+{
+    Passed { end, passes }
+}
+
+pub fn loop_left(finish: Finish, begun: usize, passes: usize) -> Looped
+    ensures { λ r. ⌜ r ≡ record { finish = finish; begun = begun; passes = passes } ⌝ }
+{
+    Looped {
+        finish,
+        begun,
+        passes,
+    }
 }

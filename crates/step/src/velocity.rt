@@ -4,6 +4,8 @@ use crate::bodies::store_candidate;
 use crate::passes::Looped;
 use crate::passes::PassEnd;
 use crate::passes::Passed;
+use crate::passes::loop_left;
+use crate::passes::pass_ended;
 use arith::number::abs;
 use arith::number::is_finite;
 use rows::body::Finish;
@@ -135,32 +137,14 @@ fn correct_velocities(
     let end = ended.end;
     match end {
         End::Solved => match apply(s, ia, ib, n, bodies) {
-            Finish::Done => Passed {
-                end: PassEnd::Next,
-                passes,
-            },
-            Finish::NonConvergent => Passed {
-                end: PassEnd::NonConvergent,
-                passes,
-            },
-            Finish::ArithmeticOverflow => Passed {
-                end: PassEnd::ArithmeticOverflow,
-                passes,
-            },
+            Finish::Done => pass_ended(PassEnd::Next, passes),
+            Finish::NonConvergent => pass_ended(PassEnd::NonConvergent, passes),
+            Finish::ArithmeticOverflow => pass_ended(PassEnd::ArithmeticOverflow, passes),
         },
-        End::ArithmeticOverflow => Passed {
-            end: PassEnd::ArithmeticOverflow,
-            passes,
-        },
-        End::NonConvergent => Passed {
-            end: PassEnd::NonConvergent,
-            passes,
-        },
+        End::ArithmeticOverflow => pass_ended(PassEnd::ArithmeticOverflow, passes),
+        End::NonConvergent => pass_ended(PassEnd::NonConvergent, passes),
         // never: `linear_solve` goes on where the path declines
-        End::Declined => Passed {
-            end: PassEnd::NonConvergent,
-            passes,
-        },
+        End::Declined => pass_ended(PassEnd::NonConvergent, passes),
     }
 }
 
@@ -209,31 +193,15 @@ pub fn velocity_loop(
         match end {
             PassEnd::Next => {}
             PassEnd::Met => {
-                return Looped {
-                    finish: Finish::Done,
-                    begun: k + 1,
-                    passes,
-                };
+                return loop_left(Finish::Done, k + 1, passes);
             }
             PassEnd::NonConvergent => {
-                return Looped {
-                    finish: Finish::NonConvergent,
-                    begun: k + 1,
-                    passes,
-                };
+                return loop_left(Finish::NonConvergent, k + 1, passes);
             }
             PassEnd::ArithmeticOverflow => {
-                return Looped {
-                    finish: Finish::ArithmeticOverflow,
-                    begun: k + 1,
-                    passes,
-                };
+                return loop_left(Finish::ArithmeticOverflow, k + 1, passes);
             }
         }
     }
-    Looped {
-        finish: Finish::NonConvergent,
-        begun: 3,
-        passes,
-    }
+    loop_left(Finish::NonConvergent, 3, passes)
 }

@@ -6,6 +6,8 @@ use Rattle.solves.specs.View.{MASSES, ROWS, rowsOn, massesAt}
 use Rattle.step.specs.Step.{velocityPass}
 use Rattle.step.proofs.StepLaws.{rows-same}
 use Rattle.step.proofs.VelocityLaws.{Looping, loop-none, loop-next, loop-met, loop-nonconvergent, loop-overflow, loop-spent}
+use Rattle.step.proofs.PassLaws.{looped-is, passes-is}
+use Rattle.step.specs.View.{candidatesAt}
 use Rattle.step.proofs.velocity.velocity_loop.Statement.{statement}
 use Rattle.step.proofs.velocity.velocity_loop.Tie as tie
 
@@ -30,38 +32,47 @@ enum-told c = search needs
 enum-told-2 : tie.Need-enum-told-2 Inv-loop μ-loop
 enum-told-2 c = search needs
 
-add-t15 : tie.Need-add-t15 Inv-loop μ-loop
-add-t15 c = omega (arith, c .before .before .before .before .before .before .before .loop-test .taken, c .before .before .before .before .before .before .before .before .loop .inv .1, c .before .before .before .before .before .velocity-pass .ensures .1)
+add-loop-left : tie.Need-add-loop-left Inv-loop μ-loop
+add-loop-left c = omega arith
+
+loop-left-requires : tie.Need-loop-left-requires Inv-loop μ-loop
+loop-left-requires c κs = search needs
 
 same-length : tie.Need-same-length Inv-loop μ-loop
-same-length c = c .before .before .before .before .before .velocity-pass .ensures .0 .kept .size ∙ c .before .before .before .before .before .before .before .before .loop .inv .2 .kept .size
+same-length c = c .before .before .before .before .before .before .velocity-pass .ensures .0 .kept .size ∙ c .before .before .before .before .before .before .before .before .before .loop .inv .2 .kept .size
 
 returns : tie.Need-returns Inv-loop μ-loop
-returns c = (loop-met (c .before .before .before .before .before .before .before .before .before .before .pre) _ (c .before .before .before .before .before .before .before .before .loop .inv .2) _ (c .before .before .before .before .before .velocity-pass .ensures) (c .before .before .before .before .before .before .before .loop-test .taken) (c .enum-told2 .given .1), omega (arith, c .before .before .before .before .before .before .before .loop-test .taken, c .before .before .before .before .before .before .before .before .loop .inv .1, c .before .before .before .before .before .velocity-pass .ensures .1))
+returns c = (looped-is (λ t. candidatesAt t (c .before .before .before .before .before .before .before .before .before .before .before .args .bodies)) (c .loop-left .ensures) (loop-met (c .before .before .before .before .before .before .before .before .before .before .before .pre) _ (c .before .before .before .before .before .before .before .before .before .loop .inv .2) _ (c .before .before .before .before .before .before .velocity-pass .ensures) (c .before .before .before .before .before .before .before .before .loop-test .taken) (c .before .enum-told2 .given .1)), passes-is (c .loop-left .ensures) (omega (arith, c .before .before .before .before .before .before .before .before .loop-test .taken, c .before .before .before .before .before .before .before .before .before .loop .inv .1, c .before .before .before .before .before .before .velocity-pass .ensures .1)))
 
 enum-told-3 : tie.Need-enum-told-3 Inv-loop μ-loop
 enum-told-3 c = search needs
 
-add-t17 : tie.Need-add-t17 Inv-loop μ-loop
-add-t17 c = omega (arith, c .before .before .before .before .before .before .before .loop-test .taken, c .before .before .before .before .before .before .before .before .loop .inv .1, c .before .before .before .before .before .velocity-pass .ensures .1)
+add-loop-left-2 : tie.Need-add-loop-left-2 Inv-loop μ-loop
+add-loop-left-2 c = omega arith
+
+loop-left-requires-2 : tie.Need-loop-left-requires-2 Inv-loop μ-loop
+loop-left-requires-2 c κs = search needs
 
 same-length-2 : tie.Need-same-length-2 Inv-loop μ-loop
-same-length-2 c = c .before .before .before .before .before .velocity-pass .ensures .0 .kept .size ∙ c .before .before .before .before .before .before .before .before .loop .inv .2 .kept .size
+same-length-2 c = c .before .before .before .before .before .before .velocity-pass .ensures .0 .kept .size ∙ c .before .before .before .before .before .before .before .before .before .loop .inv .2 .kept .size
 
 returns-2 : tie.Need-returns-2 Inv-loop μ-loop
-returns-2 c = (loop-nonconvergent (c .before .before .before .before .before .before .before .before .before .before .pre) _ (c .before .before .before .before .before .before .before .before .loop .inv .2) _ (c .before .before .before .before .before .velocity-pass .ensures) (c .before .before .before .before .before .before .before .loop-test .taken) (c .enum-told3 .given .1), omega (arith, c .before .before .before .before .before .before .before .loop-test .taken, c .before .before .before .before .before .before .before .before .loop .inv .1, c .before .before .before .before .before .velocity-pass .ensures .1))
+returns-2 c = (looped-is (λ t. candidatesAt t (c .before .before .before .before .before .before .before .before .before .before .before .args .bodies)) (c .loop-left2 .ensures) (loop-nonconvergent (c .before .before .before .before .before .before .before .before .before .before .before .pre) _ (c .before .before .before .before .before .before .before .before .before .loop .inv .2) _ (c .before .before .before .before .before .before .velocity-pass .ensures) (c .before .before .before .before .before .before .before .before .loop-test .taken) (c .before .enum-told3 .given .1)), passes-is (c .loop-left2 .ensures) (omega (arith, c .before .before .before .before .before .before .before .before .loop-test .taken, c .before .before .before .before .before .before .before .before .before .loop .inv .1, c .before .before .before .before .before .before .velocity-pass .ensures .1)))
 
 enum-told-4 : tie.Need-enum-told-4 Inv-loop μ-loop
 enum-told-4 c = search needs
 
-add-t19 : tie.Need-add-t19 Inv-loop μ-loop
-add-t19 c = omega (arith, c .before .before .before .before .before .before .before .loop-test .taken, c .before .before .before .before .before .before .before .before .loop .inv .1, c .before .before .before .before .before .velocity-pass .ensures .1)
+add-loop-left-3 : tie.Need-add-loop-left-3 Inv-loop μ-loop
+add-loop-left-3 c = omega arith
+
+loop-left-requires-3 : tie.Need-loop-left-requires-3 Inv-loop μ-loop
+loop-left-requires-3 c κs = search needs
 
 same-length-3 : tie.Need-same-length-3 Inv-loop μ-loop
-same-length-3 c = c .before .before .before .before .before .velocity-pass .ensures .0 .kept .size ∙ c .before .before .before .before .before .before .before .before .loop .inv .2 .kept .size
+same-length-3 c = c .before .before .before .before .before .before .velocity-pass .ensures .0 .kept .size ∙ c .before .before .before .before .before .before .before .before .before .loop .inv .2 .kept .size
 
 returns-3 : tie.Need-returns-3 Inv-loop μ-loop
-returns-3 c = (loop-overflow (c .before .before .before .before .before .before .before .before .before .before .pre) _ (c .before .before .before .before .before .before .before .before .loop .inv .2) _ (c .before .before .before .before .before .velocity-pass .ensures) (c .before .before .before .before .before .before .before .loop-test .taken) (c .enum-told4 .given .1), omega (arith, c .before .before .before .before .before .before .before .loop-test .taken, c .before .before .before .before .before .before .before .before .loop .inv .1, c .before .before .before .before .before .velocity-pass .ensures .1))
+returns-3 c = (looped-is (λ t. candidatesAt t (c .before .before .before .before .before .before .before .before .before .before .before .args .bodies)) (c .loop-left3 .ensures) (loop-overflow (c .before .before .before .before .before .before .before .before .before .before .before .pre) _ (c .before .before .before .before .before .before .before .before .before .loop .inv .2) _ (c .before .before .before .before .before .before .velocity-pass .ensures) (c .before .before .before .before .before .before .before .before .loop-test .taken) (c .before .enum-told4 .given .1)), passes-is (c .loop-left3 .ensures) (omega (arith, c .before .before .before .before .before .before .before .before .loop-test .taken, c .before .before .before .before .before .before .before .before .before .loop .inv .1, c .before .before .before .before .before .before .velocity-pass .ensures .1)))
 
 add-k : tie.Need-add-k Inv-loop μ-loop
 add-k c = omega (arith, c .before .before .before .before .before .before .before .loop-test .taken, c .before .before .before .before .before .before .before .before .loop .inv .1, c .before .before .before .before .before .velocity-pass .ensures .1)
@@ -72,11 +83,14 @@ loop-less c = omega (arith, c .before .before .before .before .before .before .b
 loop-again : tie.Need-loop-again Inv-loop μ-loop
 loop-again c = (omega (arith, c .before .before .before .before .before .before .before .loop-test .taken, c .before .before .before .before .before .before .before .before .loop .inv .1, c .before .before .before .before .before .velocity-pass .ensures .1), omega (arith, c .before .before .before .before .before .before .before .loop-test .taken, c .before .before .before .before .before .before .before .before .loop .inv .1, c .before .before .before .before .before .velocity-pass .ensures .1), loop-next (c .before .before .before .before .before .before .before .before .before .before .pre) _ (c .before .before .before .before .before .before .before .before .loop .inv .2) _ (c .before .before .before .before .before .velocity-pass .ensures) (c .enum-told .given .1))
 
+loop-left-requires-4 : tie.Need-loop-left-requires-4 Inv-loop μ-loop
+loop-left-requires-4 c κs = search needs
+
 same-length-4 : tie.Need-same-length-4 Inv-loop μ-loop
-same-length-4 c = c .before .loop .inv .2 .kept .size
+same-length-4 c = c .before .before .loop .inv .2 .kept .size
 
 returns-4 : tie.Need-returns-4 Inv-loop μ-loop
-returns-4 c = (loop-spent (c .before .before .before .pre) _ (c .before .loop .inv .2) (omega arith) (c .loop-test .left), omega arith)
+returns-4 c = (looped-is (λ t. candidatesAt t (c .before .before .before .before .args .bodies)) (c .loop-left4 .ensures) (loop-spent (c .before .before .before .before .pre) _ (c .before .before .loop .inv .2) (omega arith) (c .before .loop-test .left)), passes-is (c .loop-left4 .ensures) (omega arith))
 
 pub velocity-loop-spec : {M : Type 1} → statement M
 velocity-loop-spec =
@@ -89,19 +103,23 @@ velocity-loop-spec =
     add-passes
     enum-told
     enum-told-2
-    add-t15
+    add-loop-left
+    loop-left-requires
     same-length
     returns
     enum-told-3
-    add-t17
+    add-loop-left-2
+    loop-left-requires-2
     same-length-2
     returns-2
     enum-told-4
-    add-t19
+    add-loop-left-3
+    loop-left-requires-3
     same-length-3
     returns-3
     add-k
     loop-less
     loop-again
+    loop-left-requires-4
     same-length-4
     returns-4)
