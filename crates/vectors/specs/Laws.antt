@@ -7,5 +7,6 @@ pub mod Options
 pub mod Normal
 pub mod Turn
 pub mod Rotation
+pub mod Sizes
 pub mod UnitTest
 pub mod Product
