@@ -1,9 +1,9 @@
--- `arith_c::rattle_sin` meets its contract.
+-- `bench_c::rattle_sin` meets its contract.
 use mathlib.Core.Path.{sym, ap, _∙_}
-use Rattle.arith_c.specs.Exported.{sineIn}
+use Rattle.bench_c.specs.Exported.{sineIn}
 use borrow.Author.Needs.{needs}
-use Rattle.arith_c.proofs.rattle_sin.Statement.{statement}
-use Rattle.arith_c.proofs.rattle_sin.Tie as tie
+use Rattle.bench_c.proofs.rattle_sin.Statement.{statement}
+use Rattle.bench_c.proofs.rattle_sin.Tie as tie
 
 sin-cos-requires : tie.Need-sin-cos-requires
 sin-cos-requires c κs = search needs

@@ -1,9 +1,9 @@
--- `arith_c::rattle_atan2` meets its contract.
+-- `bench_c::rattle_atan2` meets its contract.
 use mathlib.Core.Path.{sym, ap, _∙_}
-use Rattle.arith_c.specs.Exported.{angleIn}
+use Rattle.bench_c.specs.Exported.{angleIn}
 use borrow.Author.Needs.{needs}
-use Rattle.arith_c.proofs.rattle_atan2.Statement.{statement}
-use Rattle.arith_c.proofs.rattle_atan2.Tie as tie
+use Rattle.bench_c.proofs.rattle_atan2.Statement.{statement}
+use Rattle.bench_c.proofs.rattle_atan2.Tie as tie
 
 atan2-requires : tie.Need-atan2-requires
 atan2-requires c κs = search needs

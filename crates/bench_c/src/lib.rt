@@ -1,4 +1,4 @@
-// The functions of `arith` for Rust to link: bench/arith.rs measures them. A refused argument gives 0.
+// The functions of `arith` and the whole of `pose` for Rust to link: tools/bench measures them. A refused argument gives 0.
 use arith::angle::Angle;
 use arith::angle::SinCos;
 ghost use mathlib.Core.Path.{_≡_};
@@ -6,7 +6,9 @@ ghost use lib.Ieee.{binary64};
 ghost use Rattle.arith.specs.Root as Root;
 ghost use Rattle.arith.specs.Hypot.{hypotOf};
 ghost use Rattle.arith.specs.Angle.{sinCosOf, atan2Of, remTauOf};
-ghost use Rattle.arith_c.specs.Exported.{sineIn, cosineIn, angleIn};
+ghost use Rattle.io.specs.Counts.{Counts};
+ghost use Rattle.plan.specs.Pose as Pose;
+ghost use Rattle.bench_c.specs.Exported.{sineIn, cosineIn, angleIn};
 
 #[no_mangle]
 pub extern "C" fn rattle_sqrt(x: f64) -> f64
@@ -57,4 +59,14 @@ pub extern "C" fn rattle_rem_tau(x: f64) -> f64
     ensures { λ r. ⌜ r ≡ remTauOf x ⌝ }
 {
     arith::angle::rem_tau(x)
+}
+
+#[no_mangle]
+pub extern "C" fn pose_report(file: &[u8], out: &mut [u8]) -> usize
+    ensures { λ r. ⌜ Counts r (now (out .exit)) ⌝ }
+    ensures { λ r. ⌜ r ≡ Pose.poseLength (now (file .entry)) Pose.fresh (now (out .entry)) ⌝ }
+    ensures { λ _. ⌜ now (out .exit) ≡ Pose.poseOut (now (file .entry)) Pose.fresh (now (out .entry)) ⌝ }
+{
+    let mut scratch = [0.0f64; 6144];
+    plan::pose(file, &mut scratch, out)
 }
