@@ -92,7 +92,7 @@ abs-zero-at (fin s (suc m) e) f h =
 pub abs-zero : (x : Float) → T (fits binary64 x) → Ieee.eq x (F 0) ≡ true → F 0 ≡ absOf x
 abs-zero x f h = zero-is ∙ abs-zero-at x f (ap (Ieee.eq x) (sym zero-is) ∙ h)
 
-below-zero : (m : ℕ) (e : ℤ) → Ieee.lt (fin true (suc m) e) (fin false 0 (pos 0)) ≡ true
+pub below-zero : (m : ℕ) (e : ℤ) → Ieee.lt (fin true (suc m) e) (fin false 0 (pos 0)) ≡ true
 unfolding Ieee.lt
 below-zero m e =
     is-true (ltb 0 (suc m * up e * 1 + 0 * 1 * down e)) (lt→ltb 0 (suc m * up e * 1 + 0 * 1 * down e)
@@ -199,10 +199,10 @@ module _ (y x : Float) {a b : Bool} (e : a ≡ isFinite y) (h : not a ≡ false)
   atan-else i k = ap Angles.Value (k ∙ cond-no _ _ (ap (λ (b : Bool). b && Ieee.eq y (F 0)) i)) ∙ cond-yes _ _ finite
 
 -- ---- remainder
-pub rem-below : (x : Float) → Ieee.lt (Ieee.rem binary64 x TAU) (F 0) ≡ true → Ieee.rem binary64 x TAU ⊕ TAU ≡ remTauOf x
+pub rem-below : (x : Float) {r : Float} → r ≡ Ieee.rem binary64 x TAU → Ieee.lt r (F 0) ≡ true → r ⊕ TAU ≡ remTauOf x
 unfolding ofBits round remTauOf
-rem-below x h = cond-yes _ _ h
+rem-below x e h = cond-yes _ _ h ∙ ap (λ (r : Float). cond (Ieee.lt r (F 0)) (r ⊕ TAU) r) e
 
-pub rem-above : (x : Float) → Ieee.lt (Ieee.rem binary64 x TAU) (F 0) ≡ false → Ieee.rem binary64 x TAU ≡ remTauOf x
+pub rem-above : (x : Float) {r : Float} → r ≡ Ieee.rem binary64 x TAU → Ieee.lt r (F 0) ≡ false → r ≡ remTauOf x
 unfolding ofBits round remTauOf
-rem-above x h = cond-no _ _ h
+rem-above x e h = cond-no _ _ h ∙ ap (λ (r : Float). cond (Ieee.lt r (F 0)) (r ⊕ TAU) r) e

@@ -1,6 +1,7 @@
 // Sine and cosine of an angle from 0 to 4, the arc tangent of a quotient, and the remainder by a whole turn.
 use crate::number::abs;
 use crate::number::is_finite;
+use crate::remainder::remainder_tau;
 use crate::root::sqrt;
 ghost use mathlib.Core.Path.{_≡_};
 ghost use Rattle.arith.specs.Angle.{sineSum, cosineSum, halfTurn, doubled, turnOf, sinCosOf, halfTangent, arcSum, octant, quadrant, facing, angleOf, atan2Of, remTauOf};
@@ -210,6 +211,6 @@ pub fn atan2(y: f64, x: f64) -> Angle
 pub fn rem_tau(x: f64) -> f64
     ensures { λ r. ⌜ r ≡ remTauOf x ⌝ }
 {
-    let r = x % TAU;
+    let r = remainder_tau(x);
     if r < 0.0 { r + TAU } else { r }
 }
