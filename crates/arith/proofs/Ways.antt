@@ -2,7 +2,7 @@
 use lib.Ieee as Ieee
 use lib.Ieee.{Float, nan, inf, fin, binary64, ofBits, round, neg, fits, up, down}
 use mathlib.Core.Path.{_≡_, refl, sym, ap, _∙_, subst}
-use mathlib.Core.Bool.{Bool, true, false, cond, not, _&&_, _||_, Bool·beq, true≢false}
+use mathlib.Core.Bool.{Bool, true, false, cond, not, _&&_, _||_, Bool·beq, Bool·not-not, true≢false}
 use lib.IntN.{ℤ, pos, negsuc}
 use lib.Dec.{T, ltb, eqb, ltb→lt, lt→ltb, eqb→eq, lit<}
 use lib.Pow.{pow-pos}
@@ -11,12 +11,15 @@ use lib.Ieee.Bits.{is-true}
 use native.Mathlib.Nat.{not-suc-le-zero, not-le-of-lt, zero-mul, mul-one, one-mul, pow-succ', mul-le-mul-left, mul-pos, zero-lt-suc, lt-of-lt-of-le, le-add-right}
 use Rattle.arith.proofs.RootCases.{no}
 use Rattle.arith.specs.RealLaws.{finite-is, not-zero, and-left, zero-left, zero-is}
+use Rattle.exact.specs.Compare.{lt-val, le-val}
 use Rattle.arith.specs.FlowLaws.{not-yes, not-no, cond-yes, cond-no}
 use Prim.Native.Nat.{ℕ, zero, suc, _+_, _*_, _^_, _≤_, _<_}
 use Rattle.arith.specs.Real.{_⊕_, _⊖_, _⊗_, _⊘_, F, ratio, isFinite, absOf}
 use Rattle.arith.specs.Root.{sqrt}
 use Rattle.arith.specs.Hypot.{hypotOf, scaledRoot}
-use Rattle.arith.specs.Angle.{PI, TAU, factorial, sineSum, cosineSum, halfTurn, doubled, turnOf, sinCosOf, halfTangent, arcSum, octant, quadrant, facing, angleOf, atan2Of, remTauOf}
+use Rattle.arith.specs.Fault.{number, arithmeticOverflow}
+use Rattle.arith.specs.Angle.{PI, TAU, sineSum, cosineSum, halfTurn, doubled, turnOf, sinCosOf, sinCosNumber, SinCosAnswered}
+use Rattle.arith.specs.Angle.{halfTangent, arcSum, octant, quadrant, facing, angleOf, atan2Of, angleNumber, Atan2Answered, remTauOf}
 use Rattle.arith.specs.declared.angle.Turn.{Turn}
 use Rattle.arith.specs.declared.angle.SinCos.{SinCos}
 use Rattle.arith.specs.declared.angle.SinCos.the-variants as Sines
@@ -60,6 +63,32 @@ sines-in h p q e = ap Sines.Value e ∙ cond-yes _ _ q ∙ cond-no _ _ p
 pub sines-high : (h : Float) → Ieee.lt h (F 0) ≡ false → Ieee.le h (F 0x4010_0000_0000_0000) ≡ false → Sines.Refused ≡ sinCosOf h
 unfolding ofBits round sinCosOf
 sines-high h p q = cond-no _ _ q ∙ cond-no _ _ p
+
+-- 0 ≤ h ≤ 4, as the code tests it
+within-four : (h : Float) → not (Ieee.lt h (F 0)) && Ieee.le h (F 0x4010_0000_0000_0000) ≡ Ieee.le (F 0) h && Ieee.le h (F 0x4010_0000_0000_0000)
+unfolding ofBits Ieee.le Ieee.lt Ieee.eq
+within-four nan = refl
+within-four (inf true) = refl
+within-four (inf false) = refl
+within-four (fin s m e) =
+    let h = fin s m e in
+    let test = Ieee.le h (F 0x4010_0000_0000_0000) in
+    let low : not (Ieee.lt h (F 0)) ≡ Ieee.le (F 0) h = ap not (lt-val h (F 0) tt tt) ∙ Bool·not-not _ ∙ sym (le-val (F 0) h tt tt) in
+    ap (λ (b : Bool). b && test) low
+
+numbered-turn : (a b : Bool) (t : Turn) → sinCosNumber (cond a Sines.Refused (cond b (Sines.Value t) Sines.Refused)) ≡ cond (not a && b) 0 (number arithmeticOverflow)
+numbered-turn true b t = refl
+numbered-turn false true t = refl
+numbered-turn false false t = refl
+
+pub sines-answered : (h : Float) {r : SinCos} → r ≡ sinCosOf h → SinCosAnswered h r
+unfolding ofBits round sinCosOf
+sines-answered h e = record {
+  is = e;
+  numbered = ap sinCosNumber e
+      ∙ numbered-turn (Ieee.lt h (F 0)) (Ieee.le h (F 0x4010_0000_0000_0000)) (turnOf 3 h)
+      ∙ ap (λ (b : Bool). cond b 0 (number arithmeticOverflow)) (within-four h);
+}
 
 -- ---- magnitude and finiteness
 no-below : (a d : ℕ) → ltb a (0 * d) ≡ true → ⊥
@@ -197,6 +226,14 @@ module _ (y x : Float) {a b : Bool} (e : a ≡ isFinite y) (h : not a ≡ false)
   pub atan-else : {r : Float} → Ieee.eq x (F 0) ≡ false → r ≡ angleOf y x → Angles.Value r ≡ atan2Of y x
   unfolding ofBits round atan2Of
   atan-else i k = ap Angles.Value (k ∙ cond-no _ _ (ap (λ (b : Bool). b && Ieee.eq y (F 0)) i)) ∙ cond-yes _ _ finite
+
+numbered-angle : (b : Bool) (v : Float) → angleNumber (cond b (Angles.Value v) Angles.Refused) ≡ cond b 0 (number arithmeticOverflow)
+numbered-angle true v = refl
+numbered-angle false v = refl
+
+pub atan-answered : (y x : Float) {r : Angle} → r ≡ atan2Of y x → Atan2Answered y x r
+unfolding atan2Of
+atan-answered y x e = record { is = e; numbered = ap angleNumber e ∙ numbered-angle (isFinite y && isFinite x) _ }
 
 -- ---- remainder
 pub rem-below : (x : Float) {r : Float} → r ≡ Ieee.rem binary64 x TAU → Ieee.lt r (F 0) ≡ true → r ⊕ TAU ≡ remTauOf x
