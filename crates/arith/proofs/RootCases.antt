@@ -106,7 +106,7 @@ at-zero-at (fin s (suc m) e) h = absurd (not-zero m (up e) (up-pos e) (eqb→eq 
 pub at-zero : (x : Float) → eq x (ofBits binary64 0) ≡ true → x ≡ sqrt binary64 x
 at-zero x h = at-zero-at x (same x true h)
 
-invalid : div binary64 (ofBits binary64 0) (ofBits binary64 0) ≡ nan
+pub invalid : div binary64 (ofBits binary64 0) (ofBits binary64 0) ≡ nan
 unfolding div ofBits
 invalid = refl
 

@@ -2,7 +2,7 @@
 use lib.Ieee as Ieee
 use lib.Ieee.{Float, nan, inf, fin, binary64, ofBits, round, neg, fits, up, down}
 use mathlib.Core.Path.{_≡_, refl, sym, ap, _∙_, subst}
-use mathlib.Core.Bool.{Bool, true, false, cond, not, _&&_, _||_, Bool·beq, true≢false}
+use mathlib.Core.Bool.{Bool, true, false, cond, not, _&&_, _||_, Bool·beq, Bool·not-not, true≢false}
 use lib.IntN.{ℤ, pos, negsuc}
 use lib.Dec.{T, ltb, eqb, ltb→lt, lt→ltb, eqb→eq, lit<}
 use lib.Pow.{pow-pos}
@@ -11,12 +11,15 @@ use lib.Ieee.Bits.{is-true}
 use native.Mathlib.Nat.{not-suc-le-zero, not-le-of-lt, zero-mul, mul-one, one-mul, pow-succ', mul-le-mul-left, mul-pos, zero-lt-suc, lt-of-lt-of-le, le-add-right}
 use Rattle.arith.proofs.RootCases.{no}
 use Rattle.arith.specs.RealLaws.{finite-is, not-zero, and-left, zero-left, zero-is}
+use Rattle.exact.specs.Compare.{lt-val, le-val}
 use Rattle.arith.specs.FlowLaws.{not-yes, not-no, cond-yes, cond-no}
 use Prim.Native.Nat.{ℕ, zero, suc, _+_, _*_, _^_, _≤_, _<_}
 use Rattle.arith.specs.Real.{_⊕_, _⊖_, _⊗_, _⊘_, F, ratio, isFinite, absOf}
 use Rattle.arith.specs.Root.{sqrt}
 use Rattle.arith.specs.Hypot.{hypotOf, scaledRoot}
-use Rattle.arith.specs.Angle.{PI, TAU, factorial, sineSum, cosineSum, halfTurn, doubled, turnOf, sinCosOf, halfTangent, arcSum, octant, quadrant, facing, angleOf, atan2Of, remTauOf}
+use Rattle.arith.specs.Fault.{number, arithmeticOverflow}
+use Rattle.arith.specs.Angle.{PI, TAU, sineSum, cosineSum, halfTurn, doubled, turnOf, sinCosOf, sinCosNumber, SinCosAnswered}
+use Rattle.arith.specs.Angle.{halfTangent, arcSum, octant, quadrant, facing, angleOf, atan2Of, angleNumber, Atan2Answered, remTauOf}
 use Rattle.arith.specs.declared.angle.Turn.{Turn}
 use Rattle.arith.specs.declared.angle.SinCos.{SinCos}
 use Rattle.arith.specs.declared.angle.SinCos.the-variants as Sines
@@ -61,6 +64,32 @@ pub sines-high : (h : Float) → Ieee.lt h (F 0) ≡ false → Ieee.le h (F 0x40
 unfolding ofBits round sinCosOf
 sines-high h p q = cond-no _ _ q ∙ cond-no _ _ p
 
+-- 0 ≤ h ≤ 4, as the code tests it
+within-four : (h : Float) → not (Ieee.lt h (F 0)) && Ieee.le h (F 0x4010_0000_0000_0000) ≡ Ieee.le (F 0) h && Ieee.le h (F 0x4010_0000_0000_0000)
+unfolding ofBits Ieee.le Ieee.lt Ieee.eq
+within-four nan = refl
+within-four (inf true) = refl
+within-four (inf false) = refl
+within-four (fin s m e) =
+    let h = fin s m e in
+    let test = Ieee.le h (F 0x4010_0000_0000_0000) in
+    let low : not (Ieee.lt h (F 0)) ≡ Ieee.le (F 0) h = ap not (lt-val h (F 0) tt tt) ∙ Bool·not-not _ ∙ sym (le-val (F 0) h tt tt) in
+    ap (λ (b : Bool). b && test) low
+
+numbered-turn : (a b : Bool) (t : Turn) → sinCosNumber (cond a Sines.Refused (cond b (Sines.Value t) Sines.Refused)) ≡ cond (not a && b) 0 (number arithmeticOverflow)
+numbered-turn true b t = refl
+numbered-turn false true t = refl
+numbered-turn false false t = refl
+
+pub sines-answered : (h : Float) {r : SinCos} → r ≡ sinCosOf h → SinCosAnswered h r
+unfolding ofBits round sinCosOf
+sines-answered h e = record {
+  is = e;
+  numbered = ap sinCosNumber e
+      ∙ numbered-turn (Ieee.lt h (F 0)) (Ieee.le h (F 0x4010_0000_0000_0000)) (turnOf 3 h)
+      ∙ ap (λ (b : Bool). cond b 0 (number arithmeticOverflow)) (within-four h);
+}
+
 -- ---- magnitude and finiteness
 no-below : (a d : ℕ) → ltb a (0 * d) ≡ true → ⊥
 no-below a d h = not-suc-le-zero (rw zero-mul at (ltb→lt a (0 * d) (subst T (sym h) tt)))
@@ -92,7 +121,7 @@ abs-zero-at (fin s (suc m) e) f h =
 pub abs-zero : (x : Float) → T (fits binary64 x) → Ieee.eq x (F 0) ≡ true → F 0 ≡ absOf x
 abs-zero x f h = zero-is ∙ abs-zero-at x f (ap (Ieee.eq x) (sym zero-is) ∙ h)
 
-below-zero : (m : ℕ) (e : ℤ) → Ieee.lt (fin true (suc m) e) (fin false 0 (pos 0)) ≡ true
+pub below-zero : (m : ℕ) (e : ℤ) → Ieee.lt (fin true (suc m) e) (fin false 0 (pos 0)) ≡ true
 unfolding Ieee.lt
 below-zero m e =
     is-true (ltb 0 (suc m * up e * 1 + 0 * 1 * down e)) (lt→ltb 0 (suc m * up e * 1 + 0 * 1 * down e)
@@ -198,11 +227,19 @@ module _ (y x : Float) {a b : Bool} (e : a ≡ isFinite y) (h : not a ≡ false)
   unfolding ofBits round atan2Of
   atan-else i k = ap Angles.Value (k ∙ cond-no _ _ (ap (λ (b : Bool). b && Ieee.eq y (F 0)) i)) ∙ cond-yes _ _ finite
 
--- ---- remainder
-pub rem-below : (x : Float) → Ieee.lt (Ieee.rem binary64 x TAU) (F 0) ≡ true → Ieee.rem binary64 x TAU ⊕ TAU ≡ remTauOf x
-unfolding ofBits round remTauOf
-rem-below x h = cond-yes _ _ h
+numbered-angle : (b : Bool) (v : Float) → angleNumber (cond b (Angles.Value v) Angles.Refused) ≡ cond b 0 (number arithmeticOverflow)
+numbered-angle true v = refl
+numbered-angle false v = refl
 
-pub rem-above : (x : Float) → Ieee.lt (Ieee.rem binary64 x TAU) (F 0) ≡ false → Ieee.rem binary64 x TAU ≡ remTauOf x
+pub atan-answered : (y x : Float) {r : Angle} → r ≡ atan2Of y x → Atan2Answered y x r
+unfolding atan2Of
+atan-answered y x e = record { is = e; numbered = ap angleNumber e ∙ numbered-angle (isFinite y && isFinite x) _ }
+
+-- ---- remainder
+pub rem-below : (x : Float) {r : Float} → r ≡ Ieee.rem binary64 x TAU → Ieee.lt r (F 0) ≡ true → r ⊕ TAU ≡ remTauOf x
 unfolding ofBits round remTauOf
-rem-above x h = cond-no _ _ h
+rem-below x e h = cond-yes _ _ h ∙ ap (λ (r : Float). cond (Ieee.lt r (F 0)) (r ⊕ TAU) r) e
+
+pub rem-above : (x : Float) {r : Float} → r ≡ Ieee.rem binary64 x TAU → Ieee.lt r (F 0) ≡ false → r ≡ remTauOf x
+unfolding ofBits round remTauOf
+rem-above x e h = cond-no _ _ h ∙ ap (λ (r : Float). cond (Ieee.lt r (F 0)) (r ⊕ TAU) r) e

@@ -1,11 +1,13 @@
 -- Sine and cosine of an angle from 0 to 4, the arc tangent of a quotient and the remainder by a whole turn, by document 01's words.
 use lib.Ieee as Ieee
 use lib.Ieee.{Float, binary64, neg}
+use mathlib.Core.Path.{_≡_}
 use mathlib.Core.Bool.{Bool, cond, _&&_}
 use mathlib.Core.List.{List, [], _∷_}
 use Prim.Native.Nat.{ℕ, zero, suc, _*_}
 use Rattle.arith.specs.Real.{_⊕_, _⊖_, _⊗_, _⊘_, F, ratio, isFinite, absOf}
 use Rattle.arith.specs.Root.{sqrt}
+use Rattle.arith.specs.Fault.{number, arithmeticOverflow}
 use Rattle.arith.specs.declared.angle.Turn.{Turn}
 use Rattle.arith.specs.declared.angle.SinCos.{SinCos}
 use Rattle.arith.specs.declared.angle.SinCos.the-variants as Sines
@@ -62,6 +64,16 @@ turnOf (suc k) x = cond (Ieee.le x (ratio 1 2)) (halfTurn x) (doubled (turnOf k 
 unfoldable pub sinCosOf : Float → SinCos
 sinCosOf h = cond (Ieee.lt h (ratio 0 1)) Sines.Refused (cond (Ieee.le h (ratio 4 1)) (Sines.Value (turnOf 3 h)) Sines.Refused)
 
+-- document 01's number of an answer: 0 for a value
+abbrev pub sinCosNumber : SinCos → ℕ
+sinCosNumber (Sines.Value t) = 0
+sinCosNumber Sines.Refused = number arithmeticOverflow
+
+-- what `sin_cos` promises: its value, and that it is refused unless 0 ≤ h ≤ 4
+pub record SinCosAnswered (h : Float) (r : SinCos) : Type 0 where
+  pub is : r ≡ sinCosOf h
+  pub numbered : sinCosNumber r ≡ cond (Ieee.le (ratio 0 1) h && Ieee.le h (ratio 4 1)) 0 (number arithmeticOverflow)
+
 -- ---- arc tangent
 -- q becomes q / (1 + sqrt(1 + q times q))
 unfoldable pub halfTangent : Float → Float
@@ -96,6 +108,15 @@ atan2Of y x =
     cond (isFinite y && isFinite x)
     (Angles.Value (cond (Ieee.eq x (ratio 0 1) && Ieee.eq y (ratio 0 1)) (ratio 0 1) (angleOf y x)))
     Angles.Refused
+
+abbrev pub angleNumber : Angle → ℕ
+angleNumber (Angles.Value v) = 0
+angleNumber Angles.Refused = number arithmeticOverflow
+
+-- what `atan2` promises: its value, and that it is refused unless both arguments are finite
+pub record Atan2Answered (y x : Float) (r : Angle) : Type 0 where
+  pub is : r ≡ atan2Of y x
+  pub numbered : angleNumber r ≡ cond (isFinite y && isFinite x) 0 (number arithmeticOverflow)
 
 -- ---- `rem_euclid` by TAU: the language's %, plus TAU where that is below 0
 unfoldable pub remTauOf : Float → Float

@@ -1,6 +1,7 @@
 -- Laws of the definitions, proved, which this crate's proofs and other crates' cite.
 pub mod Constants
 pub mod ExactSums
+pub mod Rounding
 pub mod RootHalves
 pub mod RootLaws
 pub mod RootBits

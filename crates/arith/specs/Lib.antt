@@ -1,7 +1,8 @@
--- Definitions that a reader must believe: Real, Root, Hypot, Angle, ExactSums and Flow. The others are laws of them.
+-- Definitions that a reader must believe: Real, Root, Hypot, Fault, Angle, ExactSums and Flow. The others are laws of them.
 pub mod Real
 pub mod Root
 pub mod Hypot
+pub mod Fault
 pub mod Angle
 pub mod ExactSums
 pub mod Flow

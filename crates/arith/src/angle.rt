@@ -1,9 +1,11 @@
 // Sine and cosine of an angle from 0 to 4, the arc tangent of a quotient, and the remainder by a whole turn.
 use crate::number::abs;
 use crate::number::is_finite;
+use crate::remainder::remainder_tau;
 use crate::root::sqrt;
 ghost use mathlib.Core.Path.{_≡_};
-ghost use Rattle.arith.specs.Angle.{sineSum, cosineSum, halfTurn, doubled, turnOf, sinCosOf, halfTangent, arcSum, octant, quadrant, facing, angleOf, atan2Of, remTauOf};
+ghost use Rattle.arith.specs.Angle.{sineSum, cosineSum, halfTurn, doubled, turnOf, SinCosAnswered};
+ghost use Rattle.arith.specs.Angle.{halfTangent, arcSum, octant, quadrant, facing, angleOf, Atan2Answered, remTauOf};
 
 pub const PI: f64 = 3.141592653589793;
 
@@ -116,7 +118,7 @@ fn turn_to_four(x: f64) -> Turn
 }
 
 pub fn sin_cos(h: f64) -> SinCos
-    ensures { λ r. ⌜ r ≡ sinCosOf h ⌝ }
+    ensures { λ r. ⌜ SinCosAnswered h r ⌝ }
 {
     if h < 0.0 {
         return SinCos::Refused;
@@ -189,7 +191,7 @@ fn angle_of(y: f64, x: f64) -> f64
 }
 
 pub fn atan2(y: f64, x: f64) -> Angle
-    ensures { λ r. ⌜ r ≡ atan2Of y x ⌝ }
+    ensures { λ r. ⌜ Atan2Answered y x r ⌝ }
 {
     if !is_finite(y) {
         return Angle::Refused;
@@ -210,6 +212,6 @@ pub fn atan2(y: f64, x: f64) -> Angle
 pub fn rem_tau(x: f64) -> f64
     ensures { λ r. ⌜ r ≡ remTauOf x ⌝ }
 {
-    let r = x % TAU;
+    let r = remainder_tau(x);
     if r < 0.0 { r + TAU } else { r }
 }

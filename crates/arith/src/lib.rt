@@ -1,4 +1,5 @@
 // The archive's arithmetic: one fixed formula for each function, so that every rerun gives the same bits.
 pub mod angle;
 pub mod number;
+mod remainder;
 pub mod root;

@@ -1,8 +1,8 @@
 -- How a call of the solver fails, and mod.rs: `Turn A Fault` is its Result.
-use Prim.Native.Nat.{ℕ}
 use mathlib.Core.Bool.{cond}
 use lib.Ieee.{Float}
 use Rattle.arith.specs.Flow.{Turn, go, stop}
+pub use Rattle.arith.specs.Fault.{Fault, nonConvergent, arithmeticOverflow, number}
 use Rattle.vectors.specs.declared.vector.Vec3.{Vec3}
 use Rattle.vectors.specs.declared.vector.OptionVec3.{OptionVec3}
 use Rattle.vectors.specs.declared.vector.OptionVec3.the-variants as Vector
@@ -13,16 +13,6 @@ use Rattle.vectors.specs.declared.quaternion.OptionQuat.{OptionQuat}
 use Rattle.vectors.specs.declared.quaternion.OptionQuat.the-variants as Rotation
 use Rattle.vectors.specs.Vector.{finiteOf, checkedLengthOf}
 use Rattle.vectors.specs.Quaternion.{rotateVectorOf}
-
--- CollisionError, as far as it occurs
-pub data Fault : Type 0 where
-  nonConvergent : Fault
-  arithmeticOverflow : Fault
-
--- document 01's numbers
-abbrev pub number : Fault → ℕ
-number nonConvergent = 10
-number arithmeticOverflow = 11
 
 abbrev pub Result : Type 0 → Type 0
 Result A = Turn A Fault

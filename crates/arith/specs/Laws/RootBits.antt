@@ -138,11 +138,11 @@ no-sign b h = mod-eq-of-lt (lt-of-lt-of-le h (lit≤ tt))
 plus : (b : ℕ) → b < 9218868437227405312 → leb (top binary64) b ≡ false
 plus b h = is-false (leb (top binary64) b) (not-T (leb (top binary64) b) (λ t. not-le-of-lt (lt-of-lt-of-le h (lit≤ tt)) (leb→le (top binary64) b t)))
 
-fields : (b : ℕ) → b < 9218868437227405312 → ofBits binary64 b ≡ ofFields binary64 false (b / 4503599627370496) (b % 4503599627370496)
+pub fields : (b : ℕ) → b < 9218868437227405312 → ofBits binary64 b ≡ ofFields binary64 false (b / 4503599627370496) (b % 4503599627370496)
 unfolding ofBits
 fields b h = ap (λ (s : Bool). ofFields binary64 s (b % top binary64 / 4503599627370496) (b % 4503599627370496)) (plus b h) ∙ ap (λ (x : ℕ). ofFields binary64 false (x / 4503599627370496) (b % 4503599627370496)) (no-sign b h)
 
-exponent-lt : (b : ℕ) → b < 9218868437227405312 → b / 4503599627370496 < 2047
+pub exponent-lt : (b : ℕ) → b < 9218868437227405312 → b / 4503599627370496 < 2047
 exponent-lt b h = omega arith
 
 not-ones : (x : ℕ) → suc x < 2047 → eqb (suc x) 2047 ≡ false
@@ -151,11 +151,11 @@ not-ones x h = is-false (eqb (suc x) 2047) (not-T (eqb (suc x) 2047) (λ t. clas
     clash : (x : ℕ) → suc x < 2047 → suc x ≡ 2047 → ⊥
     clash x h e = omega arith
 
-low-value : (t : ℕ) → HasValue (ofFields binary64 false 0 t) false (t * 2 ^ 0) (2 ^ 1074)
+pub low-value : (t : ℕ) → HasValue (ofFields binary64 false 0 t) false (t * 2 ^ 0) (2 ^ 1074)
 unfolding ofFields
 low-value t = odd-sign 53 false t 0 1074
 
-high-value : (x t : ℕ) → suc x < 2047 → HasValue (ofFields binary64 false (suc x) t) false ((4503599627370496 + t) * 2 ^ x) (2 ^ 1074)
+pub high-value : (x t : ℕ) → suc x < 2047 → HasValue (ofFields binary64 false (suc x) t) false ((4503599627370496 + t) * 2 ^ x) (2 ^ 1074)
 unfolding ofFields
 high-value x t h =
     subst (λ (b : Bool). HasValue (cond b (cond (eqb t 0) (inf false) nan) (odd 53 false (4503599627370496 + t) x 1074)) false ((4503599627370496 + t) * 2 ^ x) (2 ^ 1074)) (sym (not-ones x h))

@@ -15,10 +15,10 @@ enum-told : tie.Need-enum-told
 enum-told c = search needs
 
 returns : tie.Need-returns
-returns c = ap angleIn (sym (c .before .v .given .1) ∙ c .before .before .before .atan2 .ensures)
+returns c = ap angleIn (sym (c .before .v .given .1) ∙ c .before .before .before .atan2 .ensures .is)
 
 returns-2 : tie.Need-returns-2
-returns-2 c = ap angleIn (sym (c .enum-told .given .1) ∙ c .before .before .atan2 .ensures)
+returns-2 c = ap angleIn (sym (c .enum-told .given .1) ∙ c .before .before .atan2 .ensures .is)
 
 pub rattle-atan2-spec : {M : Type 1} → statement M
 rattle-atan2-spec = tie.close (tie.spec atan2-requires enum-known-v enum-told returns returns-2)

@@ -15,10 +15,10 @@ enum-told : tie.Need-enum-told
 enum-told c = search needs
 
 returns : tie.Need-returns
-returns c = ap sineIn (sym (c .before .t .given .1) ∙ c .before .before .before .sin-cos .ensures)
+returns c = ap sineIn (sym (c .before .t .given .1) ∙ c .before .before .before .sin-cos .ensures .is)
 
 returns-2 : tie.Need-returns-2
-returns-2 c = ap sineIn (sym (c .enum-told .given .1) ∙ c .before .before .sin-cos .ensures)
+returns-2 c = ap sineIn (sym (c .enum-told .given .1) ∙ c .before .before .sin-cos .ensures .is)
 
 pub rattle-sin-spec : {M : Type 1} → statement M
 rattle-sin-spec = tie.close (tie.spec sin-cos-requires enum-known-t enum-told returns returns-2)

@@ -14,7 +14,7 @@ enum-told : tie.Need-enum-told
 enum-told c = search needs
 
 returns : tie.Need-returns
-returns c = single-stop _ (twist-1 _ _ _ _ (c .before .before .atan2 .ensures) (c .enum-told .given .1))
+returns c = single-stop _ (twist-1 _ _ _ _ (c .before .before .atan2 .ensures .is) (c .enum-told .given .1))
 
 rem-tau-requires : tie.Need-rem-tau-requires
 rem-tau-requires c κs = search needs
@@ -25,7 +25,7 @@ abs-requires c κs = search needs
 returns-2 : tie.Need-returns-2
 returns-2 c =
     single-stop _
-    (twist-2 _ _ _ _ (c .before .before .before .before .before .before .atan2 .ensures) (c .before .before .before .before .half .given .1) (c .before .before .rem-tau .ensures) (c .before .abs .ensures) (c .if1 .taken))
+    (twist-2 _ _ _ _ (c .before .before .before .before .before .before .atan2 .ensures .is) (c .before .before .before .before .half .given .1) (c .before .before .rem-tau .ensures) (c .before .abs .ensures) (c .if1 .taken))
 
 scale-requires : tie.Need-scale-requires
 scale-requires c κs = search needs
@@ -37,7 +37,7 @@ returns-3 : tie.Need-returns-3
 returns-3 c =
     let c₆ = c .before .before .before .before .before .before in
     twist-3 _ _ _ _
-    (c₆ .before .before .before .before .before .before .atan2 .ensures) (c₆ .before .before .before .before .half .given .1)
+    (c₆ .before .before .before .before .before .before .atan2 .ensures .is) (c₆ .before .before .before .before .half .given .1)
     (c₆ .before .before .rem-tau .ensures) (c₆ .before .abs .ensures) (c .before .before .before .before .before .before .if1 .left)
     (c .before .before .before .scale .ensures) (c .gradient-row .ensures)
 

@@ -35,13 +35,13 @@ enum-told : tie.Need-enum-told
 enum-told c = search needs
 
 returns-4 : tie.Need-returns-4
-returns-4 c = delta-refused _ (c .before .before .before .before .before .before .before .before .is-finite .ensures) (c .before .before .before .before .before .before .before .if1 .left) (c .before .before .before .before .before .before .length .ensures) (c .before .before .before .before .before .is-finite2 .ensures) (c .before .before .before .before .if2 .left) tiny-is (c .before .before .before .if3 .left) half-is (c .before .before .sin-cos .ensures) (c .enum-told .given .1)
+returns-4 c = delta-refused _ (c .before .before .before .before .before .before .before .before .is-finite .ensures) (c .before .before .before .before .before .before .before .if1 .left) (c .before .before .before .before .before .before .length .ensures) (c .before .before .before .before .before .is-finite2 .ensures) (c .before .before .before .before .if2 .left) tiny-is (c .before .before .before .if3 .left) half-is (c .before .before .sin-cos .ensures .is) (c .enum-told .given .1)
 
 div-requires : tie.Need-div-requires
 div-requires c κs = search needs
 
 returns-5 : tie.Need-returns-5
-returns-5 c = delta-turn _ (c .before .before .before .before .before .before .before .before .before .before .before .before .before .before .before .before .is-finite .ensures) (c .before .before .before .before .before .before .before .before .before .before .before .before .before .before .before .if1 .left) (c .before .before .before .before .before .before .before .before .before .before .before .before .before .before .length .ensures) (c .before .before .before .before .before .before .before .before .before .before .before .before .before .is-finite2 .ensures) (c .before .before .before .before .before .before .before .before .before .before .before .before .if2 .left) tiny-is (c .before .before .before .before .before .before .before .before .before .before .before .if3 .left) half-is (c .before .before .before .before .before .before .before .before .before .before .sin-cos .ensures) (c .before .before .before .before .before .before .before .before .turn .given .1) (c .before .before .before .before .before .before .div .ensures)
+returns-5 c = delta-turn _ (c .before .before .before .before .before .before .before .before .before .before .before .before .before .before .before .before .is-finite .ensures) (c .before .before .before .before .before .before .before .before .before .before .before .before .before .before .before .if1 .left) (c .before .before .before .before .before .before .before .before .before .before .before .before .before .before .length .ensures) (c .before .before .before .before .before .before .before .before .before .before .before .before .before .is-finite2 .ensures) (c .before .before .before .before .before .before .before .before .before .before .before .before .if2 .left) tiny-is (c .before .before .before .before .before .before .before .before .before .before .before .if3 .left) half-is (c .before .before .before .before .before .before .before .before .before .before .sin-cos .ensures .is) (c .before .before .before .before .before .before .before .before .turn .given .1) (c .before .before .before .before .before .before .div .ensures)
 
 pub turn-of-spec : {M : Type 1} → statement M
 turn-of-spec =

@@ -1,0 +1,10 @@
+-- How a call of the solver fails, as far as the Rust's CollisionError occurs, with document 01's number of each.
+use Prim.Native.Nat.{ℕ}
+
+pub data Fault : Type 0 where
+  nonConvergent : Fault
+  arithmeticOverflow : Fault
+
+abbrev pub number : Fault → ℕ
+number nonConvergent = 10
+number arithmeticOverflow = 11
