@@ -1,8 +1,10 @@
 -- Document 01, "Exact geometry of demand 3", in exact fractions and in the paper's letters. It reads the origin and rotation of body records, and a joint; nothing of the solver occurs in it.
 use Prim.Native.Nat.{_^_}
+use mathlib.Core.Bool.{Bool, true, _&&_}
 use lib.Dec.{T, lit<}
 use Rattle.exact.specs.Rat.{ℚ, mk, qn, _+q_, _-q_, _*q_, negq, _≤q_, _<q_, inv}
 use Rattle.exact.specs.Val.{val}
+use Rattle.arith.specs.Real.{isFinite}
 use Rattle.vectors.specs.declared.vector.Vec3.{Vec3}
 use Rattle.vectors.specs.declared.quaternion.Quat.{Quat}
 use Rattle.vectors.specs.Vector.{finiteOf}
@@ -140,3 +142,20 @@ pub record Stands (origin : Vec3) (rotation : Quat) : Type 0 where
   pub origin-finite : T (finiteOf origin)
   pub rotation-finite : T (quatFiniteOf rotation)
   pub N-above : qn 0 <q N (quaternion rotation)
+
+-- the numbers of a kind are finite
+abbrev pub kindFinite : Kind → Bool
+kindFinite Ball = true
+kindFinite Hinge = true
+kindFinite Cylindrical = true
+kindFinite Planar = true
+kindFinite (Distance L) = isFinite L
+kindFinite (ConeTwist swingX swingY twistLower twistUpper) = isFinite swingX && isFinite swingY && isFinite twistLower && isFinite twistUpper
+
+-- `Met` speaks of real numbers: every number of the joint is finite, and N is above 0 for both frame rotations, alone and in bodies at the places a and b
+pub record Proper (joint : Joint) (a b : Place) : Type 0 where
+  pub frame-a : Stands (joint .«frame_a» .«local_anchor») (joint .«frame_a» .«local_rotation»)
+  pub frame-b : Stands (joint .«frame_b» .«local_anchor») (joint .«frame_b» .«local_rotation»)
+  pub kind-finite : T (kindFinite (joint .kind))
+  pub product-a : qn 0 <q N (frame a (joint .«frame_a»))
+  pub product-b : qn 0 <q N (frame b (joint .«frame_b»))

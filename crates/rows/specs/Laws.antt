@@ -9,3 +9,4 @@ pub mod Axes
 pub mod Rods
 pub mod RowsIn
 pub mod Met
+pub mod Frames

@@ -5,7 +5,7 @@ use mathlib.Core.List.{List}
 use lib.ListN.{length}
 use lib.Ieee.{Float}
 use Rattle.rows.specs.declared.geometry.Joint.{Joint}
-use Rattle.rows.specs.ExactGeometry.{recordPlace, Met, Stands}
+use Rattle.rows.specs.ExactGeometry.{Place, recordPlace, Met, Stands, Proper}
 use Rattle.step.specs.declared.Outcome.the-variants.{Accepted}
 use Rattle.step.specs.declared.Report.{Report}
 use Rattle.step.specs.Records.{recordAt, bodyCount}
@@ -16,13 +16,24 @@ use Rattle.step.specs.Step.{cleared, solveOf}
 abbrev pub Zeroed : List Float → List Float → Type 0
 Zeroed scratch left = (6144 ≤ length scratch) × (left ≡ cleared scratch)
 
+-- what is said of a joint and the places of the two records that it joins
+abbrev pub AtEnds : (Joint → Place → Place → Type 0) → List Float → Joint → Type 0
+AtEnds Says bodies joint = Says joint (recordPlace (recordAt bodies (joint .«body_a»))) (recordPlace (recordAt bodies (joint .«body_b»)))
+
 pub record Answered (bodies after : List Float) (joints : List Joint) (count : ℕ) (dt : Float) (scratch left : List Float) (r : Report) : Type 0 where
   -- demand 2: answer, counts, bodies and scratch are those of the definition, for every input
   pub is : record { outcome = r .outcome; nonlinear = r .nonlinear; linear = r .linear; bodies = after; scratch = left } ≡ solveOf bodies joints count dt scratch
-  -- demand 3: every joint that went in joins two of the records handed back, and is met by them; each record stands, with N above 0
-  pub joins : r .outcome ≡ Accepted → (k : ℕ) → k < count → (jointIn joints k .«body_a» < bodyCount after) × (jointIn joints k .«body_b» < bodyCount after)
-  pub meets : r .outcome ≡ Accepted → (k : ℕ) → k < count → Met (jointIn joints k) (recordPlace (recordAt after (jointIn joints k .«body_a»))) (recordPlace (recordAt after (jointIn joints k .«body_b»)))
+  -- demand 3, of an accepted step; these fields stand by themselves, whatever the definition says
+  -- there are at most sixteen joints, all of them in the table
+  pub few : r .outcome ≡ Accepted → (count ≤ 16) × (count ≤ length joints)
+  -- each record handed back stands: its numbers are finite, and N is above 0
   pub stands : r .outcome ≡ Accepted → (k : ℕ) → k < bodyCount after → Stands (recordAt after k .origin) (recordAt after k .rotation)
+  -- every joint that went in joins two of the records handed back
+  pub joins : r .outcome ≡ Accepted → (k : ℕ) → k < count → (jointIn joints k .«body_a» < bodyCount after) × (jointIn joints k .«body_b» < bodyCount after)
+  -- every number of it is finite, and no N is 0
+  pub proper : r .outcome ≡ Accepted → (k : ℕ) → k < count → AtEnds Proper after (jointIn joints k)
+  -- it is met by the records that it joins
+  pub meets : r .outcome ≡ Accepted → (k : ℕ) → k < count → AtEnds Met after (jointIn joints k)
   -- a refusal leaves the bodies
   pub refused : 1 ≤ numberOf (r .outcome) → after ≡ bodies
   -- 1 to 9 leave the scratch too, and report both counts 0

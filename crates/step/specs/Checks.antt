@@ -103,9 +103,13 @@ jointOk joint = frameOk (joint .«frame_a») && frameOk (joint .«frame_b») && 
 abbrev noFrame : JointFrame
 noFrame = record { «local_anchor» = vec nan nan nan; «local_rotation» = quat nan nan nan nan }
 
--- joints[k]; no index goes past the end
+-- what stands past the end of the table; refusal 9 does not let it pass
+abbrev pub noJoint : Joint
+noJoint = record { «body_a» = 0; «body_b» = 0; «frame_a» = noFrame; «frame_b» = noFrame; kind = Ball }
+
+-- joints[k]
 abbrev pub jointIn : List Joint → ℕ → Joint
-jointIn joints k = getD joints k (record { «body_a» = 0; «body_b» = 0; «frame_a» = noFrame; «frame_b» = noFrame; kind = Ball })
+jointIn joints k = getD joints k noJoint
 
 -- 1 to 4, by numbers and lengths alone, or else the refusal that comes after
 unfoldable pub sizesOr : ℕ → ℕ → Float → ℕ → Outcome → Outcome

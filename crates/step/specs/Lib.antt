@@ -6,6 +6,7 @@ pub mod Ready
 pub mod Step
 pub mod RunView
 pub mod CheckLaws
+pub mod NumberLaws
 pub mod ViewLaws
 pub mod BackLaws
 pub mod TurnLaws

@@ -22,9 +22,10 @@ use Rattle.rows.specs.declared.geometry.Kind.the-variants.{Ball, Hinge, Cylindr
 use Rattle.rows.specs.Fault.{Fault, nonConvergent, arithmeticOverflow}
 use Rattle.rows.specs.Body.{stateWith, stateOf}
 use Rattle.rows.specs.Region.{tab-length, tab-at}
-use Rattle.rows.specs.ExactGeometry.{statePlace, recordPlace, Met, Stands}
+use Rattle.rows.specs.ExactGeometry.{statePlace, Met, Stands, Proper}
 use Rattle.rows.specs.Laws.RowsIn.{Each, rows-met, rows-each}
 use Rattle.rows.specs.Laws.Met.{KindIn, stands, met}
+use Rattle.rows.specs.Laws.Frames.{proper}
 use Rattle.solves.specs.Solver.{noRow}
 use Rattle.step.specs.declared.Outcome.{Outcome}
 use Rattle.step.specs.declared.Outcome.the-variants.{Accepted, Ground}
@@ -32,11 +33,12 @@ use Rattle.step.specs.declared.Report.{Report}
 use Rattle.step.specs.Records.{recordAt, bodyCount, recordsOf, stateAt}
 use Rattle.step.specs.Checks.{numberOf, withinOf, massInRange, bodyInRange, frameOk, kindOk, jointIn, refusalOf, isAccepted}
 use Rattle.step.specs.CheckLaws.{Ready, number-zero, refused-number, accepted}
+use Rattle.step.specs.NumberLaws.{kind-finite, within-table}
 use Rattle.step.specs.Step.{faultOutcome, noState, noRecord, bodyIn, recordIn, stateIn, jointRows, writeRows, rowsMet, statesOf, Counted, runOf, Stepped, grounded, handBack, cleared, settled, solveOf}
 use Rattle.step.specs.BackLaws.{back-length, back-state}
 use Rattle.step.specs.TurnLaws.{each-at}
 use Rattle.step.specs.RunLaws.{Ran, ran}
-use Rattle.step.specs.Answered.{Answered}
+use Rattle.step.specs.Answered.{AtEnds, Answered}
 
 -- ---- tests that were passed
 yes-T : {b : Bool} → b ≡ true → T b
@@ -108,6 +110,13 @@ module _ (bodies : List Float) (joints : List Joint) (count : ℕ) (dt : Float) 
     abbrev b : ℕ
     b = joint .«body_b»
 
+    -- its numbers passed refusal 9
+    numbers : T (frameOk (joint .«frame_a»)) × T (frameOk (joint .«frame_b»)) × T (kindOk (joint .kind))
+    numbers =
+        let n = both (frameOk (joint .«frame_a») && frameOk (joint .«frame_b»)) (kindOk (joint .kind)) (yes-T (ready .numbers k l)) in
+        let f = both (frameOk (joint .«frame_a»)) (frameOk (joint .«frame_b»)) (n .0) in
+        (f .0, f .1, n .1)
+
     -- its rows are within their tolerances
     rows-of : Each (jointRows joints (r .candidate) k)
     unfolding writeRows rowsMet
@@ -115,18 +124,25 @@ module _ (bodies : List Float) (joints : List Joint) (count : ℕ) (dt : Float) 
 
     met-states : Met joint (statePlace (stateIn states a)) (statePlace (stateIn states b))
     met-states =
-        let numbers = both (frameOk (joint .«frame_a») && frameOk (joint .«frame_b»)) (kindOk (joint .kind)) (yes-T (ready .numbers k l)) in
-        let frames = both (frameOk (joint .«frame_a»)) (frameOk (joint .«frame_b»)) (numbers .0) in
         let at-a = ready .a-there k l in
         let at-b = ready .b-there k l in
-        met joint (bodyIn (r .candidate) a) (bodyIn (r .candidate) b) (rows-of .rows) (rows-of .is) (rows-of .within) (frames .0) (frames .1) (kind-in (joint .kind) (numbers .1))
+        met joint (bodyIn (r .candidate) a) (bodyIn (r .candidate) b) (rows-of .rows) (rows-of .is) (rows-of .within) (numbers .0) (numbers .1) (kind-in (joint .kind) (numbers .2))
         (bodyIn (r .last) a) (bodyIn (r .last) b) (r .stay .same a (in-candidate a at-a)) (r .stay .same b (in-candidate b at-b)) (local a at-a) (local b at-b)
         (old a) (old b) (stateIn states a) (stateIn states b) (state a at-a) (state b at-b) (ground a at-a) (ground b at-b)
 
-    met-records : Met joint (recordPlace (recordAt (handBack bodies states) a)) (recordPlace (recordAt (handBack bodies states) b))
+    met-records : AtEnds Met (handBack bodies states) joint
     met-records = subst₂ (Met joint) (ap statePlace (back a (ready .a-there k l))) (ap statePlace (back b (ready .b-there k l))) met-states
 
+    proper-records : AtEnds Proper (handBack bodies states) joint
+    proper-records =
+        let at-a = stood a (ready .a-there k l) in
+        let at-b = stood b (ready .b-there k l) in
+        proper joint _ _ (numbers .0) (numbers .1) (kind-finite (joint .kind) (numbers .2)) (at-a .N-above) (at-b .N-above)
+
 -- ---- the ways of a step
+no-refusal : {o : Outcome} → 1 ≤ numberOf o → o ≡ Accepted → ⊥
+no-refusal l e = omega (arith, ap numberOf e)
+
 fault-late : (fault : Fault) → 10 ≤ numberOf (faultOutcome fault)
 fault-late nonConvergent = omega arith
 fault-late arithmeticOverflow = omega arith
@@ -145,12 +161,14 @@ module _ (bodies : List Float) (joints : List Joint) (count : ℕ) (dt : Float) 
   says-checked : (o : Outcome) → 1 ≤ numberOf o → numberOf o ≤ 9 → Solved (checked o) → Says (checked o)
   says-checked o low high is = record {
     is = is;
-    joins = λ h. absurd (omega (arith, ap numberOf h));
-    meets = λ h. absurd (omega (arith, ap numberOf h));
-    stands = λ h. absurd (omega (arith, ap numberOf h));
+    few = λ h. absurd (no-refusal (omega arith) h);
+    stands = λ h. absurd (no-refusal (omega arith) h);
+    joins = λ h. absurd (no-refusal (omega arith) h);
+    proper = λ h. absurd (no-refusal (omega arith) h);
+    meets = λ h. absurd (no-refusal (omega arith) h);
     refused = λ h. refl;
     early = λ h g. (refl, refl, refl);
-    accepted = λ h. absurd (omega (arith, ap numberOf h));
+    accepted = λ h. absurd (no-refusal (omega arith) h);
     late = λ h. absurd (omega arith);
   }
 
@@ -162,9 +180,11 @@ module _ (bodies : List Float) (joints : List Joint) (count : ℕ) (dt : Float) 
     says-failed : (o : Outcome) (n l : ℕ) → 10 ≤ numberOf o → Solved (failed o n l) → Says (failed o n l)
     says-failed o n l low is = record {
       is = is;
-      joins = λ h. absurd (omega (arith, ap numberOf h));
-      meets = λ h. absurd (omega (arith, ap numberOf h));
-      stands = λ h. absurd (omega (arith, ap numberOf h));
+      few = λ h. absurd (no-refusal (omega arith) h);
+      stands = λ h. absurd (no-refusal (omega arith) h);
+      joins = λ h. absurd (no-refusal (omega arith) h);
+      proper = λ h. absurd (no-refusal (omega arith) h);
+      meets = λ h. absurd (no-refusal (omega arith) h);
       refused = λ h. refl;
       early = λ h g. absurd (omega arith);
       accepted = λ h. (ready .room, refl);
@@ -178,7 +198,9 @@ module _ (bodies : List Float) (joints : List Joint) (count : ℕ) (dt : Float) 
     says-moved : (c : Counted (List BodyState)) → runOf (recordsOf bodies) joints count dt ≡ go c → grounded (c .answer) ≡ true → Solved (moved c) → Says (moved c)
     says-moved c e g is = record {
       is = is;
+      few = λ h. (ready .few, within-table joints count (ready .numbers));
       joins = λ h k l. (same (ready .a-there k l), same (ready .b-there k l));
+      proper = λ h k l. proper-records bodies joints count dt (length scratch) ready (c .answer) end g k l;
       meets = λ h k l. met-records bodies joints count dt (length scratch) ready (c .answer) end g k l;
       stands = λ h k l. stood bodies joints count dt (length scratch) ready (c .answer) end g k (subst (λ (n : ℕ). k < n / 26) (back-length bodies (c .answer)) l);
       refused = λ h. absurd (omega arith);
