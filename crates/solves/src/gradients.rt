@@ -36,19 +36,19 @@ ghost use Rattle.solves.specs.Region.{vecAt, Does};
 ghost use Rattle.solves.specs.View.{rowsOn, massesAt, searchAt, Rows, Shares, Passing, Work, MASSES, RHS, SOLUTION, RESIDUAL, DIRECTION, PRODUCT, DIAGONAL, END};
 
 // Whether a length is within the tolerance.
-pub enum Test {
+pub(crate) enum Test {
     Within,
     Beyond,
     ArithmeticOverflow,
 }
 
 // rho, once every entry of the diagonal is above zero.
-pub enum Prepared {
+pub(crate) enum Prepared {
     Rho(f64),
     NonConvergent,
 }
 
-pub fn residual_test(s: &[f64], n: usize, tolerance: f64) -> Test
+pub(crate) fn residual_test(s: &[f64], n: usize, tolerance: f64) -> Test
     requires { ⌜ (END ≤ length (now s)) × (n ≤ 96) ⌝ }
     ensures { λ r. ⌜ testAs r ≡ within (vecAt (now (s .entry)) RESIDUAL n) tolerance ⌝ }
 {
@@ -276,7 +276,7 @@ fn gradient_loop(
     Ended::new(End::NonConvergent, most)
 }
 
-pub fn gradients(
+pub(crate) fn gradients(
     s: &mut [f64],
     ia: &[usize; 96],
     ib: &[usize; 96],

@@ -13,23 +13,23 @@ pub const RHS: usize = 2944;
 
 pub const SOLUTION: usize = 3040;
 
-pub const RESIDUAL: usize = 3136;
+pub(crate) const RESIDUAL: usize = 3136;
 
-pub const DIRECTION: usize = 3232;
+pub(crate) const DIRECTION: usize = 3232;
 
-pub const PRODUCT: usize = 3328;
+pub(crate) const PRODUCT: usize = 3328;
 
-pub const DIAGONAL: usize = 3424;
+pub(crate) const DIAGONAL: usize = 3424;
 
-pub const NORMAL: usize = 3520;
+pub(crate) const NORMAL: usize = 3520;
 // Linear and angular share of each body: 16 of 6 doubles.
 pub const GENERALIZED: usize = 3616;
 // The band of the path's factor, 96 of 12 doubles, and two vectors of 96.
-pub const PATH_BAND: usize = 3712;
+pub(crate) const PATH_BAND: usize = 3712;
 
-pub const PATH_SCALE: usize = 4864;
+pub(crate) const PATH_SCALE: usize = 4864;
 
-pub const PATH_RHS: usize = 4960;
+pub(crate) const PATH_RHS: usize = 4960;
 // The bodies at the start, 16 of 26 doubles, and what moves of the candidates, 16 of 13.
 pub const START: usize = 5056;
 

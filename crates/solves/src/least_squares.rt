@@ -98,7 +98,7 @@ fn least_loop(
     Ended::new(End::NonConvergent, most)
 }
 
-pub fn least_squares(
+pub(crate) fn least_squares(
     s: &mut [f64],
     ia: &[usize; 96],
     ib: &[usize; 96],

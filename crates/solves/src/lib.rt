@@ -1,10 +1,10 @@
 // The linear solves of the constrained integrator: solver.rs below `solve`, over one lent scratch.
 // A table of rows is a place of the scratch with the bodies of each row beside it: `ia[k]` and `ib[k]` for row k.
-pub mod gradients;
+mod gradients;
 pub mod layout;
-pub mod least_squares;
+mod least_squares;
 pub mod operator;
-pub mod path;
+mod path;
 pub mod places;
 pub mod solver;
 pub mod values;
@@ -25,14 +25,14 @@ pub enum Sum {
 }
 
 // How a part of a solve ended that can also fail to converge.
-pub enum Part {
+pub(crate) enum Part {
     Done,
     NonConvergent,
     ArithmeticOverflow,
 }
 
 // How one pass of a search ended. `Next` carries the number that the next pass needs.
-pub enum Step {
+pub(crate) enum Step {
     Next(f64),
     Solved,
     NonConvergent,
@@ -54,7 +54,7 @@ pub struct Ended {
 }
 
 impl Ended {
-    pub fn new(end: End, passes: usize) -> Ended
+    pub(crate) fn new(end: End, passes: usize) -> Ended
         ensures { λ r. ⌜ r ≡ endedWith end passes ⌝ }
     {
         Ended { end, passes }

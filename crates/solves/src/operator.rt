@@ -25,7 +25,7 @@ ghost use Rattle.solves.specs.Solver.{sumProducts, dot as dotOf, toleran
 ghost use Rattle.solves.specs.View.{rowsOn, generalizedsAt, massesAt, Rows, Place, Shares, GENERALIZED, MASSES, RHS, END};
 
 // A share, if it is finite.
-pub enum Share {
+pub(crate) enum Share {
     Value(Generalized),
     ArithmeticOverflow,
 }
@@ -41,7 +41,7 @@ fn products(s: &[f64], a: usize, b: usize, n: usize) -> f64
     total
 }
 
-pub fn dot(s: &[f64], a: usize, b: usize, n: usize) -> Sum
+pub(crate) fn dot(s: &[f64], a: usize, b: usize, n: usize) -> Sum
     requires { ⌜ (a + n ≤ length (now s)) × (b + n ≤ length (now s)) ⌝ }
     ensures { λ r. ⌜ sumAs r ≡ dotOf (vecAt (now (s .entry)) a n) (vecAt (now (s .entry)) b n) ⌝ }
 {
@@ -53,7 +53,7 @@ pub fn dot(s: &[f64], a: usize, b: usize, n: usize) -> Sum
 }
 
 // The tolerance of a solve: `scale` times one more than the length of the right side.
-pub fn tolerance_for(s: &[f64], scale: f64, n: usize) -> Sum
+pub(crate) fn tolerance_for(s: &[f64], scale: f64, n: usize) -> Sum
     requires { ⌜ (END ≤ length (now s)) × (n ≤ 96) ⌝ }
     ensures { λ r. ⌜ sumAs r ≡ toleranceFor scale (vecAt (now (s .entry)) RHS n) ⌝ }
 {
@@ -64,7 +64,7 @@ pub fn tolerance_for(s: &[f64], scale: f64, n: usize) -> Sum
 }
 
 // A body's share with that of one row more.
-pub fn pushed(body: Generalized, linear: Vec3, angular: Vec3, value: f64) -> Share
+fn pushed(body: Generalized, linear: Vec3, angular: Vec3, value: f64) -> Share
     ensures { λ r. ⌜ shareAs r ≡ pushedOf body linear angular value ⌝ }
 {
     let l = body.linear.add(linear.scale(value));
@@ -141,7 +141,7 @@ pub fn transpose(
 }
 
 // A share through the mass response of its body.
-pub fn scaled(value: Generalized, mass: MassResponse) -> Share
+fn scaled(value: Generalized, mass: MassResponse) -> Share
     ensures { λ r. ⌜ shareAs r ≡ scaledOf value mass ⌝ }
 {
     let l = value.linear.scale(mass.linear);
@@ -174,7 +174,7 @@ fn scale_all(s: &mut [f64], count: usize) -> Outcome
 }
 
 // A row along the motions of its two bodies.
-pub fn rate(row: EqualityRow, a: Generalized, b: Generalized) -> f64
+fn rate(row: EqualityRow, a: Generalized, b: Generalized) -> f64
     ensures { λ r. ⌜ r ≡ rateOf row a b ⌝ }
 {
     row.linear_a.dot(a.linear)
@@ -209,7 +209,7 @@ fn rates(
 }
 
 // The rows' Schur operator on `input`: back to the bodies, through their masses, and along the rows again.
-pub fn operator(
+pub(crate) fn operator(
     s: &mut [f64],
     ia: &[usize; 96],
     ib: &[usize; 96],
@@ -278,7 +278,7 @@ fn cross_end(
 }
 
 // The entry of the rows' Schur matrix.
-pub fn cross_mass(s: &[f64], a: EqualityRow, b: EqualityRow, count: usize) -> Sum
+pub(crate) fn cross_mass(s: &[f64], a: EqualityRow, b: EqualityRow, count: usize) -> Sum
     requires { ⌜ (END ≤ length (now s)) × (a .a < count) × (a .b < count) × (count ≤ 16) ⌝ }
     ensures { λ r. ⌜ sumAs r ≡ crossMass a b (massesAt (now (s .entry)) MASSES count) ⌝ }
 {

@@ -41,18 +41,18 @@ const BAND_WIDTH: usize = 12; // At most two adjacent six-row joints on a path.
 const NONE: usize = 96;
 
 // Runs of rows on one pair of bodies: block k is the rows from `starts[k]` to before `starts[k + 1]`.
-pub struct Blocks {
+pub(crate) struct Blocks {
     pub starts: [usize; 97],
     pub count: usize,
 }
 
 // The rows in the order of the path, and how many there are.
-pub struct Order {
+pub(crate) struct Order {
     pub rows: [usize; 96],
     pub count: usize,
 }
 
-pub struct PathOrder {
+pub(crate) struct PathOrder {
     pub found: bool,
     pub order: Order,
 }
@@ -294,7 +294,7 @@ fn path_walks(ia: &[usize; 96], ib: &[usize; 96], blocks: Blocks, edges: &[usize
 }
 
 // The rows along the path, if the graph is one.
-pub fn path_order(ia: &[usize; 96], ib: &[usize; 96], n: usize) -> PathOrder
+fn path_order(ia: &[usize; 96], ib: &[usize; 96], n: usize) -> PathOrder
     requires { ⌜ (n ≤ 96) × ((k : ℕ) → k < n → getD (now ia) k 0 < 16) × ((k : ℕ) → k < n → getD (now ib) k 0 < 16) ⌝ }
     ensures { λ r. ⌜ (orderAs r ≡ pathOrder (listAt (now (ia .entry)) n) (listAt (now (ib .entry)) n) n) × (r .found ≡ true → (r .order .count ≡ n) × (Along (r .order .rows) n)) ⌝ }
 {
@@ -585,7 +585,7 @@ fn path_factored(
     }
 }
 
-pub fn path_solve(
+pub(crate) fn path_solve(
     s: &mut [f64],
     ia: &[usize; 96],
     ib: &[usize; 96],

@@ -58,7 +58,7 @@ pub fn load_generalized(s: &[f64], off: usize, k: usize) -> Generalized
     }
 }
 
-pub fn store_generalized(s: &mut [f64], off: usize, k: usize, g: Generalized)
+pub(crate) fn store_generalized(s: &mut [f64], off: usize, k: usize, g: Generalized)
     requires { ⌜ off + 6 * k + 6 ≤ length (now s) ⌝ }
     ensures { λ _. ⌜ (Kept (λ j. Out (off + 6 * k) 6 j) (now (s .entry)) (now (s .exit))) × (generalizedAt (now (s .exit)) off k ≡ g) ⌝ }
 {
@@ -67,7 +67,7 @@ pub fn store_generalized(s: &mut [f64], off: usize, k: usize, g: Generalized)
     store3(s, i + 3, g.angular);
 }
 
-pub fn load_mass(s: &[f64], off: usize, k: usize) -> MassResponse
+pub(crate) fn load_mass(s: &[f64], off: usize, k: usize) -> MassResponse
     requires { ⌜ off + 10 * k + 10 ≤ length (now s) ⌝ }
     ensures { λ r. ⌜ r ≡ massAt (now (s .entry)) off k ⌝ }
 {

@@ -16,7 +16,7 @@ pub fn clear(s: &mut [f64], off: usize, n: usize)
     }
 }
 
-pub fn copy(s: &mut [f64], to: usize, from: usize, n: usize)
+pub(crate) fn copy(s: &mut [f64], to: usize, from: usize, n: usize)
     requires { ⌜ (to + 96 ≤ length (now s)) × (from + 96 ≤ length (now s)) × (n ≤ 96) × (Apart to from) ⌝ }
     ensures { λ _. ⌜ Does (Out to 96) (now (s .entry)) (now (s .exit)) (vecAt (now (s .exit)) to n) (vecAt (now (s .entry)) from n) ⌝ }
 {
@@ -26,7 +26,7 @@ pub fn copy(s: &mut [f64], to: usize, from: usize, n: usize)
 }
 
 // x += alpha * d
-pub fn add_scaled(s: &mut [f64], x: usize, alpha: f64, d: usize, n: usize)
+pub(crate) fn add_scaled(s: &mut [f64], x: usize, alpha: f64, d: usize, n: usize)
     requires { ⌜ (x + 96 ≤ length (now s)) × (d + 96 ≤ length (now s)) × (n ≤ 96) × (Apart x d) ⌝ }
     ensures { λ _. ⌜ Does (Out x 96) (now (s .entry)) (now (s .exit)) (vecAt (now (s .exit)) x n) (plus (vecAt (now (s .entry)) x n) alpha (vecAt (now (s .entry)) d n)) ⌝ }
 {
@@ -36,7 +36,7 @@ pub fn add_scaled(s: &mut [f64], x: usize, alpha: f64, d: usize, n: usize)
 }
 
 // x -= alpha * d
-pub fn sub_scaled(s: &mut [f64], x: usize, alpha: f64, d: usize, n: usize)
+pub(crate) fn sub_scaled(s: &mut [f64], x: usize, alpha: f64, d: usize, n: usize)
     requires { ⌜ (x + 96 ≤ length (now s)) × (d + 96 ≤ length (now s)) × (n ≤ 96) × (Apart x d) ⌝ }
     ensures { λ _. ⌜ Does (Out x 96) (now (s .entry)) (now (s .exit)) (vecAt (now (s .exit)) x n) (minus (vecAt (now (s .entry)) x n) alpha (vecAt (now (s .entry)) d n)) ⌝ }
 {
@@ -46,7 +46,7 @@ pub fn sub_scaled(s: &mut [f64], x: usize, alpha: f64, d: usize, n: usize)
 }
 
 // d = x + beta * d
-pub fn scale_add(s: &mut [f64], d: usize, beta: f64, x: usize, n: usize)
+pub(crate) fn scale_add(s: &mut [f64], d: usize, beta: f64, x: usize, n: usize)
     requires { ⌜ (d + 96 ≤ length (now s)) × (x + 96 ≤ length (now s)) × (n ≤ 96) × (Apart d x) ⌝ }
     ensures { λ _. ⌜ Does (Out d 96) (now (s .entry)) (now (s .exit)) (vecAt (now (s .exit)) d n) (plus (vecAt (now (s .entry)) x n) beta (vecAt (now (s .entry)) d n)) ⌝ }
 {
@@ -56,7 +56,7 @@ pub fn scale_add(s: &mut [f64], d: usize, beta: f64, x: usize, n: usize)
 }
 
 // x = a - b
-pub fn difference(s: &mut [f64], x: usize, a: usize, b: usize, n: usize)
+pub(crate) fn difference(s: &mut [f64], x: usize, a: usize, b: usize, n: usize)
     requires { ⌜ (x + 96 ≤ length (now s)) × (a + 96 ≤ length (now s)) × (b + 96 ≤ length (now s)) × (n ≤ 96) × (Apart x a) × (Apart x b) ⌝ }
     ensures { λ _. ⌜ Does (Out x 96) (now (s .entry)) (now (s .exit)) (vecAt (now (s .exit)) x n) (differenceOf (vecAt (now (s .entry)) a n) (vecAt (now (s .entry)) b n)) ⌝ }
 {
