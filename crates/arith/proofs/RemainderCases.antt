@@ -19,12 +19,11 @@ use lib.Ieee.Scale.{round-same}
 use lib.Ieee.Back.{round-whole}
 use lib.Ieee.Bits.{ofBits-toBits, is-false}
 use Rattle.arith.specs.Real.{F}
-use Rattle.arith.specs.RealLaws.{zero-is}
+use Rattle.arith.specs.RealLaws.{zero-is, no, below-zero}
 use Rattle.arith.specs.Angle.{TAU}
 use Rattle.arith.specs.Laws.Rounding.{fits-below, mul-values, neg-neg}
 use Rattle.arith.specs.Laws.RootBits.{fields, exponent-lt, low-value, high-value}
-use Rattle.arith.proofs.RootCases.{no, invalid}
-use Rattle.arith.proofs.Ways.{below-zero}
+use Rattle.arith.proofs.RootCases.{invalid}
 use Rattle.arith.proofs.RemainderLaws.{mod-scale, rem-units, rem-small, rem-neg}
 
 -- ---- the code's constants

@@ -1,17 +1,18 @@
 -- The cases of `root::sqrt`: which values pass the tests `0.0 < x` and `x == 0.0`, and what their bits are. Assumes nothing.
 use mathlib.Core.Path.{_≡_, refl, sym, ap, _∙_, subst}
-use mathlib.Core.Bool.{Bool, true, false, not, _&&_, _||_, Bool·beq, cond, true≢false}
-use Prim.Native.Nat.{ℕ, zero, suc, _+_, _-_, _*_, _/_, _%_, _^_, _≤_, _<_}
-use native.Mathlib.Nat.{le-trans, lt-of-lt-of-le, lt-of-le-of-lt, lt-of-not-le, not-le-of-lt, zero-lt-suc, zero-mul, mul-one, mul-pos, mod-eq-of-lt, lt-irrefl, eq-zero-or-pos, mod-le, le-suc}
+use mathlib.Core.Bool.{Bool, true, false, not, cond, true≢false}
+use Prim.Native.Nat.{ℕ, zero, suc, _+_, _-_, _*_, _/_, _%_, _≤_, _<_}
+use native.Mathlib.Nat.{le-trans, lt-of-le-of-lt, not-le-of-lt, zero-lt-suc, zero-mul, mul-pos, mod-eq-of-lt, eq-zero-or-pos, mod-le, le-suc}
 use mathlib.Core.Logic.{inl, inr}
 use native.Mathlib.Omega.{arith}
 use lib.IntN.{ℤ, pos}
-use lib.Dec.{T, leb, ltb, eqb, leb→le, nleb→lt, ltb→lt, eqb→eq, eqb-refl, lt→ltb, not-T, lit≤}
+use lib.Dec.{T, leb, ltb, eqb, nleb→lt, ltb→lt, lt→ltb, not-T}
 use lib.Ieee.{Float, nan, inf, fin, binary64, top, ones, hid, up, down, odd, ofFields, ofBits, toBits, fits, isNan, nanBits, lt, eq, div}
 use lib.Ieee.Fits.{up-pos}
-use lib.Ieee.Bits.{ofBits-toBits, toBits-lt, nanBits-above, is-true, is-false}
+use lib.Ieee.Bits.{ofBits-toBits, nanBits-above, is-true}
 use Rattle.arith.specs.Root.{sqrt}
-use Rattle.arith.specs.RealLaws.{zero-is, not-zero, and-left, zero-left}
+use Rattle.arith.specs.RealLaws.{zero-is, zero-left, no}
+use Rattle.arith.specs.Laws.SquareRoot.{root-of-zero}
 
 -- the two tests, with 0.0 by its value
 above : (x : Float) → (b : Bool) → lt (ofBits binary64 0) x ≡ b → lt (fin false 0 (pos 0)) x ≡ b
@@ -19,9 +20,6 @@ above x b h = ap (λ (z : Float). lt z x) (sym zero-is) ∙ h
 
 same : (x : Float) → (b : Bool) → eq x (ofBits binary64 0) ≡ b → eq x (fin false 0 (pos 0)) ≡ b
 same x b h = ap (λ (z : Float). eq x z) (sym zero-is) ∙ h
-
-pub no : {X : Type 0} → false ≡ true → X
-no e = absurd (true≢false (sym e))
 
 -- ---- above zero
 pub above-no-nan : (x : Float) → lt (ofBits binary64 0) x ≡ true → T (not (isNan x))
@@ -96,15 +94,8 @@ no-nan-bits n h =
 
 -- ---- zero, and what is left
 
-at-zero-at : (x : Float) → eq x (fin false 0 (pos 0)) ≡ true → x ≡ sqrt binary64 x
-unfolding eq sqrt
-at-zero-at nan h = no h
-at-zero-at (inf s) h = no h
-at-zero-at (fin s zero e) h = refl
-at-zero-at (fin s (suc m) e) h = absurd (not-zero m (up e) (up-pos e) (eqb→eq (suc m * up e * 1) (0 * 1 * down e) (and-left (eqb (suc m * up e * 1) (0 * 1 * down e)) (Bool·beq s false || eqb (suc m * up e * 1) 0) h) ∙ zero-mul (down e)))
-
 pub at-zero : (x : Float) → eq x (ofBits binary64 0) ≡ true → x ≡ sqrt binary64 x
-at-zero x h = at-zero-at x (same x true h)
+at-zero x h = root-of-zero x (same x true h)
 
 pub invalid : div binary64 (ofBits binary64 0) (ofBits binary64 0) ≡ nan
 unfolding div ofBits

@@ -4,17 +4,15 @@ use lib.Ieee.{Float, nan, inf, fin, binary64, ofBits, round, neg, fits, up, down
 use mathlib.Core.Path.{_≡_, refl, sym, ap, _∙_, subst}
 use mathlib.Core.Bool.{Bool, true, false, cond, not, _&&_, _||_, Bool·beq, Bool·not-not, true≢false}
 use lib.IntN.{ℤ, pos, negsuc}
-use lib.Dec.{T, ltb, eqb, ltb→lt, lt→ltb, eqb→eq, lit<}
+use lib.Dec.{T, eqb, eqb→eq, lit<}
 use lib.Pow.{pow-pos}
 use lib.Ieee.Fits.{up-pos}
-use lib.Ieee.Bits.{is-true}
-use native.Mathlib.Nat.{not-suc-le-zero, not-le-of-lt, zero-mul, mul-one, one-mul, pow-succ', mul-le-mul-left, mul-pos, zero-lt-suc, lt-of-lt-of-le, le-add-right}
-use Rattle.arith.proofs.RootCases.{no}
-use Rattle.arith.specs.RealLaws.{finite-is, not-zero, and-left, zero-left, zero-is}
+use native.Mathlib.Nat.{not-le-of-lt, zero-mul, mul-one, one-mul, pow-succ', mul-le-mul-left}
+use Rattle.arith.specs.RealLaws.{finite-is, not-zero, and-left, zero-left, zero-is, no, no-below, below-zero}
 use Rattle.exact.specs.Compare.{lt-val, le-val}
 use Rattle.arith.specs.FlowLaws.{not-yes, not-no, cond-yes, cond-no}
-use Prim.Native.Nat.{ℕ, zero, suc, _+_, _*_, _^_, _≤_, _<_}
-use Rattle.arith.specs.Real.{_⊕_, _⊖_, _⊗_, _⊘_, F, ratio, isFinite, absOf}
+use Prim.Native.Nat.{ℕ, zero, suc, _*_, _^_, _≤_, _<_}
+use Rattle.arith.specs.Real.{_⊕_, _⊖_, _⊗_, _⊘_, F, isFinite, absOf}
 use Rattle.arith.specs.Root.{sqrt}
 use Rattle.arith.specs.Hypot.{hypotOf, scaledRoot}
 use Rattle.arith.specs.Fault.{number, arithmeticOverflow}
@@ -91,9 +89,6 @@ sines-answered h e = record {
 }
 
 -- ---- magnitude and finiteness
-no-below : (a d : ℕ) → ltb a (0 * d) ≡ true → ⊥
-no-below a d h = not-suc-le-zero (rw zero-mul at (ltb→lt a (0 * d) (subst T (sym h) tt)))
-
 pub abs-below : (x : Float) → Ieee.lt x (F 0) ≡ true → neg x ≡ absOf x
 unfolding ofBits Ieee.lt neg absOf
 abs-below nan h = no h
@@ -120,12 +115,6 @@ abs-zero-at (fin s (suc m) e) f h =
 
 pub abs-zero : (x : Float) → T (fits binary64 x) → Ieee.eq x (F 0) ≡ true → F 0 ≡ absOf x
 abs-zero x f h = zero-is ∙ abs-zero-at x f (ap (Ieee.eq x) (sym zero-is) ∙ h)
-
-pub below-zero : (m : ℕ) (e : ℤ) → Ieee.lt (fin true (suc m) e) (fin false 0 (pos 0)) ≡ true
-unfolding Ieee.lt
-below-zero m e =
-    is-true (ltb 0 (suc m * up e * 1 + 0 * 1 * down e)) (lt→ltb 0 (suc m * up e * 1 + 0 * 1 * down e)
-    (lt-of-lt-of-le (mul-pos (mul-pos (zero-lt-suc m) (up-pos e)) (zero-lt-suc 0)) (le-add-right (suc m * up e * 1) (0 * 1 * down e))))
 
 abs-above-at : (x : Float) → Ieee.lt x (fin false 0 (pos 0)) ≡ false → Ieee.eq x (fin false 0 (pos 0)) ≡ false → x ≡ absOf x
 unfolding absOf

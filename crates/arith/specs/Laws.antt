@@ -8,6 +8,7 @@ pub mod RootBits
 pub mod RootUnits
 pub mod Spacing
 pub mod RootNearest
+pub mod SquareRoot
 pub mod RatioNearest
 pub mod RootError
 pub mod Magnitude

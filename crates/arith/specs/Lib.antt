@@ -1,6 +1,7 @@
--- Definitions that a reader must believe: Real, Root, Hypot, Fault, Angle, ExactSums and Flow. The others are laws of them.
+-- Definitions that a reader must believe: Real, Root, SquareRoot, Hypot, Fault, Angle, ExactSums and Flow. The others are laws of them.
 pub mod Real
 pub mod Root
+pub mod SquareRoot
 pub mod Hypot
 pub mod Fault
 pub mod Angle

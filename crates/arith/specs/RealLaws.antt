@@ -1,15 +1,15 @@
--- Laws of `Real`: finiteness and magnitude by comparison, as src/number.rt has them.
+-- Laws of `Real`: finiteness and magnitude by comparison, as src/number.rt has them, and which doubles are 0 or below it.
 use lib.Ieee as Ieee
-use lib.Ieee.{Float, nan, inf, fin, binary64, ofBits, up, down, eq}
+use lib.Ieee.{Float, nan, inf, fin, binary64, ofBits, up, down, lt, eq}
 use mathlib.Core.Path.{_≡_, refl, sym, ap, _∙_, subst}
-use mathlib.Core.Bool.{Bool, true, false, cond, not, _&&_, _||_, Bool·beq, true≢false}
-use Prim.Native.Nat.{ℕ, zero, suc, _*_, _<_}
-use native.Mathlib.Nat.{zero-mul, mul-one, mul-pos, zero-lt-suc, lt-irrefl}
+use mathlib.Core.Bool.{Bool, true, false, not, _&&_, _||_, Bool·beq, true≢false}
+use Prim.Native.Nat.{ℕ, zero, suc, _+_, _*_, _<_}
+use native.Mathlib.Nat.{zero-mul, mul-one, mul-pos, zero-lt-suc, lt-irrefl, not-suc-le-zero, lt-of-lt-of-le, le-add-right}
 use lib.IntN.{ℤ, pos}
-use lib.Dec.{T, eqb, eqb→eq, not-T}
+use lib.Dec.{T, ltb, eqb, ltb→lt, lt→ltb, eqb→eq, not-T}
 use lib.Ieee.Fits.{up-pos, and-l}
-use lib.Ieee.Bits.{is-false}
-use Rattle.arith.specs.Real.{F, isFinite, absOf}
+use lib.Ieee.Bits.{is-true, is-false}
+use Rattle.arith.specs.Real.{isFinite}
 
 -- -infinity < x < infinity
 pub finite-is : (x : Float) → Ieee.lt (Ieee.neg (inf false)) x && Ieee.lt x (inf false) ≡ isFinite x
@@ -48,3 +48,16 @@ not-zero-left m e s =
     let a = eqb (suc m * up e * 1) (0 * 1 * down e) in
     let b = Bool·beq s false || eqb (suc m * up e * 1) 0 in
     is-false (a && b) (not-T (a && b) (λ t. not-zero m (up e) (up-pos e) (eqb→eq (suc m * up e * 1) (0 * 1 * down e) (and-l a b t) ∙ zero-mul (down e))))
+
+pub no : {X : Type 0} → false ≡ true → X
+no e = absurd (true≢false (sym e))
+
+pub no-below : (a d : ℕ) → ltb a (0 * d) ≡ true → ⊥
+no-below a d h = not-suc-le-zero (rw zero-mul at (ltb→lt a (0 * d) (subst T (sym h) tt)))
+
+pub below-zero : (m : ℕ) (e : ℤ) → lt (fin true (suc m) e) (fin false 0 (pos 0)) ≡ true
+unfolding lt
+below-zero m e =
+    let a = suc m * up e * 1 in
+    let b = 0 * 1 * down e in
+    is-true (ltb 0 (a + b)) (lt→ltb 0 (a + b) (lt-of-lt-of-le (mul-pos (mul-pos (zero-lt-suc m) (up-pos e)) (zero-lt-suc 0)) (le-add-right a b)))

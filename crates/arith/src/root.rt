@@ -7,6 +7,7 @@ ghost use Prim.Native.Nat.{_+_, _-_, _*_, _/_, _%_, _^_, _≤_, _<_};
 ghost use lib.Ieee.{binary64, ofBits};
 ghost use Rattle.arith.specs.Root as Root;
 ghost use Rattle.arith.specs.Root.{NearRoot};
+ghost use Rattle.arith.specs.SquareRoot.{Rooted};
 ghost use Rattle.arith.specs.Hypot.{hypotOf, scaledRoot};
 
 // The whole square root of m, by Newton's iteration from above. The first guess is a step of it
@@ -65,10 +66,10 @@ fn root_bits(b: u64) -> u64
     }
 }
 
-// The square root of x: the nearest f64, a tie to the even one. A NaN and what is below 0 give a
-// NaN, and -0, 0 and +infinity themselves.
+// IEEE 754's square root of x: the nearest f64, and there never is a tie. A NaN and what is below 0 give
+// a NaN, and -0, 0 and +infinity themselves.
 pub fn sqrt(x: f64) -> f64
-    ensures { λ r. ⌜ r ≡ Root.sqrt binary64 x ⌝ }
+    ensures { λ r. ⌜ Rooted x r ⌝ }
 {
     if x > 0.0 {
         let b = f64::to_bits(x);

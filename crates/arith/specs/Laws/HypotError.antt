@@ -31,7 +31,7 @@ use Rattle.arith.specs.FlowLaws.{cond-yes, cond-no}
 use Rattle.arith.specs.Root.{sqrt}
 use Rattle.arith.specs.Hypot.{scaledRoot, hypotOf}
 use Rattle.arith.specs.Laws.Magnitude.{finite-same, abs-unsigned, abs-finite, abs-fits, abs-nn, abs-abs, abs-square, lt-yes, lt-no}
-use Rattle.arith.specs.Laws.RootUnits.{Rooted, rooted}
+use Rattle.arith.specs.Laws.RootUnits.{RootUnits, root-units}
 use Rattle.arith.specs.Laws.RootNearest.{positive-of}
 use Rattle.arith.specs.Laws.RootError.{quarter, above-quarter, root-ok}
 
@@ -141,12 +141,12 @@ module _ (a b : Float) (fa : T (fits binary64 a)) (ua : T (unsigned a)) (fb : T 
 
   r-unsigned : T (unsigned (sqrt binary64 (radicand a b)))
   r-unsigned =
-      let R = rooted (radicand a b) (add-fits binary64 one (mul binary64 (div binary64 b a) (div binary64 b a))) (positive-of (radicand a b) (S .x-finite) (above-quarter (val (radicand a b)) x-low)) in
+      let R = root-units (radicand a b) (add-fits binary64 one (mul binary64 (div binary64 b a) (div binary64 b a))) (positive-of (radicand a b) (S .x-finite) (above-quarter (val (radicand a b)) x-low)) in
       has→unsigned (sqrt binary64 (radicand a b)) (R .q * 2 ^ R .k) (2 ^ 1074) (R .root)
 
   a-least : qn 2 *q least ≤q val a
   a-least =
-      let R = rooted a fa (positive-of a (unsigned-finite a ua) pa) in
+      let R = root-units a fa (positive-of a (unsigned-finite a ua) pa) in
       let v = has→val a false (R .A) (2 ^ 1074) (pow-pos 1074) (R .value) .1 in
       subst (λ z. qn 2 *q least ≤q z) (sym v) (two-least (2 ^ 1074) (R .A) (pow-pos 1074) (mul-pos (pow-pos 1074) (zero-lt-suc 1)) (above-frac (R .A) (2 ^ 1074) (pow-pos 1074) (subst (λ z. qn 0 <q z) v pa)))
 

@@ -1,4 +1,4 @@
--- What callers use of `sqrt`: for 1/4 ≤ x < 4 the root r is finite, not below 0, and (r - u)² ≤ x ≤ (r + u)² with u = 2 ^ -53 (`root-ok`; `Root` is in the crate `exact`). From the definition, by `rooted`.
+-- What callers use of `sqrt`: for 1/4 ≤ x < 4 the root r is finite, not below 0, and (r - u)² ≤ x ≤ (r + u)² with u = 2 ^ -53 (`root-ok`; `Root` is in the crate `exact`). From the definition, by `root-units`.
 use mathlib.Core.Path.{_≡_, refl, sym, ap, _∙_, subst, subst₂}
 use mathlib.Core.List.{List, [], _∷_}
 use mathlib.Core.Bool.{Bool, true, false, not}
@@ -19,7 +19,7 @@ use Rattle.exact.specs.Sign.{sg-nn}
 use Rattle.exact.specs.Hypot.{Root}
 use Rattle.arith.specs.Root.{sqrt, NearRoot}
 use Rattle.arith.specs.Laws.RootHalves.{square-lt}
-use Rattle.arith.specs.Laws.RootUnits.{Rooted, rooted}
+use Rattle.arith.specs.Laws.RootUnits.{RootUnits, root-units}
 use Rattle.arith.specs.Laws.RootNearest.{positive-of}
 
 -- ---- in whole numbers: the root is B = q W of the L units of 1, x is A of them, half a last place is W / 2
@@ -109,7 +109,7 @@ widen-high x r h a b c d =
 
 pub root-ok : (x : Float) → T (fits binary64 x) → T (finite x) → mk quarter ≤q val x → val x <q qn 4 → Root x (sqrt binary64 x)
 root-ok x f p a b =
-    let R = rooted x f (positive-of x p (above-quarter (val x) a)) in
+    let R = root-units x f (positive-of x p (above-quarter (val x) a)) in
     let L = 2 ^ 1074 in
     let P = pow-pos 1074 in
     let P2 : 0 < 2 * 2 ^ 1074 = lit< tt in

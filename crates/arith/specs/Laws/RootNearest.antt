@@ -3,25 +3,22 @@
 -- (A z below 0 is farther from the root than 0 is, which is representable.) And r is itself finite and representable.
 use mathlib.Core.Path.{_≡_, refl, sym, ap, ap₂, _∙_, subst, subst₂}
 use mathlib.Core.Logic.{_⊎_, inl, inr}
-use mathlib.Core.Bool.{Bool, true, false, not}
+use mathlib.Core.Bool.{true, false, not}
 use Prim.Native.Nat.{ℕ, zero, suc, _+_, _-_, _*_, _^_, _≤_, _<_}
-use native.Mathlib.Nat.{le-trans, le-of-eq, lt-of-lt-of-le, lt-of-le-of-lt, lt-of-not-le, not-le-of-lt, mul-assoc, mul-pos, mul-le-mul, mul-le-mul-left, mul-le-mul-right, mul-lt-mul-of-pos-right, le-of-lt, lt-of-mul-lt-mul-right, le-of-suc-le-suc, le-of-mul-le-mul-right, eq-or-lt-of-le, zero-lt-suc, zero-mul, lt-irrefl}
-use native.Mathlib.Decide.{decLe}
+use native.Mathlib.Nat.{lt-of-lt-of-le, lt-of-le-of-lt, not-le-of-lt, mul-pos, mul-le-mul, mul-le-mul-left, mul-le-mul-right, mul-lt-mul-of-pos-right, le-of-lt, eq-or-lt-of-le, zero-lt-suc, zero-mul, lt-irrefl}
 use native.Mathlib.Omega.{arith}
-use lib.Pow.{pow-add, pow-pos, pow-mono}
-use lib.Dec.{T, leb, nleb→lt, lt→ltb, lit≤}
-use lib.Arith.{lt→nleb}
+use lib.Pow.{pow-pos}
+use lib.Dec.{T, nleb→lt, lt→ltb, lit≤}
 use lib.Ieee.{Float, nan, inf, fin, binary64, up, down, fits}
-use lib.Ieee.Fits.{down-pos}
 use lib.Ieee.Scale.{finite}
 use lib.Ieee.Positive.{positive}
 use mathlib.Core.Quot.{Quot·sound}
-use Rattle.exact.specs.Rat.{ℚ, Fr, mk, qn, whole, leq, _+q_, _*q_, _≤q_, _<q_, mk-≤, *q-mk}
+use Rattle.exact.specs.Rat.{mk, qn, whole, leq, _+q_, _*q_, _<q_, *q-mk}
 use Rattle.exact.specs.Abs.{0≤}
 use Rattle.exact.specs.Val.{val, sg, sgF, has→val, plus, times}
 use Rattle.arith.specs.Root.{sqrt, NearRoot}
-use Rattle.arith.specs.Laws.RootUnits.{Rooted, rooted}
-use Rattle.arith.specs.Laws.Spacing.{above-next, below-next, L, frac, less-frac, frac-less, Grid, grid}
+use Rattle.arith.specs.Laws.RootUnits.{RootUnits, root-units}
+use Rattle.arith.specs.Laws.Spacing.{above-next, below-next, L, frac, less-frac, frac-less, zero-both, Grid, grid}
 
 -- ---- in whole numbers of units: the root is q * 2 ^ k, z is m * 2 ^ j
 -- the middle of z and the root, squared, against v = n * 4 ^ k
@@ -89,8 +86,8 @@ positive-of (fin false m e) p t = lt→ltb 0 m (first m (nleb→lt (m * up e * 1
     first (suc m) h = zero-lt-suc m
 
 module _ (x : Float) (f : T (fits binary64 x)) (p : T (finite x)) (above : qn 0 <q val x) where
-  own : Rooted x
-  own = rooted x f (positive-of x p above)
+  own : RootUnits x
+  own = root-units x f (positive-of x p above)
 
   x-is : val x ≡ frac (own .A)
   x-is = has→val x false (own .A) (2 ^ 1074) L (own .value) .1
@@ -103,6 +100,12 @@ module _ (x : Float) (f : T (fits binary64 x)) (p : T (finite x)) (above : qn 0 
 
   pub root-fits : T (fits binary64 (sqrt binary64 x))
   root-fits = own .root-fits
+
+  pub root-above-zero : qn 0 <q val (sqrt binary64 x)
+  root-above-zero =
+      let B = own .q * 2 ^ own .k in
+      subst₂ _<q_ (zero-both false 0 (2 ^ 1074) 1 L (zero-lt-suc 0) refl) (sym (root-has .1))
+      (less-frac 0 B (2 ^ 1074) L (mul-pos (lt-of-lt-of-le (pow-pos 52) (own .q-low)) (pow-pos (own .k))))
 
   four-x : qn 4 *q val x ≡ sg false (4 * (own .n * (2 ^ own .k * 2 ^ own .k))) (2 ^ 1074 * 2 ^ 1074) (mul-pos L L)
   four-x = ap (λ z. qn 4 *q z) x-is ∙ four-frac (own .A) (2 ^ 1074) L ∙ ap (λ (n : ℕ). sg false (4 * n) (2 ^ 1074 * 2 ^ 1074) (mul-pos L L)) (own .square)

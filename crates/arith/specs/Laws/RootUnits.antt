@@ -1,4 +1,4 @@
--- A double that is finite and above 0, in units of 2 ^ -1074, and its root: `rooted`. With v = n * 4 ^ k the value in units of the square 2 ^ -2148, for an n of 105 or 106 digits,
+-- A double that is finite and above 0, in units of 2 ^ -1074, and its root: `root-units`. With v = n * 4 ^ k the value in units of the square 2 ^ -2148, for an n of 105 or 106 digits,
 -- `sqrt` is q * 2 ^ k units, q the whole number nearest to the root of n.
 use mathlib.Core.Path.{_≡_, refl, sym, ap, _∙_, subst}
 use mathlib.Core.Bool.{Bool, true, false, _&&_}
@@ -67,7 +67,7 @@ in-units s (suc m) e f =
     units-of s (suc m) e (zero-lt-suc m) (ltb→lt (suc m) (2 ^ 53) (and-r odd few f'')) (leb→le (down e) (2 ^ 1074) (and-r (odd && few) fine f')) (ltb→lt (suc m * up e) (2 ^ 1024 * down e) (and-r (odd && few && fine) below f))
 
 -- ---- the root
-pub record Rooted (x : Float) : Type 0 where
+pub record RootUnits (x : Float) : Type 0 where
   pub A : ℕ
   pub n : ℕ
   pub k : ℕ
@@ -85,7 +85,7 @@ positive-n : (n : ℕ) → 20282409603651670423947251286016 ≤ n → 0 < n
 positive-n n h = omega arith
 
 -- x is A units, and that times 2 ^ 1074 is M * 2 ^ 52 times 4 ^ k, as `join` has it
-rooted-at : (x : Float) (A M k : ℕ) → HasValue x false A (2 ^ 1074) → sqrt binary64 x ≡ roundRoot binary64 (A * 2 ^ 1074) → A * 2 ^ 1074 ≡ M * 2 ^ 52 * (2 ^ k * 2 ^ k) → 2 ^ 52 ≤ M → M + 2 ≤ 2 ^ 54 → k < 2046 → Rooted x
+rooted-at : (x : Float) (A M k : ℕ) → HasValue x false A (2 ^ 1074) → sqrt binary64 x ≡ roundRoot binary64 (A * 2 ^ 1074) → A * 2 ^ 1074 ≡ M * 2 ^ 52 * (2 ^ k * 2 ^ k) → 2 ^ 52 ≤ M → M + 2 ≤ 2 ^ 54 → k < 2046 → RootUnits x
 rooted-at x A M k v s e a b c =
     let n = M * 2 ^ 52 in
     let lo : 2 ^ 104 ≤ n = mul-le-mul-right (2 ^ 52) a in
@@ -123,20 +123,20 @@ scaled m s l a b = (low-part, subst (λ (z : ℕ). m * 2 ^ (53 - s) < 2 ^ z) (fi
     low-part : 2 ^ 52 ≤ m * 2 ^ (53 - s)
     low-part = half (m * 2 ^ (53 - s)) (le-trans (le-of-eq (ap (λ (z : ℕ). 2 ^ z) (sym (fill s l)) ∙ pow-add 2 s (53 - s))) (le-trans (mul-le-mul-right (2 ^ (53 - s)) a) (le-of-eq (mul-assoc 2 m (2 ^ (53 - s))))))
 
-rooted-even : (x : Float) (A M h : ℕ) → HasValue x false A (2 ^ 1074) → sqrt binary64 x ≡ roundRoot binary64 (A * 2 ^ 1074) → A * 2 ^ 1074 ≡ M * 2 ^ h → 2 ^ 52 ≤ M → M < 2 ^ 53 → 52 ≤ h → h < 4000 → h % 2 ≡ 0 → Rooted x
+rooted-even : (x : Float) (A M h : ℕ) → HasValue x false A (2 ^ 1074) → sqrt binary64 x ≡ roundRoot binary64 (A * 2 ^ 1074) → A * 2 ^ 1074 ≡ M * 2 ^ h → 2 ^ 52 ≤ M → M < 2 ^ 53 → 52 ≤ h → h < 4000 → h % 2 ≡ 0 → RootUnits x
 rooted-even x A M h v s e a b c d p =
     let k = h / 2 - 26 in
     rooted-at x A M k v s
     (e ∙ ap (λ (z : ℕ). M * 2 ^ z) (sym (even-at h p c)) ∙ ap (λ (z : ℕ). M * z) (pow-add 2 52 (k + k) ∙ ap (λ (z : ℕ). 2 ^ 52 * z) (pow-add 2 k k)) ∙ sym (mul-assoc M (2 ^ 52) (2 ^ k * 2 ^ k))) a (even-room M b) (drop-lt h d)
 
-rooted-odd : (x : Float) (A M h : ℕ) → HasValue x false A (2 ^ 1074) → sqrt binary64 x ≡ roundRoot binary64 (A * 2 ^ 1074) → A * 2 ^ 1074 ≡ M * 2 ^ h → 2 ^ 52 ≤ M → M < 2 ^ 53 → 52 ≤ h → h < 4000 → (h % 2 ≡ 0 → ⊥) → Rooted x
+rooted-odd : (x : Float) (A M h : ℕ) → HasValue x false A (2 ^ 1074) → sqrt binary64 x ≡ roundRoot binary64 (A * 2 ^ 1074) → A * 2 ^ 1074 ≡ M * 2 ^ h → 2 ^ 52 ≤ M → M < 2 ^ 53 → 52 ≤ h → h < 4000 → (h % 2 ≡ 0 → ⊥) → RootUnits x
 rooted-odd x A M h v s e a b c d p =
     let k = h / 2 - 26 in
     rooted-at x A (2 * M) k v s
     (e ∙ ap (λ (z : ℕ). M * 2 ^ z) (sym (odd-at h p c)) ∙ ap (λ (z : ℕ). M * z) (pow-succ' 2 (52 + (k + k))) ∙ mul-left-comm M 2 (2 ^ (52 + (k + k))) ∙ sym (mul-assoc 2 M (2 ^ (52 + (k + k))))
     ∙ ap (λ (z : ℕ). 2 * M * z) (pow-add 2 52 (k + k) ∙ ap (λ (z : ℕ). 2 ^ 52 * z) (pow-add 2 k k)) ∙ sym (mul-assoc (2 * M) (2 ^ 52) (2 ^ k * 2 ^ k))) (odd-low M a) (odd-room M b) (drop-lt h d)
 
-rooted-units : (x : Float) (m j : ℕ) → 0 < m → m < 2 ^ 53 → j ≤ 2098 → HasValue x false (m * 2 ^ j) (2 ^ 1074) → Rooted x
+rooted-units : (x : Float) (m j : ℕ) → 0 < m → m < 2 ^ 53 → j ≤ 2098 → HasValue x false (m * 2 ^ j) (2 ^ 1074) → RootUnits x
 rooted-units x m j p q l val =
     let A = m * 2 ^ j in
     let s = size m in
@@ -163,16 +163,16 @@ rooted-units x m j p q l val =
     bounded : (j s : ℕ) → j ≤ 2098 → s ≤ 53 → j + 1021 + s < 4000
     bounded j s a b = omega arith
 
-    go : (A M h : ℕ) → Dec (h % 2 ≡ 0) → HasValue x false A (2 ^ 1074) → sqrt binary64 x ≡ roundRoot binary64 (A * 2 ^ 1074) → A * 2 ^ 1074 ≡ M * 2 ^ h → 2 ^ 52 ≤ M → M < 2 ^ 53 → 52 ≤ h → h < 4000 → Rooted x
+    go : (A M h : ℕ) → Dec (h % 2 ≡ 0) → HasValue x false A (2 ^ 1074) → sqrt binary64 x ≡ roundRoot binary64 (A * 2 ^ 1074) → A * 2 ^ 1074 ≡ M * 2 ^ h → 2 ^ 52 ≤ M → M < 2 ^ 53 → 52 ≤ h → h < 4000 → RootUnits x
     go A M h (yes z) v s e a b c d = rooted-even x A M h v s e a b c d z
     go A M h (no z) v s e a b c d = rooted-odd x A M h v s e a b c d z
 
-pub rooted : (x : Float) → T (fits binary64 x) → T (positive x) → Rooted x
-rooted nan f p = absurd p
-rooted (inf s) f p = absurd p
-rooted (fin true m e) f p = absurd p
-rooted (fin false zero e) f p = absurd p
-rooted (fin false (suc m) e) f p =
+pub root-units : (x : Float) → T (fits binary64 x) → T (positive x) → RootUnits x
+root-units nan f p = absurd p
+root-units (inf s) f p = absurd p
+root-units (fin true m e) f p = absurd p
+root-units (fin false zero e) f p = absurd p
+root-units (fin false (suc m) e) f p =
     let u = in-units false (suc m) e f in
     rooted-units (fin false (suc m) e) (u .m) (u .j) (above (u .m) (u .j) (u .value .1)) (u .digits) (u .scale) (u .value)
   where

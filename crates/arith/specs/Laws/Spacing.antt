@@ -95,7 +95,7 @@ pub record Grid (z : Float) : Type 0 where
 no-less : (a c : ℕ) (C : 0 < c) → 0≤ (sg true a c C) → a ≡ 0
 no-less a c C h = let k = mk-≤ (whole 0 0) (sgF true a c C) h in omega arith
 
-zero-both : (s : Bool) (a c b : ℕ) (C : 0 < c) (B : 0 < b) → a ≡ 0 → sg s a c C ≡ sg false 0 b B
+pub zero-both : (s : Bool) (a c b : ℕ) (C : 0 < c) (B : 0 < b) → a ≡ 0 → sg s a c C ≡ sg false 0 b B
 zero-both false a c b C B e = Quot·sound (ap (λ (x : ℕ). x * b + 0 * c) e ∙ omega arith)
 zero-both true a c b C B e = Quot·sound (sym (ap (λ (x : ℕ). 0 * c + x * b) e ∙ omega arith))
 

@@ -8,7 +8,7 @@ sqrt-requires : tie.Need-sqrt-requires
 sqrt-requires c κs = search needs
 
 returns : tie.Need-returns
-returns c = half-tangent-is _ (c .sqrt .ensures)
+returns c = half-tangent-is _ (c .sqrt .ensures .is)
 
 pub half-tangent-spec : {M : Type 1} → statement M
 half-tangent-spec = tie.close (tie.spec sqrt-requires returns)

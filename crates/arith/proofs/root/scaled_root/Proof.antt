@@ -11,7 +11,7 @@ sqrt-requires : tie.Need-sqrt-requires
 sqrt-requires c κs = search needs
 
 returns-2 : tie.Need-returns-2
-returns-2 c = scaled-else _ _ (c .before .if1 .left) (c .sqrt .ensures)
+returns-2 c = scaled-else _ _ (c .before .if1 .left) (c .sqrt .ensures .is)
 
 pub scaled-root-spec : {M : Type 1} → statement M
 scaled-root-spec = tie.close (tie.spec returns sqrt-requires returns-2)

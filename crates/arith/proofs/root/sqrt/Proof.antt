@@ -1,9 +1,10 @@
--- `root::sqrt` meets its contract, by `Cases.antt`. Assumes nothing.
+-- `root::sqrt` meets its contract, by proofs/RootCases.antt. Assumes nothing.
 use mathlib.Core.Path.{sym, ap, subst, _∙_}
 use lib.Dec.{T}
 use lib.Ieee.{Float, binary64, fits}
 use lib.Ieee.Bits.{ofBits-toBits}
 use Rattle.arith.specs.Root.{sqrt}
+use Rattle.arith.specs.Laws.SquareRoot.{rooted}
 use Rattle.arith.proofs.RootCases.{above-no-nan, bits-pos, no-nan-bits, infinite, at-zero, nowhere}
 use Rattle.arith.proofs.root.sqrt.Statement.{statement}
 use Rattle.arith.proofs.root.sqrt.Tie as tie
@@ -23,16 +24,25 @@ float-from-bits-result c = no-nan-bits (c .root-bits .result) (c .root-bits .ens
 returns : tie.Need-returns
 returns c =
     let at-start = c .before .before .before in
-    c .root-bits .ensures .1 ∙ ap (λ (x : Float). sqrt binary64 x) (ofBits-toBits binary64 (at-start .args .x) (held at-start))
+    let x = at-start .args .x in
+    rooted x (held at-start) (c .root-bits .ensures .1 ∙ ap (λ (x : Float). sqrt binary64 x) (ofBits-toBits binary64 x (held at-start)))
 
 returns-2 : tie.Need-returns-2
-returns-2 c = infinite (c .before .before .args .x) (held (c .before .before)) (c .before .if1 .taken) (c .if2 .left)
+returns-2 c =
+    let at-start = c .before .before in
+    let x = at-start .args .x in
+    rooted x (held at-start) (infinite x (held at-start) (c .before .if1 .taken) (c .if2 .left))
 
 returns-3 : tie.Need-returns-3
-returns-3 c = at-zero (c .before .before .args .x) (c .if3 .taken)
+returns-3 c =
+    let at-start = c .before .before in
+    rooted (at-start .args .x) (held at-start) (at-zero (at-start .args .x) (c .if3 .taken))
 
 returns-4 : tie.Need-returns-4
-returns-4 c = nowhere (c .before .before .args .x) (c .before .if1 .left) (c .if3 .left)
+returns-4 c =
+    let at-start = c .before .before in
+    let x = at-start .args .x in
+    rooted x (held at-start) (nowhere x (c .before .if1 .left) (c .if3 .left))
 
 pub sqrt-spec : {M : Type 1} → statement M
 sqrt-spec =

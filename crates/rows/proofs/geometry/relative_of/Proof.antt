@@ -47,7 +47,7 @@ returns-3 c =
     relative-3 _ _ _
     (c₆ .before .before .before .before .conjugate .ensures) (c₆ .before .before .before .product .ensures)
     (quat-go arithmeticOverflow (c₆ .before .before .try-normalize .ensures) (c .before .before .before .before .before .before .q .given .1))
-    (c .before .before .half-turned .ensures) (c .before .if1 .left) (c .sqrt .ensures)
+    (c .before .before .half-turned .ensures) (c .before .if1 .left) (c .sqrt .ensures .is)
 
 pub relative-of-spec : {M : Type 1} → statement M
 relative-of-spec =

@@ -28,10 +28,10 @@ sqrt-requires : tie.Need-sqrt-requires
 sqrt-requires c κs = search needs
 
 returns-2 : tie.Need-returns-2
-returns-2 c = test-there (vecAt (now (c .before .before .before .before .before .before .before .args .s)) RESIDUAL (c .before .before .before .before .before .before .before .args .n)) (c .before .before .before .before .before .before .before .args .tolerance) (sum-there (c .before .before .before .before .before .dot .ensures) (c .before .before .before .square .given .1)) (c .before .sqrt .ensures) (c .if1 .taken)
+returns-2 c = test-there (vecAt (now (c .before .before .before .before .before .before .before .args .s)) RESIDUAL (c .before .before .before .before .before .before .before .args .n)) (c .before .before .before .before .before .before .before .args .tolerance) (sum-there (c .before .before .before .before .before .dot .ensures) (c .before .before .before .square .given .1)) (c .before .sqrt .ensures .is) (c .if1 .taken)
 
 returns-3 : tie.Need-returns-3
-returns-3 c = test-there (vecAt (now (c .before .before .before .before .before .before .before .args .s)) RESIDUAL (c .before .before .before .before .before .before .before .args .n)) (c .before .before .before .before .before .before .before .args .tolerance) (sum-there (c .before .before .before .before .before .dot .ensures) (c .before .before .before .square .given .1)) (c .before .sqrt .ensures) (c .if1 .left)
+returns-3 c = test-there (vecAt (now (c .before .before .before .before .before .before .before .args .s)) RESIDUAL (c .before .before .before .before .before .before .before .args .n)) (c .before .before .before .before .before .before .before .args .tolerance) (sum-there (c .before .before .before .before .before .dot .ensures) (c .before .before .before .square .given .1)) (c .before .sqrt .ensures .is) (c .if1 .left)
 
 pub residual-test-spec : {M : Type 1} → statement M
 residual-test-spec =

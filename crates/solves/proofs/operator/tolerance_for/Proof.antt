@@ -27,7 +27,7 @@ sqrt-requires : tie.Need-sqrt-requires
 sqrt-requires c κs = search needs
 
 returns-2 : tie.Need-returns-2
-returns-2 c = tolerance-go (c .before .before .before .before .before .before .args .scale) _ (sum-there (c .before .before .before .before .dot .ensures) (c .before .before .square .given .1)) (c .sqrt .ensures) one-is
+returns-2 c = tolerance-go (c .before .before .before .before .before .before .args .scale) _ (sum-there (c .before .before .before .before .dot .ensures) (c .before .before .square .given .1)) (c .sqrt .ensures .is) one-is
 
 pub tolerance-for-spec : {M : Type 1} → statement M
 tolerance-for-spec =

@@ -100,7 +100,7 @@ same-length-4 : tie.Need-same-length-4
 same-length-4 c = simp length-set
 
 returns-4 : tie.Need-returns-4
-returns-4 c = entry-pivot (c .before .before .before .before .before .before .before .before .before .before .before .before .before .before .before .before .before .before .before .pre .0) (now (c .before .before .before .before .before .before .before .before .before .before .before .before .before .before .before .before .before .before .before .args .order)) (c .before .before .before .before .before .before .before .before .before .before .before .before .before .before .before .before .before .before .before .pre .1) (c .before .before .before .before .before .before .before .before .before .before .before .before .before .before .before .before .before .before .before .pre .2) (c .before .before .before .before .before .before .before .before .before .before .before .before .before .before .before .before .before .before .before .pre .3) (c .before .before .before .before .before .before .before .before .before .before .before .before .before .before .before .before .before .before .before .pre .4) (c .before .before .before .before .before .before .before .before .before .before .before .before .before .before .before .load-row .ensures) (c .before .before .before .before .before .before .before .before .before .before .before .before .load-row2 .ensures) (sum-there (c .before .before .before .before .before .before .before .before .before .before .cross-mass .ensures) (c .before .before .before .before .before .before .before .before .entry .given .1)) (c .before .before .before .before .before .reduced .ensures) (c .before .before .before .before .if1 .taken) (c .before .before .before .is-finite .ensures) zero-is (c .before .before .if2 .left) (c .before .if3 .left) (c .sqrt .ensures)
+returns-4 c = entry-pivot (c .before .before .before .before .before .before .before .before .before .before .before .before .before .before .before .before .before .before .before .pre .0) (now (c .before .before .before .before .before .before .before .before .before .before .before .before .before .before .before .before .before .before .before .args .order)) (c .before .before .before .before .before .before .before .before .before .before .before .before .before .before .before .before .before .before .before .pre .1) (c .before .before .before .before .before .before .before .before .before .before .before .before .before .before .before .before .before .before .before .pre .2) (c .before .before .before .before .before .before .before .before .before .before .before .before .before .before .before .before .before .before .before .pre .3) (c .before .before .before .before .before .before .before .before .before .before .before .before .before .before .before .before .before .before .before .pre .4) (c .before .before .before .before .before .before .before .before .before .before .before .before .before .before .before .load-row .ensures) (c .before .before .before .before .before .before .before .before .before .before .before .before .load-row2 .ensures) (sum-there (c .before .before .before .before .before .before .before .before .before .before .cross-mass .ensures) (c .before .before .before .before .before .before .before .before .entry .given .1)) (c .before .before .before .before .before .reduced .ensures) (c .before .before .before .before .if1 .taken) (c .before .before .before .is-finite .ensures) zero-is (c .before .before .if2 .left) (c .before .if3 .left) (c .sqrt .ensures .is)
 
 mul-s-3 : tie.Need-mul-s-3
 mul-s-3 c = omega (arith, c .before .before .before .before .before .before .before .before .before .before .before .before .before .before .before .pre .0 .whole, c .before .before .before .before .before .before .before .before .before .before .before .before .before .before .before .pre .0 .most, c .before .before .before .before .before .before .before .before .before .before .before .before .before .before .before .pre .0 .table, c .before .before .before .before .before .before .before .before .before .before .before .before .before .before .before .pre .2, c .before .before .before .before .before .before .before .before .before .before .before .before .before .before .before .pre .3, c .before .before .before .before .before .before .before .before .before .before .before .before .before .before .before .pre .4)

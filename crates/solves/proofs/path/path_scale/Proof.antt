@@ -74,7 +74,7 @@ loop-less : tie.Need-loop-less Inv-loop μ-loop
 loop-less c = omega (arith, c .before .before .before .before .before .before .before .before .before .before .loop-test .taken)
 
 loop-again : tie.Need-loop-again Inv-loop μ-loop
-loop-again c = (omega (arith, c .before .before .before .before .before .before .before .before .before .before .loop-test .taken), simp length-set (c .before .before .before .before .before .before .before .before .before .before .before .loop .inv .1), scales-more (c .before .before .before .before .before .before .before .before .before .before .before .before .before .pre .0) (now (c .before .before .before .before .before .before .before .before .before .before .before .before .before .args .order)) (c .before .before .before .before .before .before .before .before .before .before .before .before .before .pre .1) _ (c .before .before .before .before .before .before .before .before .before .before .before .loop .inv .2) (c .before .before .before .before .before .before .before .before .before .before .loop-test .taken) (c .before .before .before .before .before .before .before .before .before .before .before .loop .inv .1) (c .before .before .before .before .before .before .before .load-row .ensures) zero-is (sum-there (c .before .before .before .before .before .cross-mass .ensures) (c .before .before .before .value .given .1)) (c .before .if1 .left) (c .sqrt .ensures))
+loop-again c = (omega (arith, c .before .before .before .before .before .before .before .before .before .before .loop-test .taken), simp length-set (c .before .before .before .before .before .before .before .before .before .before .before .loop .inv .1), scales-more (c .before .before .before .before .before .before .before .before .before .before .before .before .before .pre .0) (now (c .before .before .before .before .before .before .before .before .before .before .before .before .before .args .order)) (c .before .before .before .before .before .before .before .before .before .before .before .before .before .pre .1) _ (c .before .before .before .before .before .before .before .before .before .before .before .loop .inv .2) (c .before .before .before .before .before .before .before .before .before .before .loop-test .taken) (c .before .before .before .before .before .before .before .before .before .before .before .loop .inv .1) (c .before .before .before .before .before .before .before .load-row .ensures) zero-is (sum-there (c .before .before .before .before .before .cross-mass .ensures) (c .before .before .before .value .given .1)) (c .before .if1 .left) (c .sqrt .ensures .is))
 
 same-length-3 : tie.Need-same-length-3 Inv-loop μ-loop
 same-length-3 c = c .before .loop .inv .1

@@ -38,7 +38,7 @@ index-2-lower : tie.Need-index-2-lower
 index-2-lower c = search needs
 
 returns : tie.Need-returns
-returns c = place-root _ _ _ _ (c .before .before .before .before .correction .ensures) (c .before .before .before .if1 .taken) (c .before .before .above-zero .ensures) (c .before .if2 .taken) (c .sqrt .ensures)
+returns c = place-root _ _ _ _ (c .before .before .before .before .correction .ensures) (c .before .before .before .if1 .taken) (c .before .before .above-zero .ensures) (c .before .if2 .taken) (c .sqrt .ensures .is)
 
 returns-2 : tie.Need-returns-2
 returns-2 c = place-not _ _ _ _ (c .before .before .before .correction .ensures) (c .before .before .if1 .taken) (c .before .above-zero .ensures) (c .if2 .left)
