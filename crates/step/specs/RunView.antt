@@ -48,6 +48,7 @@ pub record Sides (joints : List Joint) (count : ℕ) (ia ib : List ℕ) : Type 0
   pub b-is : (k i : ℕ) → k < count → i < rowCount (jointIn joints k .kind) → getD ib (rowsBefore joints k + i) 0 ≡ jointIn joints k .«body_b»
 
 -- ---- outside of what is written
+-- Inside of it stands what the contract's views say; all else there is free: only the crate itself calls these functions, and the step zeroes the scratch before it answers.
 -- by the nonlinear passes: not the starting bodies, the starting rows, the masses
 abbrev pub Trying : ℕ → Type 0
 Trying i = (Out ROWS (MASSES - ROWS) i) × (Out IMPULSES (START - IMPULSES) i) × (Out CANDIDATE (END - CANDIDATE) i)

@@ -23,7 +23,7 @@ ghost use Rattle.step.specs.Checks.{withinOf};
 ghost use Rattle.step.specs.View.{colsOf, fixedAt, fixedOf, movingAt, movingOf, bodyFrom, startBodyAt, candidateAt, heldOf, movedTo, Handed};
 
 // What moves of a body in a step: centre, rotation, momentum and spin.
-pub const MOVING: usize = 13;
+pub(crate) const MOVING: usize = 13;
 
 fn load4(s: &[f64], i: usize) -> Quat
     requires { ⌜ i + 4 ≤ length (now s) ⌝ }
@@ -68,7 +68,7 @@ fn store_mat3(s: &mut [f64], i: usize, m: Mat3)
 }
 
 // Record k of a body slice.
-pub fn load_record(bodies: &[f64], k: usize) -> RigidBody
+pub(crate) fn load_record(bodies: &[f64], k: usize) -> RigidBody
     requires { ⌜ 26 * k + 26 ≤ length (now bodies) ⌝ }
     ensures { λ r. ⌜ r ≡ recordAt (now (bodies .entry)) k ⌝ }
 {
@@ -85,7 +85,7 @@ pub fn load_record(bodies: &[f64], k: usize) -> RigidBody
 }
 
 // The 13 numbers at i as a state.
-pub fn load_state(s: &[f64], i: usize) -> BodyState
+pub(crate) fn load_state(s: &[f64], i: usize) -> BodyState
     requires { ⌜ i + 13 ≤ length (now s) ⌝ }
     ensures { λ r. ⌜ r ≡ stateAt (now (s .entry)) i ⌝ }
 {
@@ -97,7 +97,7 @@ pub fn load_state(s: &[f64], i: usize) -> BodyState
     }
 }
 
-pub fn store_state(s: &mut [f64], i: usize, state: BodyState)
+pub(crate) fn store_state(s: &mut [f64], i: usize, state: BodyState)
     requires { ⌜ i + 13 ≤ length (now s) ⌝ }
     ensures { λ _. ⌜ (Kept (λ j. Out i 13 j) (now (s .entry)) (now (s .exit))) × (stateAt (now (s .exit)) i ≡ state) ⌝ }
 {
@@ -127,7 +127,7 @@ fn store_fixed(s: &mut [f64], i: usize, body: MomentumBody)
     s[i] = body.mass;
 }
 
-pub fn store_start(s: &mut [f64], k: usize, body: MomentumBody)
+pub(crate) fn store_start(s: &mut [f64], k: usize, body: MomentumBody)
     requires { ⌜ (END ≤ length (now s)) × (k < 16) ⌝ }
     ensures { λ _. ⌜ (Kept (λ j. Out (START + 26 * k) 26 j) (now (s .entry)) (now (s .exit))) × (startBodyAt (now (s .exit)) k ≡ heldOf body) ⌝ }
 {
@@ -136,7 +136,7 @@ pub fn store_start(s: &mut [f64], k: usize, body: MomentumBody)
     store_fixed(s, i + 13, body);
 }
 
-pub fn store_candidate(s: &mut [f64], k: usize, body: MomentumBody)
+pub(crate) fn store_candidate(s: &mut [f64], k: usize, body: MomentumBody)
     requires { ⌜ (END ≤ length (now s)) × (k < 16) ⌝ }
     ensures { λ _. ⌜ (Kept (λ j. Out (CANDIDATE + 13 * k) 13 j) (now (s .entry)) (now (s .exit))) × (candidateAt (now (s .exit)) k ≡ movedTo body (startBodyAt (now (s .entry)) k)) ⌝ }
 {
@@ -160,14 +160,14 @@ fn load_body(s: &[f64], i: usize, k: usize) -> MomentumBody
     }
 }
 
-pub fn load_start(s: &[f64], k: usize) -> MomentumBody
+pub(crate) fn load_start(s: &[f64], k: usize) -> MomentumBody
     requires { ⌜ (END ≤ length (now s)) × (k < 16) ⌝ }
     ensures { λ r. ⌜ r ≡ startBodyAt (now (s .entry)) k ⌝ }
 {
     load_body(s, START + RECORD * k, k)
 }
 
-pub fn load_candidate(s: &[f64], k: usize) -> MomentumBody
+pub(crate) fn load_candidate(s: &[f64], k: usize) -> MomentumBody
     requires { ⌜ (END ≤ length (now s)) × (k < 16) ⌝ }
     ensures { λ r. ⌜ r ≡ candidateAt (now (s .entry)) k ⌝ }
 {
@@ -175,7 +175,7 @@ pub fn load_candidate(s: &[f64], k: usize) -> MomentumBody
 }
 
 // Whether every resulting origin is on the plan's ground. The states stand where the candidates were.
-pub fn in_ground(s: &[f64], n: usize) -> bool
+pub(crate) fn in_ground(s: &[f64], n: usize) -> bool
     requires { ⌜ (END ≤ length (now s)) × (n ≤ 16) ⌝ }
     ensures { λ r. ⌜ r ≡ every n (λ k. withinOf (vec3At (now (s .entry)) (CANDIDATE + 13 * k)) (ratio 8192 1)) ⌝ }
 {
@@ -188,7 +188,7 @@ pub fn in_ground(s: &[f64], n: usize) -> bool
 }
 
 // Hands the states back: the first 13 numbers of each record.
-pub fn write_states(bodies: &mut [f64], s: &[f64], n: usize)
+pub(crate) fn write_states(bodies: &mut [f64], s: &[f64], n: usize)
     requires { ⌜ (26 * n ≤ length (now bodies)) × (END ≤ length (now s)) × (n ≤ 16) ⌝ }
     ensures { λ _. ⌜ Handed n (now (s .entry)) (now (bodies .entry)) (now (bodies .exit)) ⌝ }
 {

@@ -25,7 +25,7 @@ ghost use Rattle.step.specs.Records.{recordAt};
 ghost use Rattle.step.specs.Checks.{withinOf, timeStepOk, bodiesFit, massInRange, bodyInRange, hasInverse, joinsTwo, frameOk, lengthOk, swingOk, twistOk, coneOk, kindOk, jointOk, jointIn, sizesOr, bodiesOr, jointsOr, refusalOf, isAccepted};
 
 // Whether no coordinate is above the limit in magnitude.
-pub fn within(v: Vec3, limit: f64) -> bool
+pub(crate) fn within(v: Vec3, limit: f64) -> bool
     ensures { λ r. ⌜ r ≡ withinOf v limit ⌝ }
 {
     if abs(v.x) <= limit {
@@ -298,13 +298,13 @@ fn size_refusal(doubles: usize, count: usize, dt: f64, scratch: usize) -> Outcom
     Outcome::Accepted
 }
 
-pub fn accepted(outcome: Outcome) -> bool
+pub(crate) fn accepted(outcome: Outcome) -> bool
     ensures { λ r. ⌜ r ≡ isAccepted outcome ⌝ }
 {
     number(outcome) == 0
 }
 
-pub fn refusal(
+pub(crate) fn refusal(
     bodies: &[f64],
     joints: [Joint; 16],
     count: usize,

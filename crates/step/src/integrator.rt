@@ -63,14 +63,14 @@ ghost use Rattle.step.specs.RunView.{bodiesAt, startedAt, foundAt, rowsB
 ghost use Rattle.step.specs.Ready.{Joined, RowBodies, Spread};
 
 // How the run ended, with both counts.
-pub struct Progress {
+pub(crate) struct Progress {
     pub finish: Finish,
     pub nonlinear: usize,
     pub linear: usize,
 }
 
 // A mass response, if it is finite.
-pub struct MassAnswer {
+pub(crate) struct MassAnswer {
     pub some: bool,
     pub mass: MassResponse,
 }
@@ -499,7 +499,7 @@ fn start(s: &mut [f64], bodies: &[f64], joints: [Joint; 16], count: usize) -> Fi
 }
 
 // From the starting bodies to the states.
-pub fn run(bodies: &[f64], joints: [Joint; 16], count: usize, dt: f64, s: &mut [f64]) -> Progress
+pub(crate) fn run(bodies: &[f64], joints: [Joint; 16], count: usize, dt: f64, s: &mut [f64]) -> Progress
     requires { ⌜ (END ≤ length (now s)) × (Joined joints count (bodyCount (now bodies))) ⌝ }
     ensures { λ r. ⌜ Does (Out 0 END) (now (s .entry)) (now (s .exit)) (progressAs r (statesAt (now (s .exit)) (bodyCount (now (bodies .entry))))) (runOf (recordsOf (now (bodies .entry))) joints count dt) ⌝ }
 {

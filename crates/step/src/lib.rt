@@ -1,9 +1,9 @@
 // One step of the constrained integrator: `ConstrainedIntegrator::solve` with document 01's refusals.
-pub mod bodies;
-pub mod checks;
-pub mod integrator;
-pub mod passes;
-pub mod velocity;
+mod bodies;
+mod checks;
+mod integrator;
+mod passes;
+mod velocity;
 
 use crate::bodies::in_ground;
 use crate::bodies::write_states;

@@ -174,7 +174,7 @@ fn velocity_pass(
     correct_velocities(s, ia, ib, n, bodies, cyclic)
 }
 
-pub fn velocity_loop(
+pub(crate) fn velocity_loop(
     s: &mut [f64],
     ia: &[usize; 96],
     ib: &[usize; 96],
