@@ -1,16 +1,17 @@
 -- Rows appended one behind the other: what stands in the slice then is the definitions' list.
 use Prim.Native.Nat.{ℕ, _+_, _*_, _-_, _≤_, _<_}
 use mathlib.Core.Path.{_≡_, refl, sym, _∙_, ap, subst}
-use mathlib.Core.Bool.{Bool, true, false, cond, not}
-use mathlib.Core.List.{List, [], _∷_, _++_, append-assoc, append-nil}
+use mathlib.Core.Bool.{Bool, true, false}
+use mathlib.Core.List.{List, [], _∷_, append-nil}
 use native.Mathlib.Omega.{arith}
+use native.Mathlib.Decide.{ℕ-discrete}
 use lib.Ieee as Ieee
-use lib.Ieee.{Float}
-use lib.ListN.{length}
+use lib.Ieee.{Float, nan}
+use lib.ListN.{length, set}
+use lib.Seq.{getD-set-same}
 use Rattle.arith.specs.Real.{F, ratio}
-use Rattle.arith.specs.Flow.{Turn, go, stop, _>>=_, tab, returnIf}
+use Rattle.arith.specs.Flow.{go, stop, _>>=_, tab}
 use Rattle.arith.specs.FlowLaws.{then-go, then-stop}
-use Rattle.rows.specs.declared.geometry.Joint.{Joint}
 use Rattle.rows.specs.declared.geometry.Kind.{Kind}
 use Rattle.rows.specs.declared.geometry.Kind.the-variants.{ConeTwist}
 use Rattle.rows.specs.declared.geometry.EqualityRow.{EqualityRow}
@@ -18,13 +19,13 @@ use Rattle.rows.specs.declared.geometry.RowAnswer.{RowAnswer}
 use Rattle.rows.specs.declared.geometry.RowAnswer.the-variants as Row
 use Rattle.rows.specs.declared.geometry.Written.{Written}
 use Rattle.rows.specs.declared.geometry.Written.the-variants as Written
-use Rattle.rows.specs.Fault.{Fault, nonConvergent, arithmeticOverflow, Result}
+use Rattle.rows.specs.Fault.{Fault, Result}
 use Rattle.rows.specs.Geometry.{rowIf, oneIf, rowCount}
 use Rattle.rows.proofs.Constants.{zero-is}
-use Rattle.rows.specs.View.{rowAt, rowsAt, Out, Kept}
+use Rattle.rows.specs.View.{at, rowAt, Out, Kept}
 use Rattle.rows.specs.Answer.{writtenAs}
-use Rattle.rows.specs.Append.{rowAs, countOf, appended, There, Appends, Adds, followedBy}
-use Rattle.rows.specs.Region.{kept-refl, kept-then, kept-more, kept-row, tab-ext, tab-more}
+use Rattle.rows.specs.Append.{rowAs, countOf, appended, added, spanOf, There, Appends, Adds, Cleared, followedBy}
+use Rattle.rows.specs.Region.{kept-refl, kept-then, kept-more, kept-set, kept-row, tab-ext, tab-more}
 
 -- ---- one answer
 pub append-value : {i n : ℕ} {s t : List Float} {answer : RowAnswer} {row : EqualityRow} → answer ≡ Row.Value row
@@ -102,20 +103,30 @@ row-there : (t : List Float) (p a b : ℕ) {row : EqualityRow} → rowAt t p (ro
 row-there t p a b {row} e m = ap (λ (x : ℕ). rowAt t p x b) (sym (m .0)) ∙ ap (λ (y : ℕ). rowAt t p (row .a) y) (sym (m .1)) ∙ e
 
 module _ (a b i : ℕ) (t u : List Float) (locked : Bool) (D : Result EqualityRow) (mine : Mine a b D) where
-  same-rows : (n : ℕ) → Kept (λ k. Out (i + 14 * n) 14 k) t u → (j : ℕ) → j < n → rowAt u (i + 14 * j) a b ≡ rowAt t (i + 14 * j) a b
-  same-rows n k j q = kept-row k (i + 14 * j) a b (λ m x y. omega arith)
+  same-rows : (n m : ℕ) → Kept (λ k. Out (i + 14 * n) m k) t u → (j : ℕ) → j < n → rowAt u (i + 14 * j) a b ≡ rowAt t (i + 14 * j) a b
+  same-rows n m k j q = kept-row k (i + 14 * j) a b (λ l x y. omega arith)
 
-  more : (w : Written) (answer : RowAnswer) {d : Result (List EqualityRow)} → Kept (λ k. Out (i + 14 * countOf w) 14 k) t u → There i u w answer
+  more : (w : Written) (answer : RowAnswer) {d : Result (List EqualityRow)} → Kept (λ k. Out (i + 14 * countOf w) (14 * added w answer) k) t u → There i u w answer
       → writtenAs w t i a b ≡ d → rowAs answer ≡ rowIf locked D → writtenAs (appended w answer) u i a b ≡ followedBy d (rowIf locked D)
   unfolding There
   more (Written.Rows n) (Row.Value row) k h e l =
-      ap go (tab-more n (same-rows n k) (row-there u (i + 14 * n) a b h (mine-row row locked D mine l))) ∙ then-go _ l ∙ then-go _ e
+      ap go (tab-more n (same-rows n 14 k) (row-there u (i + 14 * n) a b h (mine-row row locked D mine l))) ∙ then-go _ l ∙ then-go _ e
   more (Written.Rows n) Row.Free k h e l =
-      ap go (tab-ext n (same-rows n k) ∙ sym (append-nil _)) ∙ then-go _ l ∙ then-go _ e
+      ap go (tab-ext n (same-rows n 0 k) ∙ sym (append-nil _)) ∙ then-go _ l ∙ then-go _ e
   more (Written.Rows n) Row.NonConvergent k h e l = then-stop _ l ∙ then-go _ e
   more (Written.Rows n) Row.ArithmeticOverflow k h e l = then-stop _ l ∙ then-go _ e
   more Written.NonConvergent answer k h e l = then-stop _ e
   more Written.ArithmeticOverflow answer k h e l = then-stop _ e
+
+-- what a write and one answer more may touch
+span-more : (i : ℕ) {s t u : List Float} (w : Written) (answer : RowAnswer) → countOf w ≤ 5 → Kept (λ k. Out i (spanOf w) k) s t
+    → Kept (λ k. Out (i + 14 * countOf w) (14 * added w answer) k) t u → Kept (λ k. Out i (spanOf (appended w answer)) k) s u
+span-more i (Written.Rows n) (Row.Value row) h p q = kept-then (kept-more p (λ k x. omega arith)) q (λ k x. omega arith)
+span-more i (Written.Rows n) Row.Free h p q = kept-then p q (λ k x. omega arith)
+span-more i (Written.Rows n) Row.NonConvergent h p q = kept-then (kept-more p (λ k x. omega arith)) q (λ k x. omega arith)
+span-more i (Written.Rows n) Row.ArithmeticOverflow h p q = kept-then (kept-more p (λ k x. omega arith)) q (λ k x. omega arith)
+span-more i Written.NonConvergent answer h p q = kept-then p q (λ k x. omega arith)
+span-more i Written.ArithmeticOverflow answer h p q = kept-then p q (λ k x. omega arith)
 
 -- nothing yet
 pub adds-none : (a b i k : ℕ) (s : List Float) → Adds a b i k s s (Written.Rows 0) (go [])
@@ -126,21 +137,38 @@ adds-none a b i k s = record { kept = kept-refl _ s; within = omega arith; is = 
 pub adds-more : {a b i k : ℕ} {s t u : List Float} {w r : Written} {answer : RowAnswer} {d : Result (List EqualityRow)} (locked : Bool) (D : Result EqualityRow) → k ≤ 5
     → Adds a b i k s t w d → Appends i w answer t u r → rowAs answer ≡ rowIf locked D → Mine a b D → Adds a b i (k + 1) s u r (followedBy d (rowIf locked D))
 adds-more {a} {b} {i} {k} {s} {t} {u} {w} {r} {answer} {d} locked D h p q l m = record {
-  kept = kept-then (p .kept) (q .kept) (λ j x. out j x);
+  kept = subst (λ (x : Written). Kept (λ j. Out i (spanOf x) j) s u) (sym (q .is)) (span-more i w answer (few (p .within)) (p .kept) (q .kept));
   within = within (p .within) (appends-most q);
   is = ap (λ (x : Written). writtenAs x u i a b) (q .is) ∙ more a b i t u locked D m w answer (q .kept) (q .there) (p .is) l;
 }
   where
-    out : (j : ℕ) → Out i 84 j → Out (i + 14 * countOf w) 14 j
-    out j x =
-        let m : countOf w ≤ 5 = omega (arith, p .within) in
-        omega arith
+    few : countOf w ≤ k → countOf w ≤ 5
+    few m = omega arith
 
     within : countOf w ≤ k → countOf r ≤ countOf w + 1 → countOf r ≤ k + 1
     within m l = omega arith
 
 pub adds-as : {a b i k k' : ℕ} {s t : List Float} {r : Written} {d d' : Result (List EqualityRow)} → k ≤ k' → d ≡ d' → Adds a b i k s t r d → Adds a b i k' s t r d'
 adds-as h e p = record { kept = p .kept; within = omega (arith, p .within); is = p .is ∙ e }
+
+-- ---- zeros
+pub cleared-none : (i : ℕ) (s : List Float) → Cleared i 0 s s
+cleared-none i s = record { kept = kept-refl _ s; zero = λ k h. absurd (omega arith) }
+
+pub cleared-more : {i n : ℕ} {s t : List Float} {z : Float} → Cleared i n s t → i + n < length t → z ≡ ratio 0 1 → Cleared i (n + 1) s (set t (i + n) z)
+cleared-more {i} {n} {s} {t} {z} p h e = record {
+  kept = kept-then (kept-more (p .kept) (λ k x. omega arith)) (kept-set t (i + n) z) (λ k x. omega arith);
+  zero = λ k l. step k l (ℕ-discrete k n);
+}
+  where
+    step : (k : ℕ) → k < n + 1 → Dec (k ≡ n) → at (set t (i + n) z) (i + k) ≡ ratio 0 1
+    step k l (yes q) = ap (λ (j : ℕ). at (set t (i + n) z) (i + j)) q ∙ getD-set-same t (i + n) z nan h ∙ e
+    step k l (no q) = kept-set t (i + n) z .same (i + k) (omega arith) ∙ p .zero k (omega arith)
+
+pub cleared-all : {i n m : ℕ} {s t : List Float} → m ≤ n → n ≤ m → Cleared i m s t → Cleared i n s t
+cleared-all {i} {n} {m} {s} {t} h g p =
+    let same : m ≡ n = omega arith in
+    subst (λ (k : ℕ). Cleared i k s t) same p
 
 -- ---- counts
 pub one-yes : {b : Bool} → b ≡ true → 1 ≡ oneIf b

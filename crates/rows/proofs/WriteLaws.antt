@@ -10,13 +10,13 @@ use lib.Ieee as Ieee
 use lib.Ieee.{Float}
 use lib.ListN.{length, length-append}
 use Rattle.arith.specs.Real.{F, ratio, isFinite}
-use Rattle.arith.specs.Flow.{Turn, go, stop, _>>=_, tab, returnIf}
+use Rattle.arith.specs.Flow.{go, stop, _>>=_, tab, returnIf}
 use Rattle.arith.specs.FlowLaws.{then-go, then-stop, not-yes, not-no}
 use Rattle.vectors.specs.declared.vector.Vec3.{Vec3}
 use Rattle.vectors.specs.declared.vector.OptionVec3.{OptionVec3}
 use Rattle.vectors.specs.declared.vector.OptionVec3.the-variants as Vector
 use Rattle.vectors.specs.declared.quaternion.Quat.{Quat}
-use Rattle.vectors.specs.Vector.{vec, axisX, axisY, axisZ, finiteOf, subOf, crossOf}
+use Rattle.vectors.specs.Vector.{vec, axisX, axisY, axisZ, finiteOf}
 use Rattle.vectors.specs.VectorLaws.{axis-x-is, axis-y-is, axis-z-is}
 use Rattle.vectors.specs.Quaternion.{rotateVectorOf}
 use Rattle.rows.specs.declared.body.MomentumBody.{MomentumBody}
@@ -34,10 +34,10 @@ use Rattle.rows.specs.declared.geometry.RowAnswer.the-variants as Row
 use Rattle.rows.specs.declared.geometry.Written.{Written}
 use Rattle.rows.specs.declared.geometry.Written.the-variants as Written
 use Rattle.rows.specs.Fault.{Fault, nonConvergent, arithmeticOverflow, Result, vectorOr, tryFinite, tryRotate}
-use Rattle.rows.specs.Geometry.{endsOf, toleranceOf, distanceRow, linearRow, rowIf, linearAxes, linearRows, relativeOf, swingX, swingY, gradientRow, swingRow, angleOr, twistRow, coneRows, alignedOf, alignRow, alignRows, angularRows, finiteValues, frameRows, kindRows, writeEqualityRows, oneIf, rowCount}
+use Rattle.rows.specs.Geometry.{endsOf, toleranceOf, distanceRow, linearRow, rowIf, linearAxes, linearRows, relativeOf, swingX, swingY, gradientRow, swingRow, twistRow, coneRows, alignedOf, alignRow, alignRows, angularRows, finiteValues, frameRows, kindRows, writeEqualityRows, oneIf, rowCount}
 use Rattle.rows.specs.View.{at, rowAt, rowsAt, Out, Kept}
 use Rattle.rows.specs.Answer.{writtenAs, Writes}
-use Rattle.rows.specs.Append.{rowAs, countOf, Appends, Adds, followedBy}
+use Rattle.rows.specs.Append.{rowAs, countOf, spanOf, Appends, Adds, Cleared, followedBy}
 use Rattle.rows.specs.Region.{kept-refl, kept-then, kept-more, tab-length}
 use Rattle.rows.proofs.AppendLaws.{Mine, mine-go, mine-stop, mine-then, adds-none, adds-more, adds-as}
 
@@ -331,16 +331,24 @@ module _ (joint : Joint) (e : Ends) {i : ℕ} {s t : List Float} {r : Written} (
 
     pub frames-finite : {b : Bool} → b ≡ finiteValues (rowsAt t i (joint .«body_a») (joint .«body_b») n) → b ≡ true → Framed (Written.Rows n)
     unfolding _>>=_
-    frames-finite q y = record { kept = p .kept; within = omega (arith, p .within, ap countOf h); is = tested (sym y ∙ q) }
+    frames-finite q y = record {
+      kept = subst (λ (w : Written). Kept (λ k. Out i (spanOf w) k) s t) h (p .kept);
+      within = omega (arith, p .within, ap countOf h);
+      is = tested (sym y ∙ q);
+    }
 
     pub frames-overflow : {b : Bool} → b ≡ finiteValues (rowsAt t i (joint .«body_a») (joint .«body_b») n) → b ≡ false → Framed Written.ArithmeticOverflow
     unfolding _>>=_
-    frames-overflow q y = record { kept = p .kept; within = omega arith; is = tested (sym y ∙ q) }
+    frames-overflow q y = record {
+      kept = kept-more (p .kept) (λ k x. omega (arith, p .within, ap countOf h, ap spanOf h));
+      within = omega arith;
+      is = tested (sym y ∙ q);
+    }
 
   pub frames-lost : (w : Written) (f : Fault) → writtenAs w t i (joint .«body_a») (joint .«body_b») ≡ stop f → countOf w ≡ 0 → r ≡ w → Framed w
   unfolding frameRows
   frames-lost w f l z h = record {
-    kept = p .kept;
+    kept = subst (λ (x : Written). Kept (λ k. Out i (spanOf x) k) s t) h (p .kept);
     within = omega arith;
     is = l ∙ frames-stop (linearRows joint e) (angularRows (joint .kind) joint e) (sym l ∙ ap (λ (x : Written). writtenAs x t i (joint .«body_a») (joint .«body_b»)) (sym h) ∙ p .is);
   }
@@ -433,31 +441,66 @@ pub rows-sized : (joint : Joint) (a b : MomentumBody) → Sized (rowCount (joint
 unfolding writeEqualityRows
 rows-sized joint a b = sized-then _ _ λ e. kind-sized joint e (joint .kind) refl
 
--- ---- write_equality_rows
+-- ---- write_kind and write_equality_rows
 none-before : (d : Rows) → followedBy (go []) d ≡ d
 unfolding _>>=_
 none-before (go x) = refl
 none-before (stop f) = refl
 
+abbrev AddsAll : Joint → MomentumBody → MomentumBody → ℕ → List Float → List Float → Written → Type 0
+AddsAll joint a b i s t w = Adds (joint .«body_a») (joint .«body_b») i 6 s t w (writeEqualityRows joint a b)
+
 module _ (joint : Joint) (a b : MomentumBody) {i : ℕ} {s t : List Float} {r : Written} where
-  writes : Kept (λ k. Out i 84 k) s t → writtenAs r t i (joint .«body_a») (joint .«body_b») ≡ writeEqualityRows joint a b → Writes joint a b i s t r
-  writes k h = record { kept = k; count = λ n q. counted n q; is = h }
+  pub kind-frames : {e : Ends} (kind : Kind) → go e ≡ endsOf joint a b → joint .kind ≡ kind → frameRows joint e ≡ kindRows kind joint e
+      → Adds (joint .«body_a») (joint .«body_b») i 6 s t r (frameRows joint e) → AddsAll joint a b i s t r
+  unfolding writeEqualityRows
+  kind-frames {e} kind h k w p = adds-as (omega arith) (w ∙ ap (λ (x : Kind). kindRows x joint e) (sym k) ∙ then-go _ h) p
+
+  pub kind-rod : {e : Ends} {length : Float} {answer : RowAnswer} → go e ≡ endsOf joint a b → joint .kind ≡ Distance length
+      → Appends i (Written.Rows 0) answer s t r → rowAs answer ≡ rowIf true (distanceRow joint e length) → AddsAll joint a b i s t r
+  unfolding writeEqualityRows
+  kind-rod {e} {length} h k p l =
+      adds-as (omega arith) (none-before _ ∙ ap (λ (x : Kind). kindRows x joint e) (sym k) ∙ then-go _ h)
+      (adds-more {k = 0} true (distanceRow joint e length) (omega arith) (adds-none (joint .«body_a») (joint .«body_b») i 0 s) p l (distance-mine joint e length))
+
+module _ (joint : Joint) (a b : MomentumBody) {i : ℕ} {s t : List Float} where
+  rows-of : {n : ℕ} → AddsAll joint a b i s t (Written.Rows n) → n ≡ rowCount (joint .kind)
+  rows-of {n} p = sym (tab-length n _) ∙ rows-sized joint a b .long (rowsAt t i (joint .«body_a») (joint .«body_b») n) (p .is)
+
+  pub writes-rows : {r : Written} {n : ℕ} → AddsAll joint a b i s t r → r ≡ Written.Rows n → Writes joint a b i s t (Written.Rows n)
+  writes-rows {r} {n} p h = record {
+    kept = kept-more (q .kept) (λ k x. omega (arith, q .within));
+    count = λ m e. sym (ap countOf e) ∙ rows-of q;
+    is = q .is;
+    behind = λ m e. subst (λ (x : Written). Kept (λ k. Out i (spanOf x) k) s t) e (q .kept);
+    cleared = λ f e. let z : _≡_ {A = ℕ} 0 1 = clash (q .is ∙ e) in absurd (omega arith);
+  }
     where
-      counted : (n : ℕ) → r ≡ Written.Rows n → n ≡ rowCount (joint .kind)
-      counted n q = sym (tab-length n _) ∙ rows-sized joint a b .long (rowsAt t i (joint .«body_a») (joint .«body_b») n) (ap (λ (w : Written). writtenAs w t i (joint .«body_a») (joint .«body_b»)) (sym q) ∙ h)
+      q : AddsAll joint a b i s t (Written.Rows n)
+      q = subst (AddsAll joint a b i s t) h p
 
-  pub writes-frames : {e : Ends} (kind : Kind) → go e ≡ endsOf joint a b → joint .kind ≡ kind → frameRows joint e ≡ kindRows kind joint e
-      → Adds (joint .«body_a») (joint .«body_b») i 6 s t r (frameRows joint e) → Writes joint a b i s t r
-  unfolding writeEqualityRows
-  writes-frames {e} kind h k w p = writes (p .kept) (p .is ∙ w ∙ ap (λ (x : Kind). kindRows x joint e) (sym k) ∙ then-go _ h)
+      clash : {x : List EqualityRow} {f : Fault} → _≡_ {A = Rows} (go x) (stop f) → _≡_ {A = ℕ} 0 1
+      clash e = cc
 
-  pub writes-rod : {e : Ends} {length : Float} {answer : RowAnswer} → go e ≡ endsOf joint a b → joint .kind ≡ Distance length
-      → Appends i (Written.Rows 0) answer s t r → rowAs answer ≡ rowIf true (distanceRow joint e length) → Writes joint a b i s t r
-  unfolding writeEqualityRows
-  writes-rod {e} {length} h k p l =
-      let q = adds-more {k = 0} true (distanceRow joint e length) (omega arith) (adds-none (joint .«body_a») (joint .«body_b») i 0 s) p l (distance-mine joint e length) in
-      writes (q .kept) (q .is ∙ none-before _ ∙ ap (λ (x : Kind). kindRows x joint e) (sym k) ∙ then-go _ h)
-
-pub writes-lost : (joint : Joint) (a b : MomentumBody) {i : ℕ} (s : List Float) → stop arithmeticOverflow ≡ endsOf joint a b → Writes joint a b i s s Written.ArithmeticOverflow
+pub kind-lost : (joint : Joint) (a b : MomentumBody) {i : ℕ} (s : List Float) → stop arithmeticOverflow ≡ endsOf joint a b
+    → AddsAll joint a b i s s Written.ArithmeticOverflow
 unfolding writeEqualityRows
-writes-lost joint a b s h = writes joint a b (kept-refl _ s) (then-stop _ h)
+kind-lost joint a b s h = record { kept = kept-refl _ s; within = omega arith; is = then-stop _ h }
+
+-- a failed write, cleared
+module _ (joint : Joint) (a b : MomentumBody) {i : ℕ} {s t u : List Float} {r : Written} (p : AddsAll joint a b i s t r) (z : Cleared i 84 t u) where
+  failed : (w : Written) (f : Fault) → r ≡ w → spanOf w ≡ 84 → ((n : ℕ) → w ≡ Written.Rows n → ⊥)
+      → writtenAs w t i (joint .«body_a») (joint .«body_b») ≡ stop f → writtenAs w u i (joint .«body_a») (joint .«body_b») ≡ stop f → Writes joint a b i s u w
+  failed w f h l n v x = record {
+    kept = kept-then (kept-more (p .kept) (λ k y. omega (arith, ap spanOf h))) (z .kept) (λ k y. y);
+    count = λ m e. absurd (n m e);
+    is = x ∙ sym v ∙ sym (ap (λ (y : Written). writtenAs y t i (joint .«body_a») (joint .«body_b»)) h) ∙ p .is;
+    behind = λ m e. absurd (n m e);
+    cleared = λ g e. z .zero;
+  }
+
+  pub writes-nonconvergent : r ≡ Written.NonConvergent → Writes joint a b i s u Written.NonConvergent
+  writes-nonconvergent h = failed Written.NonConvergent nonConvergent h refl (λ n e. let y : _≡_ {A = ℕ} 0 1 = cc in omega arith) refl refl
+
+  pub writes-overflow : r ≡ Written.ArithmeticOverflow → Writes joint a b i s u Written.ArithmeticOverflow
+  writes-overflow h = failed Written.ArithmeticOverflow arithmeticOverflow h refl (λ n e. let y : _≡_ {A = ℕ} 0 1 = cc in omega arith) refl refl

@@ -1,8 +1,9 @@
 -- The code's answers as the definitions' results.
-use Prim.Native.Nat.{ℕ}
+use Prim.Native.Nat.{ℕ, _+_, _*_, _<_}
 use mathlib.Core.Path.{_≡_}
-use mathlib.Core.List.{List, [], _∷_}
+use mathlib.Core.List.{List}
 use lib.Ieee.{Float}
+use Rattle.arith.specs.Real.{ratio}
 use Rattle.arith.specs.Flow.{Turn, go, stop}
 use Rattle.rows.specs.declared.body.Finish.{Finish}
 use Rattle.rows.specs.declared.body.Finish.the-variants as Ends
@@ -15,14 +16,13 @@ use Rattle.rows.specs.declared.body.MomentumBody.{MomentumBody}
 use Rattle.rows.specs.declared.body.BodyAnswer.{BodyAnswer}
 use Rattle.rows.specs.declared.body.StateAnswer.{StateAnswer}
 use Rattle.rows.specs.declared.body.StateAnswer.the-variants as State
-use Rattle.rows.specs.declared.geometry.Kind.{Kind}
 use Rattle.rows.specs.declared.geometry.Joint.{Joint}
 use Rattle.rows.specs.declared.geometry.EqualityRow.{EqualityRow}
 use Rattle.rows.specs.declared.geometry.Written.{Written}
 use Rattle.rows.specs.declared.geometry.Written.the-variants as Written
 use Rattle.rows.specs.Fault.{Fault, nonConvergent, arithmeticOverflow, Result}
 use Rattle.rows.specs.Geometry.{rowCount, writeEqualityRows}
-use Rattle.rows.specs.View.{rowsAt, Out, Kept}
+use Rattle.rows.specs.View.{at, rowsAt, Out, Kept}
 
 -- what a call that was to move a body hands back: beside a fault, the body `old`
 unfoldable pub answerOf : MomentumBody → Result MomentumBody → BodyAnswer
@@ -56,8 +56,11 @@ writtenAs (Written.Rows n) s i a b = go (rowsAt s i a b n)
 writtenAs Written.NonConvergent s i a b = stop nonConvergent
 writtenAs Written.ArithmeticOverflow s i a b = stop arithmeticOverflow
 
--- how the rows of a joint are written at i: s becomes t, but for the 84 doubles at i
+-- How the rows of a joint are written at i: s becomes t, every double of which is determined. Nothing changes but the
+-- 84 doubles at i; where n rows were written nothing behind them; where there was a fault the 84 are 0.
 pub record Writes (joint : Joint) (a b : MomentumBody) (i : ℕ) (s t : List Float) (r : Written) : Type 0 where
   pub kept : Kept (λ k. Out i 84 k) s t
   pub count : (n : ℕ) → r ≡ Written.Rows n → n ≡ rowCount (joint .kind)
   pub is : writtenAs r t i (joint .«body_a») (joint .«body_b») ≡ writeEqualityRows joint a b
+  pub behind : (n : ℕ) → r ≡ Written.Rows n → Kept (λ k. Out i (14 * n) k) s t
+  pub cleared : (fault : Fault) → writeEqualityRows joint a b ≡ stop fault → (k : ℕ) → k < 84 → at t (i + k) ≡ ratio 0 1

@@ -1,9 +1,9 @@
 -- What the functions that make rows and write them one behind the other promise of each other. Only contracts of private functions cite this file.
-use Prim.Native.Nat.{ℕ, _+_, _*_, _≤_}
+use Prim.Native.Nat.{ℕ, _+_, _*_, _≤_, _<_}
 use mathlib.Core.Path.{_≡_}
-use mathlib.Core.Bool.{Bool, true, false}
 use mathlib.Core.List.{List, [], _∷_, _++_}
 use lib.Ieee.{Float}
+use Rattle.arith.specs.Real.{ratio}
 use Rattle.arith.specs.Flow.{go, stop, _>>=_}
 use Rattle.vectors.specs.declared.vector.Vec3.{Vec3}
 use Rattle.rows.specs.declared.geometry.EqualityRow.{EqualityRow}
@@ -65,6 +65,21 @@ appended (Written.Rows n) Row.ArithmeticOverflow = Written.ArithmeticOverflow
 appended Written.NonConvergent answer = Written.NonConvergent
 appended Written.ArithmeticOverflow answer = Written.ArithmeticOverflow
 
+-- the rows that an answer adds
+abbrev pub added : Written → RowAnswer → ℕ
+added (Written.Rows n) (Row.Value row) = 1
+added (Written.Rows n) Row.Free = 0
+added (Written.Rows n) Row.NonConvergent = 0
+added (Written.Rows n) Row.ArithmeticOverflow = 0
+added Written.NonConvergent answer = 0
+added Written.ArithmeticOverflow answer = 0
+
+-- the doubles that a write may have touched: those of its rows, or six rows' where it failed
+abbrev pub spanOf : Written → ℕ
+spanOf (Written.Rows n) = 14 * n
+spanOf Written.NonConvergent = 84
+spanOf Written.ArithmeticOverflow = 84
+
 -- the row stands behind the others in t
 unfoldable pub There : ℕ → List Float → Written → RowAnswer → Type 0
 There i t (Written.Rows n) (Row.Value row) = rowAt t (i + 14 * n) (row .a) (row .b) ≡ row
@@ -76,15 +91,20 @@ There i t Written.ArithmeticOverflow answer = Unit {0}
 
 -- `written` at entry, and one answer more
 pub record Appends (i : ℕ) (written : Written) (answer : RowAnswer) (s t : List Float) (r : Written) : Type 0 where
-  pub kept : Kept (λ k. Out (i + 14 * countOf written) 14 k) s t
+  pub kept : Kept (λ k. Out (i + 14 * countOf written) (14 * added written answer) k) s t
   pub there : There i t written answer
   pub is : r ≡ appended written answer
 
 -- at most `most` rows between a and b were written at i since s was, and the answer is what is defined
 pub record Adds (a b i most : ℕ) (s t : List Float) (r : Written) (defined : Result (List EqualityRow)) : Type 0 where
-  pub kept : Kept (λ k. Out i 84 k) s t
+  pub kept : Kept (λ k. Out i (spanOf r) k) s t
   pub within : countOf r ≤ most
   pub is : writtenAs r t i a b ≡ defined
+
+-- the n doubles at i are 0 in t, and nothing else differs from s
+pub record Cleared (i n : ℕ) (s t : List Float) : Type 0 where
+  pub kept : Kept (λ k. Out i n k) s t
+  pub zero : (k : ℕ) → k < n → at t (i + k) ≡ ratio 0 1
 
 -- what was written before, and more rows behind it
 abbrev pub followedBy : Result (List EqualityRow) → Result (List EqualityRow) → Result (List EqualityRow)

@@ -62,14 +62,14 @@ pub struct BodyAnswer {
 }
 
 // What one pass of a drift finds: the next angular velocity, or the rotation at the end of the step.
-pub enum Pass {
+enum Pass {
     Next(Vec3),
     Settled(Quat),
     ArithmeticOverflow,
 }
 
 // The vector, if it is finite.
-pub fn finite(value: Vec3) -> OptionVec3
+pub(crate) fn finite(value: Vec3) -> OptionVec3
     ensures { λ r. ⌜ vectorOr arithmeticOverflow r ≡ tryFinite value ⌝ }
 {
     if value.is_finite() {
@@ -79,7 +79,7 @@ pub fn finite(value: Vec3) -> OptionVec3
 }
 
 // Origin plus rotated local centre.
-pub fn world_center_of_mass(origin: Vec3, rotation: Quat, center_of_mass: Vec3) -> OptionVec3
+fn world_center_of_mass(origin: Vec3, rotation: Quat, center_of_mass: Vec3) -> OptionVec3
     ensures { λ r. ⌜ vectorOr arithmeticOverflow r ≡ worldCenterOfMassOf origin rotation «center_of_mass» ⌝ }
 {
     match rotation.rotate_vector(center_of_mass) {
@@ -147,7 +147,7 @@ impl MomentumBody {
         }
     }
 
-    pub fn inverse_angular_mass(self, spin: Vec3) -> OptionVec3
+    fn inverse_angular_mass(self, spin: Vec3) -> OptionVec3
         ensures { λ r. ⌜ vectorOr arithmeticOverflow r ≡ inverseAngularMassOf self spin ⌝ }
     {
         let inverse = self.inverse_inertia;
@@ -190,7 +190,7 @@ impl MomentumBody {
         }
     }
 
-    pub fn anchor(self, local: Vec3) -> OptionVec3
+    pub(crate) fn anchor(self, local: Vec3) -> OptionVec3
         ensures { λ r. ⌜ vectorOr arithmeticOverflow r ≡ anchorOf self local ⌝ }
     {
         match self.rotation.rotate_vector(local.sub(self.center_of_mass)) {

@@ -25,14 +25,16 @@ ghost use lib.Ieee.{Float};
 ghost use Rattle.arith.specs.Real.{ratio};
 ghost use Rattle.arith.specs.Flow.{go};
 ghost use Rattle.rows.specs.Fault.{Result, arithmeticOverflow, numberOr};
-ghost use Rattle.rows.specs.Geometry.{turning, endsOf, toleranceOf, distanceRow, linearRow, rowIf, linearAxes, linearRows, anyLocked, halfTurned, relativeOf, swingX, swingY, localOf, gradientRow, swingRow, twistRow, coneRows, alignedOf, alignRow, alignRows, angularRows, finiteValues, frameRows, rowCount, oneIf};
+ghost use Rattle.rows.specs.Geometry.{turning, endsOf, toleranceOf, distanceRow, linearRow, rowIf, linearAxes, linearRows, anyLocked, halfTurned, relativeOf, swingX, swingY, localOf, gradientRow, swingRow, twistRow, coneRows, alignedOf, alignRow, alignRows, angularRows, finiteValues, frameRows, writeEqualityRows, rowCount, oneIf};
 ghost use Rattle.rows.specs.View.{vec3At, rowAt, rowsAt, Out, Kept};
 ghost use Rattle.rows.specs.Answer.{Writes};
-ghost use Rattle.rows.specs.Append.{endsAs, axisAs, relativeAs, rowAs, Stored2, countOf, Appends, Adds, followedBy};
+ghost use Rattle.rows.specs.Append.{endsAs, axisAs, relativeAs, rowAs, Stored2, countOf, Appends, Adds, Cleared, followedBy};
 
-pub const MAX_EQUALITY_ROWS: usize = 6;
 // The doubles of a row.
 pub const ROW: usize = 14;
+
+// The doubles of six rows: no joint has more.
+const SPACE: usize = 84;
 
 const EPSILON: f64 = 2.220446049250313e-16;
 
@@ -76,7 +78,7 @@ pub struct EqualityRow {
 }
 
 // A row, or none where its axis is free, or why there is no answer.
-pub enum RowAnswer {
+enum RowAnswer {
     Value(EqualityRow),
     Free,
     NonConvergent,
@@ -91,7 +93,7 @@ pub enum Written {
 }
 
 // Both anchors, what leads from a's to b's, the arms from the centres to them, and both frames.
-pub struct Ends {
+struct Ends {
     pub pa: Vec3,
     pub pb: Vec3,
     pub delta: Vec3,
@@ -101,20 +103,20 @@ pub struct Ends {
     pub frame_b: Quat,
 }
 
-pub enum EndsAnswer {
+enum EndsAnswer {
     Value(Ends),
     ArithmeticOverflow,
 }
 
 // Which axes of frame a a kind locks the anchors' difference along.
-pub struct Linear {
+struct Linear {
     pub x: bool,
     pub y: bool,
     pub z: bool,
 }
 
 // The numbers of a cone twist.
-pub struct Cone {
+struct Cone {
     pub swing_x: f64,
     pub swing_y: f64,
     pub twist_lower: f64,
@@ -122,27 +124,27 @@ pub struct Cone {
 }
 
 // The rotation of frame b seen from frame a, with the square and the root of w * w + z * z.
-pub struct Relative {
+struct Relative {
     pub rotation: Quat,
     pub norm_squared: f64,
     pub norm: f64,
 }
 
-pub enum RelativeAnswer {
+enum RelativeAnswer {
     Value(Relative),
     NonConvergent,
     ArithmeticOverflow,
 }
 
 // What differs between the two swing rows.
-pub struct Swing {
+struct Swing {
     pub numerator: f64,
     pub gradient: Vec3,
     pub scalar: f64,
 }
 
 // The Z axis of frame b, where frame a's leads the same way.
-pub enum AxisAnswer {
+enum AxisAnswer {
     Value(Vec3),
     NonConvergent,
     ArithmeticOverflow,
@@ -177,7 +179,7 @@ fn store2(s: &mut [f64], at: usize, value: f64, tolerance: f64)
 }
 
 impl EqualityRow {
-    pub fn store(self, s: &mut [f64], at: usize)
+    fn store(self, s: &mut [f64], at: usize)
         requires { ⌜ at + 14 ≤ length (now s) ⌝ }
         ensures { λ _. ⌜ (Kept (λ k. Out at 14 k) (now (s .entry)) (now (s .exit))) × (rowAt (now (s .exit)) at (self .a) (self .b) ≡ self) ⌝ }
     {
@@ -188,6 +190,7 @@ impl EqualityRow {
         store2(s, at + 12, self.value, self.tolerance);
     }
 
+    // A row of the scratch, which lies there by its caller's proof.
     pub fn load(s: &[f64], at: usize, a: usize, b: usize) -> EqualityRow
         requires { ⌜ at + 14 ≤ length (now s) ⌝ }
         ensures { λ r. ⌜ r ≡ rowAt (now (s .entry)) at a b ⌝ }
@@ -667,15 +670,10 @@ fn write_frames(s: &mut [f64], at: usize, joint: Joint, e: Ends) -> Written
     }
 }
 
-pub fn write_equality_rows(
-    s: &mut [f64],
-    at: usize,
-    joint: Joint,
-    a: MomentumBody,
-    b: MomentumBody,
-) -> Written
+// The rows of a joint by its kind.
+fn write_kind(s: &mut [f64], at: usize, joint: Joint, a: MomentumBody, b: MomentumBody) -> Written
     requires { ⌜ at + 84 ≤ length (now s) ⌝ }
-    ensures { λ r. ⌜ Writes joint a b at (now (s .entry)) (now (s .exit)) r ⌝ }
+    ensures { λ r. ⌜ Adds (joint .«body_a») (joint .«body_b») at 6 (now (s .entry)) (now (s .exit)) r (writeEqualityRows joint a b) ⌝ }
 {
     let EndsAnswer::Value(e) = ends_of(joint, a, b) else {
         return Written::ArithmeticOverflow;
@@ -695,6 +693,40 @@ pub fn write_equality_rows(
             twist_lower: _,
             twist_upper: _,
         } => write_frames(s, at, joint, e),
+    }
+}
+
+fn clear(s: &mut [f64], at: usize)
+    requires { ⌜ at + 84 ≤ length (now s) ⌝ }
+    ensures { λ _. ⌜ Cleared at 84 (now (s .entry)) (now (s .exit)) ⌝ }
+{
+    for k in 0..SPACE {
+        s[at + k] = 0.0;
+    }
+}
+
+// The rows of a joint, at a place of the scratch: the caller shows that it is there. A fault leaves zeros, and no row that
+// was made before it.
+pub fn write_equality_rows(
+    s: &mut [f64],
+    at: usize,
+    joint: Joint,
+    a: MomentumBody,
+    b: MomentumBody,
+) -> Written
+    requires { ⌜ at + 84 ≤ length (now s) ⌝ }
+    ensures { λ r. ⌜ Writes joint a b at (now (s .entry)) (now (s .exit)) r ⌝ }
+{
+    match write_kind(s, at, joint, a, b) {
+        Written::Rows(n) => Written::Rows(n),
+        Written::NonConvergent => {
+            clear(s, at);
+            Written::NonConvergent
+        }
+        Written::ArithmeticOverflow => {
+            clear(s, at);
+            Written::ArithmeticOverflow
+        }
     }
 }
 

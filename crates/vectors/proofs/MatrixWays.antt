@@ -1,5 +1,6 @@
 -- The code's answers are the definitions': one law for each way through a function of src/matrix.rt, over plain variables.
-use Prim.Native.Nat.{ℕ}
+use Prim.Native.Nat.{ℕ, _≤_, _<_, min}
+use native.Mathlib.Omega.{arith}
 use lib.Ieee as Ieee
 use lib.Ieee.{Float, binary64}
 use borrow.Author.Tests.{eq-eqb, ne-eqb}
@@ -16,8 +17,19 @@ use Rattle.vectors.specs.declared.matrix.Cholesky3.{Cholesky3}
 use Rattle.vectors.specs.declared.matrix.Factored.{Factored}
 use Rattle.vectors.specs.declared.matrix.Solved.{Solved}
 use Rattle.vectors.specs.declared.matrix.Inverted.{Inverted}
-use Rattle.vectors.specs.Vector.{axisX, axisY, axisZ, divOf, finiteOf}
-use Rattle.vectors.specs.Matrix.{Cells, cell, put, turned, fromCols, matOf, zeroMat, finiteMat, matLargestOf, divided, notSymmetric, correctionOf, aboveZero, ranOf, placed, placeOf, factorOf, unfactored, factoredWith, factorSpdOf, forwardOf, backwardOf, unsolved, solveOf, done, solveSpdOf, uninverted, inverseSpdOf}
+use Rattle.vectors.specs.Vector.{vec, axisX, axisY, axisZ, divOf, finiteOf}
+use Rattle.vectors.specs.Matrix.{Cells, cell, put, turned, columnOf, fromCols, matOf, zeroMat, finiteMat, matLargestOf, divided, notSymmetric, correctionOf, aboveZero, ranOf, placed, placeOf, factorOf, unfactored, factoredWith, factorSpdOf, forwardOf, backwardOf, unsolved, solveOf, done, solveSpdOf, uninverted, inverseSpdOf}
+
+-- ---- column
+module _ (m : Mat3) {c : Cells} (ec : c ≡ m .columns) (index : ℕ) where
+  at-column : {k : ℕ} → k ≡ min index 2 → vec (cell c k 0) (cell c k 1) (cell c k 2) ≡ columnOf m (min index 2)
+  at-column {k} e = ap (λ (c : Cells). vec (cell c k 0) (cell c k 1) (cell c k 2)) ec ∙ ap (columnOf m) e
+
+  pub column-below : index < 2 → vec (cell c index 0) (cell c index 1) (cell c index 2) ≡ columnOf m (min index 2)
+  column-below h = at-column (omega arith)
+
+  pub column-last : 2 ≤ index → vec (cell c 2 0) (cell c 2 1) (cell c 2 2) ≡ columnOf m (min index 2)
+  column-last h = at-column (omega arith)
 
 -- ---- the symmetry test
 module _ (a b c : Bool) {p : Bool} (ep : p ≡ a) where

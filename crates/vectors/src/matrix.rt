@@ -7,7 +7,7 @@ use arith::number::max;
 use arith::root::sqrt;
 ghost use mathlib.Core.Path.{_≡_};
 ghost use mathlib.Core.Bool.{not};
-ghost use Prim.Native.Nat.{_<_};
+ghost use Prim.Native.Nat.{_<_, min};
 ghost use Rattle.vectors.specs.Matrix as Matrix;
 ghost use Rattle.vectors.specs.Matrix.{matOf, zeroMat, fromCols, turned, transposeOf, finiteMat, applyOf, matProductOf, solveSpdOf, factorSpdOf, matLargestOf, columnOf, solveOf, notSymmetric, correctionOf, aboveZero, ranOf, placeOf, factorRowOf, factorOf, forwardOf, backwardOf, inverseSpdOf};
 
@@ -28,18 +28,18 @@ pub enum CholeskyOutcome {
 }
 
 // The Cholesky factor of a matrix divided by its largest magnitude, `scale`. Above the diagonal it is 0.
-pub struct Cholesky3 {
+struct Cholesky3 {
     pub lower: Mat3,
     pub scale: f64,
 }
 
 // An enum holds no array, so the outcome stands beside the value, which is zero unless the outcome is `Done`.
-pub struct Factored {
+struct Factored {
     pub outcome: CholeskyOutcome,
     pub factor: Cholesky3,
 }
 
-pub struct Solved {
+struct Solved {
     pub outcome: CholeskyOutcome,
     pub solution: Vec3,
 }
@@ -50,7 +50,7 @@ pub struct Inverted {
 }
 
 impl Mat3 {
-    pub fn new(columns: [[f64; 3]; 3]) -> Mat3
+    pub(crate) fn new(columns: [[f64; 3]; 3]) -> Mat3
         ensures { λ r. ⌜ r ≡ matOf columns ⌝ }
     {
         Mat3 { columns }
@@ -62,7 +62,7 @@ impl Mat3 {
         self.columns
     }
 
-    pub fn zero() -> Mat3
+    pub(crate) fn zero() -> Mat3
         ensures { λ r. ⌜ r ≡ zeroMat ⌝ }
     {
         Mat3::new([[0.0; 3]; 3])
@@ -86,15 +86,22 @@ impl Mat3 {
         turned(self.to_columns())
     }
 
+    // The column of an index; an index above 2 has the last.
     pub fn column(self, index: usize) -> Vec3
-        requires { ⌜ index < 3 ⌝ }
-        ensures { λ r. ⌜ r ≡ columnOf self index ⌝ }
+        ensures { λ r. ⌜ r ≡ columnOf self (min index 2) ⌝ }
     {
         let c = self.to_columns();
+        if index < 2 {
+            return Vec3 {
+                x: c[index][0],
+                y: c[index][1],
+                z: c[index][2],
+            };
+        }
         Vec3 {
-            x: c[index][0],
-            y: c[index][1],
-            z: c[index][2],
+            x: c[2][0],
+            y: c[2][1],
+            z: c[2][2],
         }
     }
 
@@ -137,7 +144,7 @@ impl Mat3 {
         )
     }
 
-    pub fn solve_spd(self, rhs: Vec3) -> Solved
+    fn solve_spd(self, rhs: Vec3) -> Solved
         ensures { λ r. ⌜ r ≡ solveSpdOf self rhs ⌝ }
     {
         let factored = self.factor_spd();
@@ -150,7 +157,7 @@ impl Mat3 {
 
     // The factor of a finite matrix that is positive definite and, once divided by its largest magnitude, symmetric within
     // 32 epsilon.
-    pub fn factor_spd(self) -> Factored
+    fn factor_spd(self) -> Factored
         ensures { λ r. ⌜ r ≡ factorSpdOf self ⌝ }
     {
         if !self.is_finite() {
@@ -189,7 +196,7 @@ impl Mat3 {
 
 impl Cholesky3 {
     // Forward and back substitution.
-    pub fn solve(self, rhs: Vec3) -> Solved
+    fn solve(self, rhs: Vec3) -> Solved
         ensures { λ r. ⌜ r ≡ solveOf self rhs ⌝ }
     {
         if !rhs.is_finite() {

@@ -68,13 +68,13 @@ impl Quat {
         }
     }
 
-    pub fn length_squared(self) -> f64
+    fn length_squared(self) -> f64
         ensures { λ r. ⌜ r ≡ quatLengthSquaredOf self ⌝ }
     {
         self.x * self.x + self.y * self.y + self.z * self.z + self.w * self.w
     }
 
-    pub fn length(self) -> f64
+    fn length(self) -> f64
         ensures { λ r. ⌜ r ≡ quatLengthOf self ⌝ }
     {
         hypot(hypot(hypot(self.x, self.y), self.z), self.w)
@@ -119,7 +119,7 @@ impl Quat {
         max(max(max(abs(self.x), abs(self.y)), abs(self.z)), abs(self.w))
     }
 
-    pub fn is_finite(self) -> bool
+    fn is_finite(self) -> bool
         ensures { λ r. ⌜ r ≡ quatFiniteOf self ⌝ }
     {
         if is_finite(self.x) {

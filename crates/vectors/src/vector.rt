@@ -76,7 +76,7 @@ impl Vec3 {
     }
 
     // The Euclidean length; infinite where a hypotenuse overflows.
-    pub fn length(self) -> f64
+    pub(crate) fn length(self) -> f64
         ensures { λ r. ⌜ r ≡ lengthOf self ⌝ }
     {
         hypot(hypot(self.x, self.y), self.z)
