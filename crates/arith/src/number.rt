@@ -5,7 +5,7 @@ ghost use lib.Ieee.{inf};
 ghost use Rattle.arith.specs.Real.{isFinite, absOf, maxOf};
 
 // `f64::INFINITY` is not in the language.
-pub fn infinity() -> f64
+pub(crate) fn infinity() -> f64
     ensures { λ r. ⌜ r ≡ inf false ⌝ }
 {
     f64::from_bits(0x7ff0_0000_0000_0000)
