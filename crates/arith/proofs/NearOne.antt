@@ -1,11 +1,11 @@
 -- The check of src/near_one.rt: where it says yes, q is nearest to the root (`checked`), and a double from 1 to 2 whose digits are
 -- nearest to the root of another's is its square root (`root-of-digits`). Assumes nothing.
 use mathlib.Core.Path.{_≡_, sym, ap, _∙_, subst}
-use mathlib.Core.Bool.{true, false, not}
+use mathlib.Core.Bool.{true, not}
 use Prim.Native.Nat.{ℕ, _+_, _-_, _*_, _/_, _%_, _^_, _≤_, _<_}
-use native.Mathlib.Nat.{le-trans, le-of-lt, mul-le-mul, mod-lt, div-add-mod', lt-of-lt-of-le}
+use native.Mathlib.Nat.{le-of-lt, mul-le-mul, mod-lt, div-add-mod'}
 use native.Mathlib.Omega.{arith}
-use lib.Dec.{T, lit<, lit≤}
+use lib.Dec.{T, lit<}
 use lib.Ieee.{Float, nan, inf, fin, binary64, ofBits, toBits, fits, isNan, le}
 use lib.Ieee.Bits.{ofBits-toBits}
 use Rattle.arith.specs.Real.{F}

@@ -21,17 +21,11 @@ pub fn is_finite(x: f64) -> bool
     false
 }
 
-// The magnitude: +0 for both zeros.
+// The magnitude: +0 for both zeros. One test, since 0 - x is exact and gives +0 for both zeros too.
 pub fn abs(x: f64) -> f64
     ensures { λ r. ⌜ r ≡ absOf x ⌝ }
 {
-    if x < 0.0 {
-        -x
-    } else if x == 0.0 {
-        0.0
-    } else {
-        x
-    }
+    if x <= 0.0 { 0.0 - x } else { x }
 }
 
 // The larger of two numbers, neither of them a NaN.
