@@ -1,17 +1,19 @@
 -- The code's expressions are the definitions: one law for each way through a function, over plain variables.
 use lib.Ieee as Ieee
 use lib.Ieee.{Float, nan, inf, fin, binary64, ofBits, round, neg, fits, up, down}
-use mathlib.Core.Path.{_≡_, refl, sym, ap, _∙_, subst}
-use mathlib.Core.Bool.{Bool, true, false, cond, not, _&&_, _||_, Bool·beq, Bool·not-not, true≢false}
-use lib.IntN.{ℤ, pos, negsuc}
-use lib.Dec.{T, eqb, eqb→eq, lit<}
-use lib.Pow.{pow-pos}
-use lib.Ieee.Fits.{up-pos}
-use native.Mathlib.Nat.{not-le-of-lt, zero-mul, mul-one, one-mul, pow-succ', mul-le-mul-left}
-use Rattle.arith.specs.RealLaws.{finite-is, not-zero, and-left, zero-left, zero-is, no, no-below, below-zero}
+use mathlib.Core.Path.{_≡_, refl, sym, ap, _∙_}
+use mathlib.Core.Bool.{Bool, true, false, cond, not, _&&_, _||_, Bool·not-not, true≢false}
+use lib.IntN.{ℤ, pos}
+use lib.Dec.{T}
+use lib.Ieee.Fits.{down-pos}
+use lib.Ieee.Scale.{round-same}
+use native.Mathlib.Nat.{zero-mul, zero-lt-suc, mul-pos}
+use native.Mathlib.Omega.{arith}
+use Rattle.arith.specs.RealLaws.{finite-is, zero-left, not-zero-left, zero-is, no, no-below, below-zero}
+use Rattle.arith.specs.Laws.Rounding.{round-self}
 use Rattle.exact.specs.Compare.{lt-val, le-val}
 use Rattle.arith.specs.FlowLaws.{not-yes, not-no, cond-yes, cond-no}
-use Prim.Native.Nat.{ℕ, zero, suc, _*_, _^_, _≤_, _<_}
+use Prim.Native.Nat.{ℕ, zero, suc, _+_, _*_}
 use Rattle.arith.specs.Real.{_⊕_, _⊖_, _⊗_, _⊘_, F, isFinite, absOf}
 use Rattle.arith.specs.Root.{sqrt}
 use Rattle.arith.specs.Hypot.{hypotOf, scaledRoot}
@@ -89,44 +91,77 @@ sines-answered h e = record {
 }
 
 -- ---- magnitude and finiteness
-pub abs-below : (x : Float) → Ieee.lt x (F 0) ≡ true → neg x ≡ absOf x
-unfolding ofBits Ieee.lt neg absOf
-abs-below nan h = no h
-abs-below (inf true) h = refl
-abs-below (inf false) h = no h
-abs-below (fin true m e) h = refl
-abs-below (fin false m e) h = absurd (no-below (m * up e * 1) (down e) h)
+-- 0 + x, for an x that is not below 0, and 0 - 0
+zero-plus : (m : ℕ) (e : ℤ) → T (fits binary64 (fin false m e)) → Ieee.add binary64 (fin false 0 (pos 0)) (fin false m e) ≡ fin false m e
+unfolding Ieee.add Ieee.sum
+zero-plus m e f =
+    let d = down e in
+    round-same binary64 false (0 * 1 * d + m * up e * 1) (1 * d) (m * up e) d (mul-pos (zero-lt-suc 0) (down-pos e)) (down-pos e)
+    (alike (m * up e) d)
+    ∙ round-self binary64 false m e f
+  where
+    alike : (a d : ℕ) → (0 * 1 * d + a * 1) * d ≡ a * (1 * d)
+    alike a d = omega arith
 
-two-le : (k : ℕ) → 2 ^ suc k ≡ 1 → ⊥
-two-le k h = not-le-of-lt (lit< tt) (subst (λ (x : ℕ). 2 ≤ x) (sym (pow-succ' 2 k) ∙ h) (mul-le-mul-left 2 (pow-pos k)))
+zero-less : (a b c : ℕ) → a ≡ 0 → b ≡ 0 → Ieee.sum binary64 false a true b c ≡ round binary64 false 0 c
+unfolding Ieee.sum
+zero-less a b c p q = ap (λ (a : ℕ). Ieee.sum binary64 false a true b c) p ∙ ap (λ (b : ℕ). Ieee.sum binary64 false 0 true b c) q
 
-plain-zero : (e : ℤ) → up e * down e ≡ 1 → pos 0 ≡ e
-plain-zero (pos zero) h = refl
-plain-zero (pos (suc k)) h = absurd (two-le k (sym (mul-one (2 ^ suc k)) ∙ h))
-plain-zero (negsuc k) h = absurd (two-le k (sym (one-mul (2 ^ suc k)) ∙ h))
+zero-minus : (e : ℤ) → T (fits binary64 (fin false 0 e)) → Ieee.add binary64 (fin false 0 (pos 0)) (fin true 0 e) ≡ fin false 0 e
+unfolding Ieee.add
+zero-minus e f =
+    let d = down e in
+    zero-less (0 * 1 * d) (0 * up e * 1) (1 * d) (zero-mul d) (ap (λ (x : ℕ). x * 1) (zero-mul (up e)))
+    ∙ round-same binary64 false 0 (1 * d) (0 * up e) d (mul-pos (zero-lt-suc 0) (down-pos e)) (down-pos e) (alike d (up e))
+    ∙ round-self binary64 false 0 e f
+  where
+    alike : (d u : ℕ) → 0 * d ≡ 0 * u * (1 * d)
+    alike d u = omega arith
 
-abs-zero-at : (x : Float) → T (fits binary64 x) → Ieee.eq x (fin false 0 (pos 0)) ≡ true → fin false 0 (pos 0) ≡ absOf x
-unfolding fits Ieee.eq absOf
-abs-zero-at nan f h = no h
-abs-zero-at (inf s) f h = no h
-abs-zero-at (fin s zero e) f h = ap (λ (d : ℤ). fin false 0 d) (plain-zero e (eqb→eq (up e * down e) 1 f))
-abs-zero-at (fin s (suc m) e) f h =
-    absurd (not-zero m (up e) (up-pos e) (eqb→eq (suc m * up e * 1) (0 * 1 * down e) (and-left (eqb (suc m * up e * 1) (0 * 1 * down e)) (Bool·beq s false || eqb (suc m * up e * 1) 0) h) ∙ zero-mul (down e)))
+sign-fits : (m : ℕ) (e : ℤ) → T (fits binary64 (fin true m e)) → T (fits binary64 (fin false m e))
+unfolding fits
+sign-fits zero e t = t
+sign-fits (suc m) e t = t
 
-pub abs-zero : (x : Float) → T (fits binary64 x) → Ieee.eq x (F 0) ≡ true → F 0 ≡ absOf x
-abs-zero x f h = zero-is ∙ abs-zero-at x f (ap (Ieee.eq x) (sym zero-is) ∙ h)
+above-zero : (m : ℕ) (e : ℤ) → Ieee.le (fin false (suc m) e) (fin false 0 (pos 0)) ≡ true → ⊥
+unfolding Ieee.le Ieee.lt
+above-zero m e h = neither _ _ h (no-below (suc m * up e * 1) (down e)) (not-zero-left m e false)
+  where
+    neither : (a b : Bool) → (a || b) ≡ true → (a ≡ true → ⊥) → b ≡ false → ⊥
+    neither true b h f g = f refl
+    neither false b h f g = true≢false (sym h ∙ g)
 
-abs-above-at : (x : Float) → Ieee.lt x (fin false 0 (pos 0)) ≡ false → Ieee.eq x (fin false 0 (pos 0)) ≡ false → x ≡ absOf x
-unfolding absOf
-abs-above-at nan h k = refl
-abs-above-at (inf true) h k = absurd (true≢false (unfold Ieee.lt in h))
-abs-above-at (inf false) h k = refl
-abs-above-at (fin false m e) h k = refl
-abs-above-at (fin true zero e) h k = absurd (true≢false (sym (zero-left e true) ∙ k))
-abs-above-at (fin true (suc m) e) h k = absurd (true≢false (sym (below-zero m e) ∙ h))
+abs-below-at : (x : Float) → T (fits binary64 x) → Ieee.le x (fin false 0 (pos 0)) ≡ true → fin false 0 (pos 0) ⊖ x ≡ absOf x
+unfolding Ieee.le Ieee.lt Ieee.eq Ieee.sub Ieee.add neg absOf
+abs-below-at nan f h = no h
+abs-below-at (inf true) f h = refl
+abs-below-at (inf false) f h = no h
+abs-below-at (fin true m e) f h = zero-plus m e (sign-fits m e f)
+abs-below-at (fin false zero e) f h = zero-minus e f
+abs-below-at (fin false (suc m) e) f h = absurd (above-zero m e h)
 
-pub abs-above : (x : Float) → Ieee.lt x (F 0) ≡ false → Ieee.eq x (F 0) ≡ false → x ≡ absOf x
-abs-above x h k = abs-above-at x (ap (Ieee.lt x) (sym zero-is) ∙ h) (ap (Ieee.eq x) (sym zero-is) ∙ k)
+pub abs-below : (x : Float) → T (fits binary64 x) → Ieee.le x (F 0) ≡ true → F 0 ⊖ x ≡ absOf x
+abs-below x f h = ap (λ (z : Float). z ⊖ x) zero-is ∙ abs-below-at x f (ap (Ieee.le x) (sym zero-is) ∙ h)
+
+abs-above-at : (x : Float) → Ieee.le x (fin false 0 (pos 0)) ≡ false → x ≡ absOf x
+unfolding Ieee.le absOf
+abs-above-at nan h = refl
+abs-above-at (inf true) h = absurd (true≢false (unfold Ieee.lt in h))
+abs-above-at (inf false) h = refl
+abs-above-at (fin false m e) h = refl
+abs-above-at (fin true zero e) h =
+    let x = fin true zero e in
+    absurd (either-one (Ieee.lt x (fin false 0 (pos 0))) (Ieee.eq x (fin false 0 (pos 0))) h (zero-left e true))
+  where
+    either-one : (a b : Bool) → (a || b) ≡ false → b ≡ true → ⊥
+    either-one true b h g = true≢false h
+    either-one false b h g = true≢false (sym g ∙ h)
+abs-above-at (fin true (suc m) e) h =
+    let x = fin true (suc m) e in
+    absurd (true≢false (ap (λ (b : Bool). b || Ieee.eq x (fin false 0 (pos 0))) (sym (below-zero m e)) ∙ h))
+
+pub abs-above : (x : Float) → Ieee.le x (F 0) ≡ false → x ≡ absOf x
+abs-above x h = abs-above-at x (ap (Ieee.le x) (sym zero-is) ∙ h)
 
 pub finite-yes : (x : Float) {big : Float} → big ≡ inf false → Ieee.lt (neg big) x ≡ true → Ieee.lt x big ≡ isFinite x
 finite-yes x {big} e h = ap (λ (b : Bool). b && Ieee.lt x big) (sym h) ∙ ap (λ (b : Float). Ieee.lt (neg b) x && Ieee.lt x b) e ∙ finite-is x

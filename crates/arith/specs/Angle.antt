@@ -2,7 +2,7 @@
 use lib.Ieee as Ieee
 use lib.Ieee.{Float, binary64, neg}
 use mathlib.Core.Path.{_≡_}
-use mathlib.Core.Bool.{Bool, cond, _&&_}
+use mathlib.Core.Bool.{cond, _&&_}
 use mathlib.Core.List.{List, [], _∷_}
 use Prim.Native.Nat.{ℕ, zero, suc, _*_}
 use Rattle.arith.specs.Real.{_⊕_, _⊖_, _⊗_, _⊘_, F, ratio, isFinite, absOf}

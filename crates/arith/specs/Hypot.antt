@@ -1,7 +1,7 @@
 -- The hypotenuse, by document 01's words.
 use lib.Ieee as Ieee
 use lib.Ieee.{Float, inf, binary64}
-use mathlib.Core.Bool.{Bool, false, cond, _&&_}
+use mathlib.Core.Bool.{false, cond, _&&_}
 use Rattle.arith.specs.Real.{_⊕_, _⊗_, _⊘_, ratio, isFinite, absOf}
 use Rattle.arith.specs.Root.{sqrt}
 

@@ -9,7 +9,6 @@ pub mod RootUnits
 pub mod Spacing
 pub mod RootNearest
 pub mod SquareRoot
-pub mod RatioNearest
 pub mod RootError
 pub mod Magnitude
 pub mod HypotError

@@ -3,7 +3,7 @@
 -- `root n` is the largest r with r * r ≤ n (`root-is`). `sqrt f x` is the value of the format f that is nearest to the square root of x, a
 -- tie to the even one: NaN and what is below zero give `nan`, and ±0 and +infinity give themselves. Assumes nothing.
 use Prim.Native.Nat.{ℕ, zero, suc, _+_, _-_, _*_, _/_, _^_, _<_, _≤_, compare}
-use mathlib.Core.Bool.{Bool, true, false, cond}
+use mathlib.Core.Bool.{false, cond}
 use lib.Dec.{leb}
 use lib.Ieee.{Float, nan, inf, fin, Format, prec, low, up, down, size, units, nearest}
 

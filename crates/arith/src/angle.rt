@@ -9,7 +9,7 @@ ghost use Rattle.arith.specs.Angle.{halfTangent, arcSum, octant, quadran
 
 pub const PI: f64 = 3.141592653589793;
 
-pub const TAU: f64 = 6.283185307179586;
+pub(crate) const TAU: f64 = 6.283185307179586;
 
 const HALF_PI: f64 = 1.5707963267948966;
 

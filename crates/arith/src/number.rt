@@ -5,7 +5,7 @@ ghost use lib.Ieee.{inf};
 ghost use Rattle.arith.specs.Real.{isFinite, absOf, maxOf};
 
 // `f64::INFINITY` is not in the language.
-pub fn infinity() -> f64
+pub(crate) fn infinity() -> f64
     ensures { λ r. ⌜ r ≡ inf false ⌝ }
 {
     f64::from_bits(0x7ff0_0000_0000_0000)
@@ -21,17 +21,11 @@ pub fn is_finite(x: f64) -> bool
     false
 }
 
-// The magnitude: +0 for both zeros.
+// The magnitude: +0 for both zeros. One test, since 0 - x is exact and gives +0 for both zeros too.
 pub fn abs(x: f64) -> f64
     ensures { λ r. ⌜ r ≡ absOf x ⌝ }
 {
-    if x < 0.0 {
-        -x
-    } else if x == 0.0 {
-        0.0
-    } else {
-        x
-    }
+    if x <= 0.0 { 0.0 - x } else { x }
 }
 
 // The larger of two numbers, neither of them a NaN.

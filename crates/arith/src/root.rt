@@ -1,4 +1,5 @@
 // The square root of an f64, by integer arithmetic on its bits, and the hypotenuse over it.
+use crate::near_one::root_near_one;
 use crate::number::abs;
 use crate::number::infinity;
 use crate::number::is_finite;
@@ -112,5 +113,6 @@ fn scaled_root(a: f64, b: f64) -> f64
         return 0.0;
     }
     let r = b / a;
-    a * sqrt(1.0 + r * r)
+    let u = r * r;
+    a * root_near_one(u, 1.0 + u)
 }

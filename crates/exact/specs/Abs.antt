@@ -1,15 +1,15 @@
 -- Absolute bounds: |z| ≤ e / U, where e is a natural number and U a fixed power of two. So a bound is computed with whole numbers alone.
-use mathlib.Core.Path.{_≡_, refl, sym, ap, ap₂, _∙_, subst}
+use mathlib.Core.Path.{_≡_, refl, sym, ap, _∙_, subst}
 use mathlib.Core.Bool.{Bool, true, false, not}
-use mathlib.Core.List.{List, [], _∷_}
+use mathlib.Core.List.{[], _∷_}
 use mathlib.Core.Quot.{Quot·sound}
 use Prim.Native.Nat.{ℕ, zero, suc, _+_, _-_, _*_, _/_, _^_, _≤_, _<_}
-use native.Mathlib.Nat.{mul-le-mul-right, lt-div-mul-add, zero-lt-suc, mul-pos, le-of-lt, mul-comm}
+use native.Mathlib.Nat.{mul-le-mul-right, lt-div-mul-add, zero-lt-suc, le-of-lt}
 use native.Mathlib.Omega.{arith}
 use lib.Dec.{T, lit≤}
-use lib.Pow.{pow-pos, pow-mono}
-use Rattle.exact.specs.Rat.{ℚ, Fr, mk, qn, whole, mulF, LeF, _+q_, _-q_, _*q_, negq, _≤q_, ≤-mk, *q-mk, +q-mk, ≤q-sub, sub-≤q, 0≤-add, 0≤-mul, *q-assoc, *q-comm, *q-one, ≤q-trans, mk-≤, leq, inv, inv-ok, cancel-nn}
-use Rattle.exact.specs.Ring.{Ex, var, con, _:+_, _:-_, _:*_, ng, same, ring}
+use lib.Pow.{pow-pos}
+use Rattle.exact.specs.Rat.{ℚ, Fr, mk, qn, whole, mulF, _+q_, _-q_, _*q_, negq, _≤q_, ≤-mk, *q-mk, +q-mk, ≤q-sub, 0≤-add, 0≤-mul, *q-assoc, *q-comm, *q-one, ≤q-trans, mk-≤, leq, inv, inv-ok, cancel-nn}
+use Rattle.exact.specs.Ring.{var, con, _:+_, _:-_, _:*_, ng, same, ring}
 
 -- the unit is 1 / U
 unfoldable pub U : ℕ

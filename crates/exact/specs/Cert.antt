@@ -3,14 +3,14 @@
 use mathlib.Core.Path.{_≡_, refl, sym, ap, ap₂, _∙_, subst}
 use mathlib.Core.List.{List, [], _∷_}
 use mathlib.Core.Bool.{Bool, true, false, not, _&&_}
-use Prim.Native.Nat.{ℕ, zero, suc, _+_, _-_, _*_, _/_, _^_, _≤_, _<_}
+use Prim.Native.Nat.{ℕ, zero, suc, _+_, _-_, _*_, _/_, _≤_}
 use native.Mathlib.Nat.{zero-lt-suc}
 use native.Mathlib.Omega.{arith}
 use lib.Dec.{T, leb, leb→le}
-use Rattle.exact.specs.Rat.{ℚ, Fr, mk, qn, whole, leq, _+q_, _-q_, _*q_, negq, _≤q_, ≤-mk, ≤q-sub, sub-≤q, ≤q-total, ≤q-refl, 0≤-add, 0≤-mul, +q-neg, +q-zero, *q-zero}
-use Rattle.exact.specs.Ring.{Ex, var, con, _:+_, _:-_, _:*_, ng, at, same, ring}
+use Rattle.exact.specs.Rat.{ℚ, Fr, mk, qn, whole, leq, _+q_, _-q_, _*q_, _≤q_, ≤-mk, ≤q-sub, sub-≤q, ≤q-total, ≤q-refl, 0≤-add, 0≤-mul, +q-zero}
+use Rattle.exact.specs.Ring.{var, con, _:+_, _:-_, _:*_, at, same, ring}
 use Rattle.exact.specs.RingQ.{Rx, rv, rat, _⊕_, _⊖_, _⊗_, evR, sameQ, ringQ}
-use Rattle.exact.specs.Abs.{U, iv, 0≤, Abs, mulUp, abs-eq, abs-mono, abs-add, abs-sub, abs-mul, iv-nn}
+use Rattle.exact.specs.Abs.{U, 0≤, Abs, mulUp, abs-mono, abs-add, abs-sub, abs-mul}
 use Rattle.exact.specs.Check.{absUp, absUp-ok}
 
 -- a whole number

@@ -2,20 +2,19 @@
 -- of the float value from it (both in units of 1 / U), and whether every step was in range. `sound` says that the bounds hold.
 use mathlib.Core.Path.{_≡_, refl, sym, ap, ap₂, _∙_, subst}
 use mathlib.Core.List.{List, [], _∷_}
-use mathlib.Core.Bool.{Bool, true, false, not, _&&_}
-use mathlib.Core.Quot.{Quot·sound}
-use Prim.Native.Nat.{ℕ, zero, suc, _+_, _-_, _*_, _/_, _^_, _≤_, _<_}
-use native.Mathlib.Nat.{mul-le-mul-right, lt-div-mul-add, le-of-lt}
+use mathlib.Core.Bool.{Bool, true, false, _&&_}
+use Prim.Native.Nat.{ℕ, zero, suc, _+_, _-_, _*_, _/_, _≤_, _<_}
+use native.Mathlib.Nat.{mul-le-mul-right, lt-div-mul-add}
 use native.Mathlib.Omega.{arith}
 use lib.Dec.{T, leb, ltb, leb→le, ltb→lt}
 use lib.Ieee.{Float, nan, inf, fin, binary64, up, down, add, sub, mul, div}
 use lib.Ieee.Fits.{down-pos, and-l, and-r}
 use lib.Ieee.Scale.{finite}
-use Rattle.exact.specs.Rat.{ℚ, Fr, mk, qn, whole, addF, negF, _+q_, _-q_, _*q_, negq, _≤q_, ≤-mk, leq, inv, inv-ok, +q-mk, negq-mk, ≤q-sub, sub-≤q, 0≤-add}
-use Rattle.exact.specs.Ring.{Ex, var, con, _:+_, _:-_, _:*_, ng, at, same, ring}
-use Rattle.exact.specs.Abs.{U, U-pos, iv, ivF, iv-le, 0≤, Abs, mulUp, divUp, abs-eq, abs-mono, abs-neg, abs-add, abs-sub, abs-mul, abs-div, positive, iv-add}
+use Rattle.exact.specs.Rat.{ℚ, Fr, mk, qn, whole, addF, negF, _+q_, _-q_, _*q_, negq, _≤q_, ≤-mk, inv, inv-ok, +q-mk, negq-mk, ≤q-sub, sub-≤q, 0≤-add}
+use Rattle.exact.specs.Ring.{var, con, _:+_, _:-_, _:*_, at, same, ring}
+use Rattle.exact.specs.Abs.{U, iv, ivF, 0≤, Abs, mulUp, divUp, abs-eq, abs-add, abs-sub, abs-mul, abs-div, positive, iv-add}
 use Rattle.exact.specs.RingQ.{Rx, rv, rat, _⊕_, _⊖_, _⊗_, evR}
-use Rattle.exact.specs.Val.{val, sg, sgF, rnd, huge, Result, add-err, sub-err, mul-err, div-err}
+use Rattle.exact.specs.Val.{val, sgF, rnd, huge, Result, add-err, sub-err, mul-err, div-err}
 
 infixl 65 _+f_ _-f_
 infixl 70 _*f_

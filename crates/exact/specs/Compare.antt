@@ -1,16 +1,16 @@
 -- Float comparisons of finite values are the order of ℚ.
-use mathlib.Core.Path.{_≡_, refl, sym, ap, ap₂, _∙_, subst}
+use mathlib.Core.Path.{_≡_, refl, sym}
 use mathlib.Core.Bool.{Bool, true, false, not, _&&_, _||_}
 use Prim.Native.Nat.{ℕ, _+_, _*_, _≤_, _<_}
 use native.Mathlib.Omega.{arith}
-use lib.Dec.{T, leb, ltb, eqb, leb→le, le→leb, nleb→lt, ltb→lt, lt→ltb, nltb→le, eqb→eq}
+use lib.Dec.{T, leb, ltb, eqb, leb→le, le→leb, nleb→lt, ltb→lt, lt→ltb, eqb→eq}
 use lib.Arith.{lt→nleb}
-use lib.Ieee.{Float, nan, inf, fin, up, down, below, level, lt, le}
-use lib.Ieee.Fits.{down-pos, eq→eqb, and-i, and-l, and-r}
+use lib.Ieee.{Float, nan, inf, fin, up, down, lt, le}
+use lib.Ieee.Fits.{eq→eqb, and-i, and-l, and-r}
 use mathlib.Core.Logic.{_⊎_, inl, inr}
 use native.Mathlib.Nat.{eq-or-lt-of-le, eq-zero-or-pos}
 use lib.Ieee.Scale.{finite}
-use Rattle.exact.specs.Rat.{ℚ, leq, iff→≡}
+use Rattle.exact.specs.Rat.{leq, iff→≡}
 use Rattle.exact.specs.Val.{val}
 
 -- a < b, and a ≤ b, where x and y are other ways to write a and b

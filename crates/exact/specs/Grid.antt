@@ -1,14 +1,14 @@
 -- How far `round` goes: of num / den, in whole numbers. g is the result in units of the format's least value, 2 ^ -low.
-use mathlib.Core.Path.{_≡_, refl, sym, ap, _∙_, subst}
+use mathlib.Core.Path.{_≡_, refl, sym, subst}
 use mathlib.Core.Logic.{_⊎_, inl, inr}
-use mathlib.Core.Bool.{Bool, true, false, not}
-use Prim.Native.Nat.{ℕ, zero, suc, _+_, _-_, _*_, _/_, _%_, _^_, _≤_, _<_, compare, Ordering, Ordering·lt, Ordering·eq, Ordering·gt}
-use native.Mathlib.Nat.{le-trans, le-of-eq, lt-of-lt-of-le, lt-of-mul-lt-mul-right, le-of-mul-le-mul-right, mul-le-mul-right, mul-comm, mul-assoc, mul-pos, div-add-mod', mod-lt, div-mul-le-self, eq-zero-or-pos}
+use mathlib.Core.Bool.{not}
+use Prim.Native.Nat.{ℕ, zero, _+_, _-_, _*_, _/_, _%_, _^_, _≤_, _<_, compare, Ordering, Ordering·lt, Ordering·eq, Ordering·gt}
+use native.Mathlib.Nat.{le-trans, le-of-eq, mul-le-mul-right, mul-pos, div-add-mod', mod-lt, div-mul-le-self, eq-zero-or-pos}
 use native.Mathlib.Omega.{arith}
 use lib.Dec.{T, isLe, isEq, eqb, leb→le, nleb→lt, eqb→eq, eqb-refl}
 use lib.Arith.{lt-of-le-ne}
 use lib.Pow.{pow-add, pow-pos}
-use lib.Ieee.{Format, prec, low, emax, size, nearest}
+use lib.Ieee.{size, nearest}
 use lib.Ieee.Digits.{size-reaches}
 use lib.Ieee.Nearest.{closest}
 use lib.Ieee.Order.{drop, kept}

@@ -1,21 +1,20 @@
 -- A square root that is correctly rounded, and hypot (a, b) = a √(1 + (b / a)²): its square is near a² + b².
-use mathlib.Core.Path.{_≡_, refl, sym, ap, ap₂, _∙_, subst}
+use mathlib.Core.Path.{_≡_, refl, sym, ap, subst}
 use mathlib.Core.List.{List, [], _∷_}
-use mathlib.Core.Bool.{Bool, true, false, not, _&&_}
+use mathlib.Core.Bool.{Bool, false, not, _&&_}
 use mathlib.Core.Quot.{Quot·sound}
-use Prim.Native.Nat.{ℕ, zero, suc, _+_, _-_, _*_, _/_, _^_, _≤_, _<_}
-use native.Mathlib.Nat.{le-refl}
-use lib.IntN.{pos, negsuc}
-use lib.Dec.{T, leb, leb→le, lit<, lit≤}
+use Prim.Native.Nat.{ℕ, _+_, _-_, _*_, _^_, _≤_, _<_}
+use lib.IntN.{pos}
+use lib.Dec.{T, leb, leb→le, lit<}
 use lib.Ieee.{Float, fin, binary64, add, sub, mul, div}
 use lib.Ieee.Scale.{finite}
 use lib.Ieee.Fits.{and-l, and-r}
-use Rattle.exact.specs.Rat.{ℚ, Fr, mk, qn, whole, leq, _+q_, _-q_, _*q_, negq, _≤q_, inv, inv-ok, cancel-nn, ≤q-sub, sub-≤q, ≤q-total}
-use Rattle.exact.specs.Abs.{U, iv, ivF, 0≤, Abs, abs-eq, abs-mono, abs-add, positive}
-use Rattle.exact.specs.RingQ.{Rx, rv, rat, _⊕_, _⊖_, _⊗_, evR, sameQ, ringQ}
-use Rattle.exact.specs.Cert.{nat, Eqs, comb, by-eqs, by-cert, by-nn, Nns, Ct, hyp, sqr, num, _⊞_, _⊠_, den, Within, bounds, bound}
-use Rattle.exact.specs.Val.{val, rnd, huge, Result, div-err}
-use Rattle.exact.specs.Check.{Fx, fv, fc, _+f_, _-f_, _*f_, run, exact, Bd, bd, mag, err, ok, chk, Rel, Good, sound, own}
+use Rattle.exact.specs.Rat.{ℚ, Fr, mk, qn, whole, leq, _+q_, _-q_, _*q_, _≤q_, inv, inv-ok, cancel-nn, ≤q-sub, ≤q-total}
+use Rattle.exact.specs.Abs.{U, iv, ivF, 0≤, Abs, abs-eq, abs-mono}
+use Rattle.exact.specs.RingQ.{Rx, rv, rat, _⊕_, _⊖_, _⊗_, sameQ}
+use Rattle.exact.specs.Cert.{nat, Eqs, comb, by-eqs, by-nn, Nns, hyp, sqr, num, _⊞_, _⊠_, den, bounds, bound}
+use Rattle.exact.specs.Val.{val, rnd, huge, div-err}
+use Rattle.exact.specs.Check.{Fx, fv, fc, _+f_, _-f_, _*f_, mag, err, ok, chk, sound, own}
 use Rattle.exact.specs.Given.{given}
 use Rattle.exact.specs.Sign.{mul-nn}
 
@@ -197,39 +196,3 @@ pub hyp-intro : (A N : ℕ) → T (hyp-fits A N) → (a b r p q : Float) → T (
 hyp-intro A N t a b r p q fa fb pa nb l ha R e =
     let k = hypot-ok A N t a b r fa fb pa nb l ha R in
     record { fine = k .0; not-neg = mul-nn a r fa (R .is-finite) (≤q-total (val a) (qn 0) pa) (R .not-neg); near = subst (λ z. Abs (val (mul binary64 a r) *q val (mul binary64 a r) -q z) N) e (k .1) }
-
--- at most 1 and a bit: within 2 ^ -48; at most 3 / 2: within 2 ^ -47
-abbrev pub A₁ : ℕ
-A₁ = 2 ^ 256 + 2 ^ 206
-
-abbrev pub A₂ : ℕ
-A₂ = 3 * 2 ^ 255
-
-pub fits₁ : T (hyp-fits A₁ (2 ^ (256 - 48)))
-unfolding hyp-fits
-fits₁ = tt
-
-pub fits₂ : T (hyp-fits A₂ (2 ^ (256 - 47)))
-unfolding hyp-fits
-fits₂ = tt
-
--- h² ≤ 9 / 4 gives h ≤ 3 / 2
-pub hyp-top : (h n : ℚ) → 0≤ h → Abs (h *q h -q n) (2 ^ (256 - 48)) → 0≤ (mk xTop -q n) → Abs h A₂
-unfolding sameQ den comb iv U
-hyp-top h n p a g =
-    let ρ : List ℚ = h ∷ n ∷ [] in
-    let H : List Rx = rv 0 ∷ (rat (ivF (2 ^ (256 - 48))) ⊖ (rv 0 ⊗ rv 0 ⊖ rv 1)) ∷ (rat xTop ⊖ rv 1) ∷ [] in
-    let P : Nns ρ H = (p, (a .0, (g, tt))) in
-    let z : 0≤ ((iv A₂ +q h) -q iv (2 ^ 256)) = by-nn ρ [] tt H P [] (hyp 0 ⊞ num 1 1) ((rat (ivF A₂) ⊕ rv 0) ⊖ rat (ivF (2 ^ 256))) tt in (
-      cancel-nn (iv A₂ +q h) (iv A₂ -q h) (positive (iv A₂ +q h) (2 ^ 256) (lit< tt) (sub-≤q (iv (2 ^ 256)) (iv A₂ +q h) z)) (by-nn ρ [] tt H P [] (hyp 1 ⊞ hyp 2 ⊞ num 69269232549887 281474976710655) ((rat (ivF A₂) ⊕ rv 0) ⊗ (rat (ivF A₂) ⊖ rv 0)) tt),
-      by-nn ρ [] tt H P [] (hyp 0 ⊞ num 3 1) (rat (ivF A₂) ⊕ rv 0) tt,
-    )
-
--- three of them, nested
-pub len4 : (a b c d h k l : ℚ) → Abs (h *q h -q (a *q a +q b *q b)) (2 ^ 208) → Abs (k *q k -q (c *q c +q d *q d)) (2 ^ 208) → Abs (l *q l -q (h *q h +q k *q k)) (2 ^ 209) → Abs (l *q l -q (a *q a +q b *q b +q c *q c +q d *q d)) (2 ^ 210)
-unfolding sameQ
-len4 a b c d h k l x y z =
-    let A = rv 0 in let B = rv 1 in let C = rv 2 in let D = rv 3 in let H = rv 4 in let K = rv 5 in let L = rv 6 in
-    abs-eq ((h *q h -q (a *q a +q b *q b)) +q (k *q k -q (c *q c +q d *q d)) +q (l *q l -q (h *q h +q k *q k))) (l *q l -q (a *q a +q b *q b +q c *q c +q d *q d)) (2 ^ 210)
-    (ringQ (a ∷ b ∷ c ∷ d ∷ h ∷ k ∷ l ∷ []) ((H ⊗ H ⊖ (A ⊗ A ⊕ B ⊗ B)) ⊕ (K ⊗ K ⊖ (C ⊗ C ⊕ D ⊗ D)) ⊕ (L ⊗ L ⊖ (H ⊗ H ⊕ K ⊗ K))) (L ⊗ L ⊖ (A ⊗ A ⊕ B ⊗ B ⊕ C ⊗ C ⊕ D ⊗ D)) tt)
-    (abs-add ((h *q h -q (a *q a +q b *q b)) +q (k *q k -q (c *q c +q d *q d))) (l *q l -q (h *q h +q k *q k)) (2 ^ 209) (2 ^ 209) (abs-add (h *q h -q (a *q a +q b *q b)) (k *q k -q (c *q c +q d *q d)) (2 ^ 208) (2 ^ 208) x y) z)

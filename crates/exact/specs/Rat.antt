@@ -1,14 +1,13 @@
 -- The laws of ℚ: an ordered commutative ring, with 1 / x for a positive x (`inv`). Everything after this module goes by them alone. It passes on the definitions of `Fraction`.
 use mathlib.Core.Path.{_≡_, refl, sym, ap, ap₂, _∙_, subst}
-use mathlib.Core.Logic.{_⊎_, inl, inr}
 use mathlib.Core.HLevel.{Π-prop, Σ-prop-path}
-use mathlib.Core.Quot.{Quot, Quot·mk, Quot·sound, Quot-set, Quot·lift, ind}
-use mathlib.Core.Bool.{Bool, true, false, not, _&&_, Bool-set}
-use Prim.Native.Nat.{ℕ, zero, suc, _+_, _-_, _*_, _≤_, _<_, max}
-use native.Mathlib.Nat.{mul-pos, le-trans, le-of-eq, le-antisymm, eq-of-mul-eq-mul-right, le-of-mul-le-mul-right, mul-le-mul-right, le-dest, zero-lt-suc}
+use mathlib.Core.Quot.{Quot, Quot·sound, ind}
+use mathlib.Core.Bool.{Bool, true, false, not, _&&_}
+use Prim.Native.Nat.{ℕ, zero, suc, _+_, _-_, _*_, _≤_, _<_}
+use native.Mathlib.Nat.{le-antisymm, le-of-mul-le-mul-right, mul-le-mul-right, le-dest, zero-lt-suc}
 use native.Mathlib.Omega.{arith}
 use lib.Ieee.Fits.{and-i, and-l, and-r}
-use lib.Dec.{T, T-prop, leb, leb→le, le→leb, nleb→lt}
+use lib.Dec.{T, T-prop, leb, leb→le, nleb→lt}
 pub use Rattle.exact.specs.Fraction.{Fr, Same, LeF, ℚ, mk, ℚ-set, addF, mulF, negF, whole, _-q_, qn, iff→≡, same-le, same-ge, le-transF, lebF, le-in, le-out, _≤q_, _<q_, Near, tiny}
 unfoldable pub use Rattle.exact.specs.Fraction.{lift₂, _+q_, _*q_, negq, leq}
 

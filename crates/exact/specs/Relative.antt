@@ -1,5 +1,5 @@
 -- The rounding error of a product of any magnitude: a part in 2 ^ 53 of it, and half of the smallest double.
-use mathlib.Core.Path.{_≡_, refl, sym, ap, _∙_, subst}
+use mathlib.Core.Path.{_≡_, sym, subst}
 use mathlib.Core.Bool.{Bool, true, false, not}
 use mathlib.Core.List.{[], _∷_}
 use mathlib.Core.Quot.{Quot·sound}

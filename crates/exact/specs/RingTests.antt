@@ -1,8 +1,8 @@
 -- Tests of the ring normaliser: Euler's four squares, and that a rotation by a quaternion keeps lengths.
 use mathlib.Core.Path.{_≡_}
-use mathlib.Core.List.{List, [], _∷_}
-use Rattle.exact.specs.Rat.{ℚ, qn, _+q_, _-q_, _*q_, negq}
-use Rattle.exact.specs.Ring.{Ex, var, con, _:+_, _:-_, _:*_, ng, eval, same, ring}
+use mathlib.Core.List.{[], _∷_}
+use Rattle.exact.specs.Rat.{ℚ, _+q_, _-q_, _*q_}
+use Rattle.exact.specs.Ring.{Ex, var, con, _:+_, _:-_, _:*_, eval, same, ring}
 
 -- Euler's four squares
 abbrev q4 : Ex → Ex → Ex → Ex → Ex

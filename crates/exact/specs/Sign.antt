@@ -1,19 +1,19 @@
 -- A product of values that are not negative is not negative, and |x|.
-use mathlib.Core.Path.{_≡_, refl, sym, ap, ap₂, _∙_, subst}
-use mathlib.Core.Bool.{Bool, true, false, not, cond}
+use mathlib.Core.Path.{_≡_, refl, sym, ap, _∙_, subst}
+use mathlib.Core.Bool.{Bool, true, false, cond}
 use mathlib.Core.Quot.{Quot·sound}
-use Prim.Native.Nat.{ℕ, zero, suc, _+_, _-_, _*_, _/_, _^_, _≤_, _<_}
-use native.Mathlib.Nat.{mul-pos, zero-lt-suc, le-of-mul-le-mul-right, zero-mul, mul-zero}
+use Prim.Native.Nat.{ℕ, zero, suc, _+_, _-_, _*_, _^_, _≤_, _<_}
+use native.Mathlib.Nat.{mul-pos, zero-lt-suc, zero-mul, mul-zero}
 use native.Mathlib.Omega.{arith}
-use lib.IntN.{ℤ, pos, negsuc}
-use lib.Dec.{T, ltb, lit<}
+use lib.IntN.{pos}
+use lib.Dec.{T, ltb}
 use lib.Pow.{pow-pos}
-use lib.Ieee.{Float, nan, inf, fin, Format, binary64, prec, emax, low, up, down, unlike, odd, units, round, neg, mul}
-use lib.Ieee.Fits.{up-pos, down-pos, round-is}
+use lib.Ieee.{Float, nan, inf, fin, binary64, up, down, unlike, odd, units, round, mul}
+use lib.Ieee.Fits.{down-pos, round-is}
 use lib.Ieee.Exact.{HasValue}
 use lib.Ieee.Order.{drop, kept}
 use lib.Ieee.Scale.{finite, grid}
-use Rattle.exact.specs.Rat.{ℚ, Fr, mk, qn, whole, negq, leq, _≤q_, ≤-mk, mk-≤, ≤q-refl}
+use Rattle.exact.specs.Rat.{mk, qn, whole, _≤q_, ≤-mk, mk-≤, ≤q-refl}
 use Rattle.exact.specs.Abs.{0≤}
 use Rattle.exact.specs.Grid.{Near, kept-near}
 use Rattle.exact.specs.Val.{val, sg, sgF, has→val, round-has}

@@ -1,22 +1,21 @@
 -- The value of a finite float as a rational number, and how far each operation of binary64 is from the exact one.
 use mathlib.Core.Path.{_≡_, refl, sym, ap, ap₂, _∙_, subst}
-use mathlib.Core.List.{List, [], _∷_}
-use mathlib.Core.Bool.{Bool, true, false, not, _&&_, cond, Bool·beq}
+use mathlib.Core.Bool.{Bool, true, false, not, cond}
 use mathlib.Core.Quot.{Quot·sound}
 use Prim.Native.Nat.{ℕ, zero, suc, _+_, _-_, _*_, _/_, _^_, _≤_, _<_}
-use native.Mathlib.Nat.{le-trans, le-of-eq, mul-le-mul-right, le-of-mul-le-mul-right, lt-of-mul-lt-mul-right, lt-div-mul-add, zero-lt-suc, mul-pos, le-of-lt, mul-comm, mul-assoc, mul-right-comm, pow-le-pow-right}
+use native.Mathlib.Nat.{le-trans, le-of-eq, mul-le-mul-right, le-of-mul-le-mul-right, lt-of-mul-lt-mul-right, zero-lt-suc, mul-pos, mul-right-comm}
 use native.Mathlib.Omega.{arith}
-use lib.IntN.{ℤ, pos, negsuc}
-use lib.Dec.{T, ltb, ltb→lt, nltb→le, nleb→lt, eqb, eqb→eq, lit≤, lit<}
-use lib.Pow.{pow-pos, pow-add, pow-mono}
-use lib.Ieee.{Float, nan, inf, fin, Format, binary64, prec, emax, low, up, down, unlike, units, round, neg, sum, add, sub, mul, div}
-use lib.Ieee.Fits.{up-pos, down-pos, round-is, two-le-pos, two}
+use lib.IntN.{pos}
+use lib.Dec.{T, ltb, ltb→lt, nltb→le, nleb→lt, eqb, eqb→eq, lit≤}
+use lib.Pow.{pow-pos}
+use lib.Ieee.{Float, nan, inf, fin, binary64, up, down, unlike, units, round, neg, sum, add, sub, mul, div}
+use lib.Ieee.Fits.{down-pos, round-is}
 use lib.Ieee.Exact.{HasValue, units-val}
 use lib.Ieee.Order.{drop, kept}
 use lib.Ieee.Scale.{finite, grid}
-use Rattle.exact.specs.Rat.{ℚ, Fr, mk, qn, whole, addF, mulF, negF, LeF, Same, _+q_, _-q_, _*q_, negq, _≤q_, ≤-mk, mk-≤, *q-mk, +q-mk, negq-mk, leq, inv, inv-ok, *q-assoc, *q-one}
+use Rattle.exact.specs.Rat.{ℚ, mk, qn, whole, addF, negF, _+q_, _-q_, _*q_, negq, ≤-mk, mk-≤, leq, inv, inv-ok, *q-assoc, *q-one}
 pub use Rattle.exact.specs.Value.{sgF, sg, val}
-use Rattle.exact.specs.Abs.{U, U-pos, U-le, iv, ivF, 0≤, Abs}
+use Rattle.exact.specs.Abs.{U, U-pos, U-le, iv, ivF, Abs}
 use Rattle.exact.specs.Grid.{Near, kept-near}
 
 pub has→val : (x : Float) (s : Bool) (a c : ℕ) (C : 0 < c) → HasValue x s a c → T (finite x) × (val x ≡ sg s a c C)

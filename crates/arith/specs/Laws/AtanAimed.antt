@@ -18,7 +18,6 @@ use Rattle.exact.specs.Val.{val, sgF}
 use Rattle.exact.specs.Compare.{lt-val}
 use Rattle.arith.specs.Real.{ratio, absOf}
 use Rattle.arith.specs.Angle.{PI, octant, quadrant, facing, angleOf}
-use Rattle.arith.specs.declared.angle.Angle.the-variants as Angles
 use Rattle.arith.specs.Laws.Magnitude.{abs-finite, abs-nn, lt-yes, lt-no}
 use Rattle.arith.specs.Laws.AtanTurn.{vTop, wTop, uTop}
 use Rattle.arith.specs.Laws.AtanOctant.{Seen, unit, share, octant-near}

@@ -1,11 +1,11 @@
 -- The exact sums as polynomials for the tests of the crate `exact`.
 use mathlib.Core.Path.{_≡_, refl}
-use mathlib.Core.List.{List, [], _∷_}
+use mathlib.Core.List.{[], _∷_}
 use Prim.Native.Nat.{ℕ, zero, suc, _+_}
 use Rattle.exact.specs.Rat.{ℚ, whole}
 use Rattle.exact.specs.RingQ.{Rx, rv, rat, _⊖_, _⊗_, evR}
 use Rattle.arith.specs.Angle.{factorial}
-use Rattle.arith.specs.ExactSums.{factorial-pos, power, term, terms, sineSum41, cosineSum42}
+use Rattle.arith.specs.ExactSums.{factorial-pos, sineSum41, cosineSum42}
 
 unfoldable pub powerR : ℕ → Rx
 powerR zero = rat (whole 1 0)

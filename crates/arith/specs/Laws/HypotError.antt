@@ -16,22 +16,22 @@ use lib.Ieee.Fits.{add-fits, up-pos, down-pos}
 use lib.Ieee.Bits.{is-true}
 use lib.Ieee.Exact.{HasValue}
 use lib.Ieee.Scale.{finite}
-use Rattle.exact.specs.Rat.{ℚ, Fr, mk, qn, whole, mulF, leq, _+q_, _-q_, _*q_, negq, _≤q_, _<q_, ≤-mk, mk-≤, *q-mk, ≤q-sub, sub-≤q, ≤q-trans, ≤q-total, ≤q-antisymm, ≤q-refl, +q-comm}
+use Rattle.exact.specs.Rat.{ℚ, mk, qn, whole, mulF, leq, _+q_, _-q_, _*q_, _≤q_, _<q_, ≤-mk, mk-≤, *q-mk, ≤q-sub, sub-≤q, ≤q-trans, ≤q-total, ≤q-antisymm, ≤q-refl, +q-comm}
 use Rattle.exact.specs.Abs.{U, iv, ivF, iv-nn, 0≤, Abs, T-not}
 use Rattle.exact.specs.Ring.{var, con, _:+_, _:-_, _:*_, same, ring}
 use Rattle.exact.specs.RingQ.{Rx, rv, rat, _⊕_, _⊖_, _⊗_, evR, sameQ}
-use Rattle.exact.specs.Cert.{nat, Eqs, Nns, Ct, comb, den, by-nn, hyp, num, sqr, _⊞_, _⊠_}
+use Rattle.exact.specs.Cert.{nat, Nns, Ct, comb, den, by-nn, hyp, num, sqr, _⊞_, _⊠_}
 use Rattle.exact.specs.Val.{val, sg, sgF, has→val}
 use Rattle.exact.specs.Sign.{sg-nn, mul-nn}
 use Rattle.exact.specs.Relative.{Near, near-mono, tiny, part, least, unsigned, mul-near}
-use Rattle.exact.specs.Hypot.{Root, rTop, sumErr, one, Scaled, scaled, SquaresTo, scaled-root, Hyp, hyp-fits, hyp-intro}
-use Rattle.arith.specs.Real.{isFinite, absOf, maxOf}
+use Rattle.exact.specs.Hypot.{Root, rTop, sumErr, one, Scaled, scaled, scaled-root, Hyp, hyp-fits, hyp-intro}
+use Rattle.arith.specs.Real.{absOf, maxOf}
 use Rattle.arith.specs.RealLaws.{zero-left, not-zero-left}
 use Rattle.arith.specs.FlowLaws.{cond-yes, cond-no}
 use Rattle.arith.specs.Root.{sqrt}
 use Rattle.arith.specs.Hypot.{scaledRoot, hypotOf}
 use Rattle.arith.specs.Laws.Magnitude.{finite-same, abs-unsigned, abs-finite, abs-fits, abs-nn, abs-abs, abs-square, lt-yes, lt-no}
-use Rattle.arith.specs.Laws.RootUnits.{RootUnits, root-units}
+use Rattle.arith.specs.Laws.RootUnits.{root-units}
 use Rattle.arith.specs.Laws.RootNearest.{positive-of}
 use Rattle.arith.specs.Laws.RootError.{quarter, above-quarter, root-ok}
 

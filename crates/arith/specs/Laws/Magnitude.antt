@@ -1,17 +1,16 @@
 -- The value of `absOf` and `maxOf`: what they are in fractions.
-use mathlib.Core.Path.{_≡_, refl, sym, ap, _∙_, subst}
+use mathlib.Core.Path.{_≡_, refl, sym, _∙_, subst}
 use mathlib.Core.Bool.{Bool, true, false, not, cond}
 use mathlib.Core.List.{[], _∷_}
-use Prim.Native.Nat.{ℕ, zero, suc, _*_, _<_}
-use native.Mathlib.Omega.{arith}
+use Prim.Native.Nat.{ℕ, zero, suc, _*_}
 use lib.Dec.{T}
 use lib.Ieee.{Float, nan, inf, fin, binary64, fits, neg, lt, up, down}
 use lib.Ieee.Fits.{down-pos}
 use lib.Ieee.Scale.{finite}
-use Rattle.exact.specs.Rat.{ℚ, mk, qn, whole, leq, negq, _*q_, _≤q_, ≤-mk, ≤q-refl, ≤q-total}
+use Rattle.exact.specs.Rat.{ℚ, qn, leq, negq, _*q_, _≤q_, ≤q-refl, ≤q-total}
 use Rattle.exact.specs.Ring.{var, _:*_, ng, same, ring}
 use Rattle.exact.specs.Abs.{0≤, Abs, abs-neg}
-use Rattle.exact.specs.Val.{val, sg, sgF}
+use Rattle.exact.specs.Val.{val, sg}
 use Rattle.exact.specs.Sign.{sg-nn}
 use Rattle.exact.specs.Compare.{lt-val}
 use Rattle.exact.specs.Relative.{unsigned}

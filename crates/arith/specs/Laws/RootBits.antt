@@ -2,14 +2,14 @@
 use mathlib.Core.Path.{_≡_, refl, sym, ap, _∙_, subst}
 use mathlib.Core.Bool.{Bool, true, false, not, cond}
 use Prim.Native.Nat.{ℕ, zero, suc, _+_, _-_, _*_, _/_, _%_, _^_, _≤_, _<_}
-use native.Mathlib.Nat.{le-trans, le-of-eq, lt-of-lt-of-le, lt-of-le-of-lt, le-antisymm, lt-of-not-le, not-le-of-lt, le-refl, mul-assoc, mul-comm, mul-div-cancel, mul-lt-mul-of-pos-right, mul-le-mul-right, mod-eq-of-lt, mod-lt, div-add-mod', lt-of-lt-of-le, zero-add, add-comm, mul-one, mul-pos, pow-succ'}
+use native.Mathlib.Nat.{le-trans, le-of-eq, lt-of-lt-of-le, lt-of-le-of-lt, le-antisymm, lt-of-not-le, not-le-of-lt, mul-assoc, mul-comm, mul-div-cancel, mul-le-mul-right, mod-eq-of-lt, lt-of-lt-of-le, zero-add, add-comm, mul-one, mul-pos, pow-succ'}
 use native.Mathlib.Omega.{arith}
-use lib.Dec.{T, leb, ltb, eqb, leb→le, ltb→lt, eqb→eq, lt→ltb, not-T, lit<, lit≤}
-use lib.Pow.{pow-add, pow-pos, pow-mono, pow-lt, shl-lt, shl-exact}
+use lib.Dec.{T, leb, ltb, eqb, leb→le, eqb→eq, lt→ltb, not-T, lit≤}
+use lib.Pow.{pow-add, pow-pos, pow-mono, shl-lt, shl-exact}
 use lib.Count.{leadingZeros, leading-top}
-use lib.Ieee.{Float, nan, inf, fin, Format, binary64, prec, emax, low, hid, top, ones, up, down, size, odd, units, ofFields, ofBits, toBits, fits, isNan, nanBits}
+use lib.Ieee.{Float, nan, inf, fin, Format, binary64, prec, low, hid, top, ones, up, down, size, odd, units, ofFields, ofBits, toBits, fits}
 use lib.Ieee.Digits.{size-lt, size-le}
-use lib.Ieee.Fits.{down-pos, odd-fits, nan-fits, inf-fits, cond-fits}
+use lib.Ieee.Fits.{down-pos, odd-fits}
 use lib.Ieee.Exact.{HasValue, odd-sign, units-val}
 use lib.Ieee.Bits.{ofBits-toBits, is-true, is-false}
 use Rattle.arith.specs.Root.{roundRoot, sqrt, NearRoot}

@@ -1,25 +1,25 @@
 -- What callers use of `sqrt`: for 1/4 ≤ x < 4 the root r is finite, not below 0, and (r - u)² ≤ x ≤ (r + u)² with u = 2 ^ -53 (`root-ok`; `Root` is in the crate `exact`). From the definition, by `root-units`.
-use mathlib.Core.Path.{_≡_, refl, sym, ap, _∙_, subst, subst₂}
+use mathlib.Core.Path.{_≡_, sym, subst, subst₂}
 use mathlib.Core.List.{List, [], _∷_}
-use mathlib.Core.Bool.{Bool, true, false, not}
+use mathlib.Core.Bool.{false, not}
 use mathlib.Core.Quot.{Quot·sound}
-use Prim.Native.Nat.{ℕ, zero, suc, _+_, _-_, _*_, _^_, _≤_, _<_}
-use native.Mathlib.Nat.{le-trans, le-of-eq, le-of-lt, lt-of-lt-of-le, lt-of-le-of-lt, lt-of-not-le, not-le-of-lt, mul-pos, mul-le-mul, mul-le-mul-right, mul-lt-mul-of-pos-right, lt-of-mul-lt-mul-right, le-of-suc-le-suc, le-of-mul-le-mul-right}
+use Prim.Native.Nat.{ℕ, suc, _+_, _-_, _*_, _^_, _≤_, _<_}
+use native.Mathlib.Nat.{le-trans, le-of-eq, lt-of-le-of-lt, lt-of-not-le, not-le-of-lt, mul-le-mul, mul-le-mul-right, mul-lt-mul-of-pos-right, le-of-suc-le-suc}
 use native.Mathlib.Omega.{arith}
-use lib.Pow.{pow-add, pow-pos, pow-mono, pow-lt}
-use lib.Dec.{T, leb, nleb→lt, lit<, lit≤}
+use lib.Pow.{pow-pos, pow-mono}
+use lib.Dec.{T, nleb→lt, lit<, lit≤}
 use lib.Ieee.{Float, binary64, fits}
 use lib.Ieee.Scale.{finite}
-use Rattle.exact.specs.Rat.{ℚ, Fr, mk, qn, whole, addF, negF, mulF, leq, _+q_, _-q_, _*q_, negq, _≤q_, _<q_, ≤-mk, mk-≤, *q-mk, +q-mk, negq-mk, ≤q-sub, sub-≤q, ≤q-trans}
+use Rattle.exact.specs.Rat.{ℚ, Fr, mk, qn, whole, mulF, leq, _+q_, _-q_, _*q_, negq, _≤q_, _<q_, ≤-mk, mk-≤, *q-mk, ≤q-sub, sub-≤q, ≤q-trans}
 use Rattle.exact.specs.Abs.{0≤, T-not}
-use Rattle.exact.specs.RingQ.{Rx, rv, rat, _⊕_, _⊖_, _⊗_, evR, sameQ}
-use Rattle.exact.specs.Cert.{nat, Nns, comb, den, by-nn, hyp, num, _⊞_, _⊠_}
+use Rattle.exact.specs.RingQ.{Rx, rv, rat, _⊕_, _⊖_, _⊗_, sameQ}
+use Rattle.exact.specs.Cert.{Nns, comb, den, by-nn, hyp, num, _⊞_, _⊠_}
 use Rattle.exact.specs.Val.{val, sg, sgF, has→val}
 use Rattle.exact.specs.Sign.{sg-nn}
 use Rattle.exact.specs.Hypot.{Root}
 use Rattle.arith.specs.Root.{sqrt, NearRoot}
 use Rattle.arith.specs.Laws.RootHalves.{square-lt}
-use Rattle.arith.specs.Laws.RootUnits.{RootUnits, root-units}
+use Rattle.arith.specs.Laws.RootUnits.{root-units}
 use Rattle.arith.specs.Laws.RootNearest.{positive-of}
 
 -- ---- in whole numbers: the root is B = q W of the L units of 1, x is A of them, half a last place is W / 2

@@ -1,7 +1,7 @@
 -- The rounded root of m * 2 ^ 52 from the whole root s of m and one division. Assumes nothing.
 use mathlib.Core.Path.{_≡_}
 use Prim.Native.Nat.{ℕ, zero, suc, _+_, _-_, _*_, _/_, _%_, _^_, _≤_, _<_}
-use native.Mathlib.Nat.{mod-lt, div-add-mod', mul-le-mul-right, mul-le-mul, le-of-lt, lt-of-not-le, not-le-of-lt, div-lt-iff-lt-mul, le-of-suc-le-suc}
+use native.Mathlib.Nat.{mod-lt, div-add-mod', mul-le-mul-right, mul-le-mul, lt-of-not-le, not-le-of-lt, le-of-suc-le-suc}
 use native.Mathlib.Omega.{arith}
 use Rattle.arith.specs.Root.{NearRoot}
 

@@ -1,15 +1,14 @@
 -- What `root`, `roundRoot` and `sqrt` of `specs/Root.antt` give. `root-is`: root n is the largest r with r * r ≤ n. `round-at`: for an n of 105 or 106 digits whose root is nearest to q,
 -- `roundRoot` of n * 4 ^ k is q * 2 ^ k units. Assumes nothing.
 use mathlib.Core.Path.{_≡_, refl, sym, ap, _∙_, subst}
-use mathlib.Core.Logic.{inl, inr}
 use mathlib.Core.Bool.{Bool, true, false, not, cond}
-use Prim.Native.Nat.{ℕ, zero, suc, _+_, _-_, _*_, _/_, _%_, _^_, _≤_, _<_, compare, Ordering, Ordering·lt, Ordering·eq, Ordering·gt}
-use native.Mathlib.Nat.{le-trans, le-of-eq, le-of-suc-le-suc, lt-of-le-of-lt, lt-of-lt-of-le, lt-of-not-le, not-le-of-lt, le-antisymm, zero-mul, lt-irrefl, mul-assoc, mul-pos, mul-le-mul, mul-le-mul-right, mul-lt-mul-of-pos-right, mul-mul-mul-comm, mul-div-cancel, lt-of-mul-lt-mul-right, eq-of-mul-eq-mul-right, le-dest, suc-add}
+use Prim.Native.Nat.{ℕ, zero, suc, _+_, _-_, _*_, _/_, _^_, _≤_, _<_, compare, Ordering, Ordering·lt, Ordering·eq, Ordering·gt}
+use native.Mathlib.Nat.{le-trans, le-of-eq, le-of-suc-le-suc, lt-of-le-of-lt, lt-of-lt-of-le, lt-of-not-le, not-le-of-lt, le-antisymm, zero-mul, lt-irrefl, mul-assoc, mul-pos, mul-le-mul-right, mul-lt-mul-of-pos-right, mul-mul-mul-comm, mul-div-cancel, lt-of-mul-lt-mul-right, eq-of-mul-eq-mul-right, le-dest, suc-add}
 use native.Mathlib.Omega.{arith}
 use lib.Dec.{T, isLe, isEq, leb, leb→le, nleb→lt, eqb, eqb→eq, eqb-refl}
 use lib.Arith.{lt-of-le-ne}
 use lib.Pow.{pow-add, pow-pos, pow-mono}
-use lib.Ieee.{Float, nan, inf, fin, Format, binary64, prec, low, up, down, size, units, nearest}
+use lib.Ieee.{Float, nan, inf, fin, Format, binary64, low, up, down, size, units, nearest}
 use lib.Ieee.Digits.{size-lt, size-le}
 use lib.Ieee.Fits.{down-pos}
 use lib.Ieee.Exact.{HasValue}
@@ -53,12 +52,6 @@ twice-le d = omega arith
 pub root-is : (n : ℕ) → (root n * root n ≤ n) × (n < suc (root n) * suc (root n))
 unfolding root
 root-is n = rootIn-is (size n) n (lt-of-lt-of-le (size-lt n) (pow-mono (twice-le (size n))))
-
--- and it is the only such number
-pub root-only : (n r : ℕ) → r * r ≤ n → n < suc r * suc r → root n ≡ r
-root-only n r a b =
-    let k = root-is n in
-    le-antisymm (le-of-suc-le-suc (square-lt (root n) (suc r) (lt-of-le-of-lt (k .0) b))) (le-of-suc-le-suc (square-lt r (suc (root n)) (lt-of-le-of-lt a (k .1))))
 
 -- ---- what `compare` says
 abbrev Cmp : Ordering → ℕ → ℕ → Type 0

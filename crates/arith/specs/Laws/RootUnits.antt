@@ -3,7 +3,7 @@
 use mathlib.Core.Path.{_≡_, refl, sym, ap, _∙_, subst}
 use mathlib.Core.Bool.{Bool, true, false, _&&_}
 use Prim.Native.Nat.{ℕ, zero, suc, _+_, _-_, _*_, _/_, _%_, _^_, _≤_, _<_}
-use native.Mathlib.Nat.{le-trans, le-of-eq, le-of-lt, lt-of-lt-of-le, lt-of-le-of-lt, mul-assoc, mul-comm, mul-left-comm, mul-le-mul-right, mul-pos, mul-le-mul-left, mul-one, one-mul, lt-of-not-le, not-le-of-lt, lt-irrefl, pow-succ', zero-mul, zero-lt-suc, le-of-suc-le-suc}
+use native.Mathlib.Nat.{le-trans, le-of-eq, lt-of-lt-of-le, lt-of-le-of-lt, mul-assoc, mul-left-comm, mul-le-mul-right, mul-pos, mul-le-mul-left, mul-one, one-mul, lt-of-not-le, not-le-of-lt, lt-irrefl, pow-succ', zero-mul, zero-lt-suc, le-of-suc-le-suc}
 use native.Mathlib.Omega.{arith}
 use native.Mathlib.Decide.{ℕ-discrete}
 use lib.IntN.{ℤ, pos, negsuc}
@@ -13,7 +13,6 @@ use lib.Ieee.{Float, nan, inf, fin, binary64, up, down, size, units, fits}
 use lib.Ieee.Digits.{size-lt, size-le, size-reaches}
 use lib.Ieee.Fits.{up-pos, and-l, and-r}
 use lib.Ieee.Exact.{HasValue, units-val}
-use lib.Ieee.Scale.{finite}
 use lib.Ieee.Positive.{positive}
 use Rattle.arith.specs.Root.{roundRoot, sqrt, NearRoot}
 use Rattle.arith.specs.Laws.RootLaws.{round-at, near-lo, near-hi, sqrt-at, near-exists}

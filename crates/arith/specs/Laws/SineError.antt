@@ -9,28 +9,27 @@ use Prim.Native.Nat.{ℕ, zero, suc, _+_, _-_, _*_, _^_, _≤_, _<_, min}
 use native.Mathlib.Nat.{zero-add}
 use native.Mathlib.Omega.{arith}
 use lib.Dec.{T, leb, leb→le, nleb→lt, lit<, lit≤}
-use lib.IntN.{pos, negsuc}
-use lib.Ieee.{Float, nan, inf, fin, binary64, round, neg, sub, mul, lt, le}
+use lib.IntN.{pos}
+use lib.Ieee.{Float, nan, inf, fin, round, neg, sub, mul, lt, le}
 use lib.Ieee.Fits.{and-l, and-r}
 use lib.Ieee.Bits.{is-true}
 use lib.Ieee.Scale.{finite}
 use mathlib.Core.Quot.{Quot·sound}
-use Rattle.exact.specs.Rat.{ℚ, Fr, mk, qn, whole, leq, _+q_, _-q_, _*q_, _≤q_, ≤q-sub, sub-≤q, 0≤-mul, ≤-mk}
+use Rattle.exact.specs.Rat.{ℚ, Fr, mk, qn, whole, leq, _+q_, _-q_, _≤q_, ≤q-sub, sub-≤q, 0≤-mul, ≤-mk}
 use Rattle.exact.specs.Abs.{U, iv, ivF, 0≤, Abs, abs-eq, abs-add, abs-mono}
 use Rattle.exact.specs.RingQ.{Rx, rv, rat, _⊕_, _⊖_, _⊗_, evR, sameQ, ringQ, bndR, bndR-ok}
 use Rattle.exact.specs.Cert.{nat, by-nn, Nns, hyp, num, _⊞_, _⊠_, comb, den}
 use Rattle.exact.specs.Val.{val}
 use Rattle.exact.specs.Compare.{lt-val, le-val}
-use Rattle.exact.specs.Check.{Fx, fv, fc, _+f_, _-f_, _*f_, run, exact, Bd, bd, mag, err, ok, chk, Rel, Good, sound, free, known, own, toR, toR-ok, plain}
+use Rattle.exact.specs.Check.{Fx, fv, fc, _+f_, _-f_, _*f_, run, exact, Bd, bd, mag, err, ok, chk, Rel, Good, sound, free, known, toR, toR-ok, plain}
 use Rattle.exact.specs.Given.{given}
 use Rattle.exact.specs.Relative.{Near, tiny}
-use Rattle.arith.specs.Real.{_⊗_ as _·_, _⊖_ as _−_, ratio}
+use Rattle.arith.specs.Real.{_⊗_ as _·_, ratio}
 use Rattle.arith.specs.Angle.{factorial, horner, plus, minus, sineSum, cosineSum, halfTurn, doubled, turnOf, sinCosOf}
 use Rattle.arith.specs.ExactSums.{factorial-pos, sineSum41, cosineSum42}
 use Rattle.arith.specs.Laws.Magnitude.{lt-no}
 use Rattle.arith.specs.Laws.ExactSums.{sineR, cosineR, sine-poly, cosine-poly}
 use Rattle.arith.specs.declared.angle.Turn.{Turn}
-use Rattle.arith.specs.declared.angle.SinCos.{SinCos}
 use Rattle.arith.specs.declared.angle.SinCos.the-variants as Sines
 
 -- ---- the computations as expressions for the checker

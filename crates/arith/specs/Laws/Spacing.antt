@@ -1,5 +1,5 @@
 -- How the doubles are spaced: in whole numbers of units 2 ^ -1074, between q * 2 ^ k and (q + 1) * 2 ^ k there is none, for a q of 53 digits at least. And a double that is not below 0, as a fraction over 2 ^ 1074.
-use mathlib.Core.Path.{_≡_, refl, sym, ap, _∙_, subst}
+use mathlib.Core.Path.{_≡_, sym, ap, _∙_, subst}
 use mathlib.Core.Bool.{Bool, true, false, not}
 use mathlib.Core.Quot.{Quot·sound}
 use Prim.Native.Nat.{ℕ, zero, suc, _+_, _-_, _*_, _^_, _≤_, _<_}
@@ -7,15 +7,15 @@ use native.Mathlib.Nat.{le-trans, le-of-eq, lt-of-lt-of-le, lt-of-le-of-lt, lt-o
 use native.Mathlib.Decide.{decLe}
 use native.Mathlib.Omega.{arith}
 use lib.Pow.{pow-add, pow-pos, pow-mono}
-use lib.Dec.{T, leb, nleb→lt}
+use lib.Dec.{T, nleb→lt}
 use lib.Arith.{lt→nleb}
 use lib.Ieee.{Float, nan, inf, fin, binary64, up, down, fits}
 use lib.Ieee.Fits.{down-pos}
 use lib.Ieee.Scale.{finite}
-use Rattle.exact.specs.Rat.{ℚ, qn, whole, leq, _≤q_, _<q_, mk-≤}
+use Rattle.exact.specs.Rat.{ℚ, whole, leq, _<q_, mk-≤}
 use Rattle.exact.specs.Abs.{0≤}
 use Rattle.exact.specs.Val.{val, sg, sgF, has→val}
-use Rattle.arith.specs.Laws.RootUnits.{Units, in-units}
+use Rattle.arith.specs.Laws.RootUnits.{in-units}
 
 -- ---- in whole numbers of units: z is m * 2 ^ j
 -- a multiple of 2 ^ k, or of fewer digits: between q * 2 ^ k and the next multiple of 2 ^ k there is none

@@ -1,18 +1,15 @@
 -- `number::abs` meets its contract.
 use mathlib.Core.Path.{sym, subst}
 use lib.Dec.{T}
-use Rattle.arith.proofs.Ways.{abs-below, abs-zero, abs-above}
+use Rattle.arith.proofs.Ways.{abs-below, abs-above}
 use Rattle.arith.proofs.number.abs.Statement.{statement}
 use Rattle.arith.proofs.number.abs.Tie as tie
 
 returns : tie.Need-returns
-returns c = abs-below _ (c .if1 .taken)
+returns c = abs-below _ (subst T (sym (c .before .good .0 .1)) tt) (c .if1 .taken)
 
 returns-2 : tie.Need-returns-2
-returns-2 c = abs-zero _ (subst T (sym (c .before .before .good .0 .1)) tt) (c .if2 .taken)
-
-returns-3 : tie.Need-returns-3
-returns-3 c = abs-above _ (c .before .if1 .left) (c .if2 .left)
+returns-2 c = abs-above _ (c .if1 .left)
 
 pub abs-spec : {M : Type 1} → statement M
-abs-spec = tie.close (tie.spec returns returns-2 returns-3)
+abs-spec = tie.close (tie.spec returns returns-2)

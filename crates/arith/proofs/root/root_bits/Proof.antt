@@ -1,6 +1,6 @@
 -- `root::root_bits` meets its contract, by `Bits.antt`. Assumes nothing.
 use mathlib.Core.Path.{_≡_, sym, ap, _∙_}
-use Prim.Native.Nat.{ℕ, _-_, _*_, _/_, _%_, _≤_, _<_}
+use Prim.Native.Nat.{ℕ, _-_, _/_, _%_, _≤_, _<_}
 use native.Mathlib.Nat.{lt-of-lt-of-le, le-trans, mod-lt}
 use native.Mathlib.Omega.{arith}
 use lib.Count.{leadingZeros}

@@ -1,0 +1,78 @@
+-- `near_one::is_nearest` meets its contract, by proofs/NearOne.antt: only the last test answers yes.
+use mathlib.Core.Path.{sym, subst}
+use native.Mathlib.Omega.{arith}
+use lib.Dec.{T, leb→le}
+use Rattle.arith.specs.RealLaws.{no}
+use Rattle.arith.proofs.NearOne.{high-square, mixed, low-square, checked}
+use borrow.Author.Needs.{needs}
+use Rattle.arith.proofs.near_one.is_nearest.Statement.{statement}
+use Rattle.arith.proofs.near_one.is_nearest.Tie as tie
+
+mul-aa : tie.Need-mul-aa
+mul-aa c = omega (arith, high-square (c .args .q) (c .pre))
+
+returns : tie.Need-returns
+returns c = λ e. no e
+
+returns-2 : tie.Need-returns-2
+returns-2 c = λ e. no e
+
+mul-p : tie.Need-mul-p
+mul-p c = search needs
+
+add-p : tie.Need-add-p
+add-p c = search needs
+
+mul-c : tie.Need-mul-c
+mul-c c = let at-start = c .before .before in omega (arith, mixed (at-start .args .q) (at-start .pre))
+
+returns-3 : tie.Need-returns-3
+returns-3 c = λ e. no e
+
+returns-4 : tie.Need-returns-4
+returns-4 c = λ e. no e
+
+mul-w : tie.Need-mul-w
+mul-w c = search needs
+
+mul-z : tie.Need-mul-z
+mul-z c = omega (arith, low-square (c .before .before .before .before .args .q))
+
+add-z : tie.Need-add-z
+add-z c = omega (arith, low-square (c .before .before .before .before .args .q))
+
+add-if5 : tie.Need-add-if5
+add-if5 c = search needs
+
+add-result : tie.Need-add-result
+add-result c = search needs
+
+returns-5 : tie.Need-returns-5
+returns-5 c = λ e.
+    let at-p = c .before .before in
+    let at-square = at-p .before .before in
+    let args = at-square .before .args in
+    checked (args .m) (args .q) (at-square .if1 .left) (at-p .if3 .left) (c .if5 .taken) (leb→le _ _ (subst T (sym e) tt))
+
+returns-6 : tie.Need-returns-6
+returns-6 c = λ e. no e
+
+pub is-nearest-spec : {M : Type 1} → statement M
+is-nearest-spec =
+    tie.close
+    (tie.spec
+    mul-aa
+    returns
+    returns-2
+    mul-p
+    add-p
+    mul-c
+    returns-3
+    returns-4
+    mul-w
+    mul-z
+    add-z
+    add-if5
+    add-result
+    returns-5
+    returns-6)

@@ -1,0 +1,56 @@
+-- `near_one::root_near_one` meets its contract: a guess that passes the check is the root, by proofs/NearOne.antt.
+use mathlib.Core.Path.{sym, subst}
+use lib.Dec.{T}
+use lib.Ieee.{binary64, fits}
+use Rattle.arith.proofs.NearOne.{at-least-one, root-of-digits}
+use borrow.Author.Needs.{needs}
+use Rattle.arith.proofs.near_one.root_near_one.Statement.{statement}
+use Rattle.arith.proofs.near_one.root_near_one.Tie as tie
+
+guess-requires : tie.Need-guess-requires
+guess-requires c κs = search needs
+
+float-to-bits-b : tie.Need-float-to-bits-b
+float-to-bits-b c = at-least-one _ (c .before .before .if1 .taken)
+
+float-to-bits-n : tie.Need-float-to-bits-n
+float-to-bits-n c = at-least-one _ (c .before .if2 .taken)
+
+sub-is-nearest : tie.Need-sub-is-nearest
+sub-is-nearest c = search needs
+
+sub-is-nearest-2 : tie.Need-sub-is-nearest-2
+sub-is-nearest-2 c = search needs
+
+is-nearest-requires : tie.Need-is-nearest-requires
+is-nearest-requires c κs = search needs
+
+returns : tie.Need-returns
+returns c =
+    let at-check = c .before in
+    let at-guess = at-check .before .before .before .before in
+    let at-start = at-guess .before .before in
+    let held : T (fits binary64 (at-start .args .x)) = subst T (sym (at-start .good .1 .0 .1)) tt in
+    let guessed : T (fits binary64 (at-guess .guess .result)) = subst T (sym (at-guess .guess .ok)) tt in
+    root-of-digits (at-start .args .x) (at-guess .guess .result) held guessed
+    (at-check .before .before .if3 .taken) (at-check .before .if4 .taken) (at-check .is-nearest .ensures (c .if5 .taken))
+
+sqrt-requires : tie.Need-sqrt-requires
+sqrt-requires c κs = search needs
+
+returns-2 : tie.Need-returns-2
+returns-2 c = c .sqrt .ensures .is
+
+pub root-near-one-spec : {M : Type 1} → statement M
+root-near-one-spec =
+    tie.close
+    (tie.spec
+    guess-requires
+    float-to-bits-b
+    float-to-bits-n
+    sub-is-nearest
+    sub-is-nearest-2
+    is-nearest-requires
+    returns
+    sqrt-requires
+    returns-2)
