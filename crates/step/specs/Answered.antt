@@ -4,13 +4,15 @@ use mathlib.Core.Path.{_≡_}
 use mathlib.Core.List.{List}
 use lib.ListN.{length}
 use lib.Ieee.{Float}
+use Rattle.arith.specs.Flow.{stop}
 use Rattle.rows.specs.declared.geometry.Joint.{Joint}
+use Rattle.rows.specs.Fault.{Fault, number}
 use Rattle.rows.specs.ExactGeometry.{Place, recordPlace, Met, Stands, Proper}
 use Rattle.step.specs.declared.Outcome.the-variants.{Accepted}
 use Rattle.step.specs.declared.Report.{Report}
-use Rattle.step.specs.Records.{recordAt, bodyCount}
-use Rattle.step.specs.Checks.{numberOf, jointIn}
-use Rattle.step.specs.Step.{cleared, solveOf}
+use Rattle.step.specs.Records.{recordAt, bodyCount, recordsOf}
+use Rattle.step.specs.Checks.{numberOf, jointIn, refusalOf}
+use Rattle.step.specs.Step.{Counted, runOf, cleared, solveOf}
 
 -- the first 6,144 doubles are +0, the others as they were
 abbrev pub Zeroed : List Float → List Float → Type 0
@@ -34,6 +36,9 @@ pub record Answered (bodies after : List Float) (joints : List Joint) (count : �
   pub proper : r .outcome ≡ Accepted → (k : ℕ) → k < count → AtEnds Proper after (jointIn joints k)
   -- it is met by the records that it joins
   pub meets : r .outcome ≡ Accepted → (k : ℕ) → k < count → AtEnds Met after (jointIn joints k)
+  -- where the run ends by a fault, the answer has the fault's number
+  pub faulted : refusalOf bodies joints count dt (length scratch) ≡ Accepted → (s : Counted Fault)
+      → runOf (recordsOf bodies) joints count dt ≡ stop s → numberOf (r .outcome) ≡ number (s .answer)
   -- a refusal leaves the bodies
   pub refused : 1 ≤ numberOf (r .outcome) → after ≡ bodies
   -- 1 to 9 leave the scratch too, and report both counts 0

@@ -19,7 +19,7 @@ use Rattle.rows.specs.declared.body.BodyState.{BodyState}
 use Rattle.rows.specs.declared.geometry.Joint.{Joint}
 use Rattle.rows.specs.declared.geometry.Kind.{Kind}
 use Rattle.rows.specs.declared.geometry.Kind.the-variants.{Ball, Hinge, Cylindrical, Planar, Distance, ConeTwist}
-use Rattle.rows.specs.Fault.{Fault, nonConvergent, arithmeticOverflow}
+use Rattle.rows.specs.Fault.{Fault, nonConvergent, arithmeticOverflow, number}
 use Rattle.rows.specs.Body.{stateWith, stateOf}
 use Rattle.rows.specs.Region.{tab-length, tab-at}
 use Rattle.rows.specs.ExactGeometry.{statePlace, Met, Stands, Proper}
@@ -143,7 +143,11 @@ module _ (bodies : List Float) (joints : List Joint) (count : ℕ) (dt : Float) 
 no-refusal : {o : Outcome} → 1 ≤ numberOf o → o ≡ Accepted → ⊥
 no-refusal l e = omega (arith, ap numberOf e)
 
-fault-late : (fault : Fault) → 10 ≤ numberOf (faultOutcome fault)
+pub fault-number : (fault : Fault) → numberOf (faultOutcome fault) ≡ number fault
+fault-number nonConvergent = refl
+fault-number arithmeticOverflow = refl
+
+fault-late : (fault : Fault) → 10 ≤ number fault
 fault-late nonConvergent = omega arith
 fault-late arithmeticOverflow = omega arith
 
@@ -158,6 +162,23 @@ module _ (bodies : List Float) (joints : List Joint) (count : ℕ) (dt : Float) 
   abbrev checked : Outcome → Stepped
   checked o = record { outcome = o; nonlinear = 0; linear = 0; bodies = bodies; scratch = scratch }
 
+  -- the field `faulted` of a step's answer
+  abbrev Faulted : Stepped → Type 0
+  Faulted t = refusalOf bodies joints count dt (length scratch) ≡ Accepted → (s : Counted Fault)
+      → runOf (recordsOf bodies) joints count dt ≡ stop s → numberOf (t .outcome) ≡ number (s .answer)
+
+  fault-answered : Faulted (solveOf bodies joints count dt scratch)
+  unfolding solveOf
+  fault-answered p s q =
+      let left = cleared scratch in
+      let run = runOf (recordsOf bodies) joints count dt in
+      ap (λ (o : Outcome). numberOf (cond (isAccepted o) (settled bodies left run) (checked o) .outcome)) p
+      ∙ ap (λ (t : Turn (Counted (List BodyState)) (Counted Fault)). numberOf (settled bodies left t .outcome)) q
+      ∙ fault-number (s .answer)
+
+  as-faulted : {t : Stepped} → Solved t → Faulted t
+  as-faulted is = subst Faulted (sym is) fault-answered
+
   says-checked : (o : Outcome) → 1 ≤ numberOf o → numberOf o ≤ 9 → Solved (checked o) → Says (checked o)
   says-checked o low high is = record {
     is = is;
@@ -166,6 +187,7 @@ module _ (bodies : List Float) (joints : List Joint) (count : ℕ) (dt : Float) 
     joins = λ h. absurd (no-refusal (omega arith) h);
     proper = λ h. absurd (no-refusal (omega arith) h);
     meets = λ h. absurd (no-refusal (omega arith) h);
+    faulted = as-faulted is;
     refused = λ h. refl;
     early = λ h g. (refl, refl, refl);
     accepted = λ h. absurd (no-refusal (omega arith) h);
@@ -185,6 +207,7 @@ module _ (bodies : List Float) (joints : List Joint) (count : ℕ) (dt : Float) 
       joins = λ h. absurd (no-refusal (omega arith) h);
       proper = λ h. absurd (no-refusal (omega arith) h);
       meets = λ h. absurd (no-refusal (omega arith) h);
+      faulted = as-faulted is;
       refused = λ h. refl;
       early = λ h g. absurd (omega arith);
       accepted = λ h. (ready .room, refl);
@@ -203,6 +226,7 @@ module _ (bodies : List Float) (joints : List Joint) (count : ℕ) (dt : Float) 
       proper = λ h k l. proper-records bodies joints count dt (length scratch) ready (c .answer) end g k l;
       meets = λ h k l. met-records bodies joints count dt (length scratch) ready (c .answer) end g k l;
       stands = λ h k l. stood bodies joints count dt (length scratch) ready (c .answer) end g k (subst (λ (n : ℕ). k < n / 26) (back-length bodies (c .answer)) l);
+      faulted = as-faulted is;
       refused = λ h. absurd (omega arith);
       early = λ h. absurd (omega arith);
       accepted = λ h. (ready .room, refl);
@@ -217,7 +241,7 @@ module _ (bodies : List Float) (joints : List Joint) (count : ℕ) (dt : Float) 
 
     -- however the run ends
     says-run : (t : Turn (Counted (List BodyState)) (Counted Fault)) → runOf (recordsOf bodies) joints count dt ≡ t → Solved (settled bodies (cleared scratch) t) → Says (settled bodies (cleared scratch) t)
-    says-run (stop c) e is = says-failed (faultOutcome (c .answer)) (c .nonlinear) (c .linear) (fault-late (c .answer)) is
+    says-run (stop c) e is = says-failed (faultOutcome (c .answer)) (c .nonlinear) (c .linear) (subst (λ (n : ℕ). 10 ≤ n) (sym (fault-number (c .answer))) (fault-late (c .answer))) is
     says-run (go c) e is = by-ground (grounded (c .answer)) refl is
       where
         by-ground : (g : Bool) → grounded (c .answer) ≡ g → Solved (cond g (moved c) (failed Ground (c .nonlinear) (c .linear))) → Says (cond g (moved c) (failed Ground (c .nonlinear) (c .linear)))

@@ -499,7 +499,13 @@ fn start(s: &mut [f64], bodies: &[f64], joints: [Joint; 16], count: usize) -> Fi
 }
 
 // From the starting bodies to the states.
-pub(crate) fn run(bodies: &[f64], joints: [Joint; 16], count: usize, dt: f64, s: &mut [f64]) -> Progress
+pub(crate) fn run(
+    bodies: &[f64],
+    joints: [Joint; 16],
+    count: usize,
+    dt: f64,
+    s: &mut [f64],
+) -> Progress
     requires { ⌜ (END ≤ length (now s)) × (Joined joints count (bodyCount (now bodies))) ⌝ }
     ensures { λ r. ⌜ Does (Out 0 END) (now (s .entry)) (now (s .exit)) (progressAs r (statesAt (now (s .exit)) (bodyCount (now (bodies .entry))))) (runOf (recordsOf (now (bodies .entry))) joints count dt) ⌝ }
 {
