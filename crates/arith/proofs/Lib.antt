@@ -2,4 +2,3 @@
 mod Newton
 mod RootCases
 mod Ways
-mod Starred
