@@ -1,4 +1,4 @@
--- Newton's iteration, the check of a guessed root, the cases of `sqrt` and of the remainder, the ways through the other functions, and the starred values.
+-- Newton's iteration, the check of a guessed root, the cases of `sqrt` and of the remainder, and the ways through the other functions.
 mod Newton
 mod NearOne
 mod RootCases
@@ -6,4 +6,3 @@ mod Ways
 mod Doubling
 mod RemainderLaws
 mod RemainderCases
-mod Starred

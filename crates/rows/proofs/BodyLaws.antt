@@ -28,7 +28,8 @@ use Rattle.rows.specs.declared.body.Pass.{Pass}
 use Rattle.rows.specs.declared.body.Pass.the-variants as Passes
 use Rattle.rows.specs.Fault.{Fault, nonConvergent, arithmeticOverflow, Result, vectorOr, numberOr, quatOr, tryFinite, tryLength, tryRotate, try}
 use Rattle.rows.specs.Body.{worldCenterOfMassOf, newOf, standing, inverseAngularMassOf, omegaOf, withMomenta, placedAt, kickOf, anchorOf, integrate, passOf, settled, driftOf, originOf, stateOf, sameVec3, sameQuat, stateWith}
-use Rattle.rows.specs.Answer.{answerOf, passAs, stateAs}
+use Rattle.rows.specs.Answer.{answerOf, BodyAnswered, passAs}
+use Rattle.rows.specs.AnswerLaws.{body-answered}
 
 pub pass-as : {r x : Pass} {d : Turn Vec3 (Result Quat)} → passAs r ≡ d → r ≡ x → passAs x ≡ d
 pass-as e h = sym (ap passAs h) ∙ e
@@ -58,8 +59,15 @@ module _ (origin : Vec3) (rotation : Quat) (local : Vec3) where
 
 -- ---- new
 -- a failure: the body that stands beside it
-pub lost : {r : BodyAnswer} {old known : MomentumBody} {d : Result MomentumBody} → r ≡ answerOf old over → old ≡ known → over ≡ d → r ≡ answerOf known d
-lost e eo ed = cc
+pub lost : {r : BodyAnswer} {old known : MomentumBody} (d : Result MomentumBody) → r ≡ answerOf old over → old ≡ known → over ≡ d → BodyAnswered known d r
+lost d e eo ed = body-answered _ d (lost-is e eo ed)
+  where
+    lost-is : {r : BodyAnswer} {old known : MomentumBody} {d : Result MomentumBody} → r ≡ answerOf old over → old ≡ known → over ≡ d → r ≡ answerOf known d
+    lost-is e eo ed = cc
+
+-- an answer
+pub found : (old : MomentumBody) {x : Result MomentumBody} (d : Result MomentumBody) → x ≡ d → BodyAnswered old d (answerOf old x)
+found old d e = body-answered old d (ap (answerOf old) e)
 
 module _ (body : RigidBody) (inverse : Mat3) {q : Quat} (eq : q ≡ conjugateOf (body .rotation)) where
   pub new-1 : over ≡ tryRotate q (body .«angular_velocity») → over ≡ newOf body inverse

@@ -36,7 +36,8 @@ use Rattle.rows.specs.declared.geometry.Written.the-variants as Written
 use Rattle.rows.specs.Fault.{Fault, nonConvergent, arithmeticOverflow, Result, vectorOr, tryFinite, tryRotate}
 use Rattle.rows.specs.Geometry.{endsOf, toleranceOf, distanceRow, linearRow, rowIf, linearAxes, linearRows, relativeOf, swingX, swingY, gradientRow, swingRow, twistRow, coneRows, alignedOf, alignRow, alignRows, angularRows, finiteValues, frameRows, kindRows, writeEqualityRows, oneIf, rowCount}
 use Rattle.rows.specs.View.{at, rowAt, rowsAt, Out, Kept}
-use Rattle.rows.specs.Answer.{writtenAs, Writes}
+use Rattle.rows.specs.Answer.{refusalNumber, writtenAs, Writes}
+use Rattle.rows.specs.AnswerLaws.{written-number}
 use Rattle.rows.specs.Append.{rowAs, countOf, spanOf, Appends, Adds, Cleared, followedBy}
 use Rattle.rows.specs.Region.{kept-refl, kept-then, kept-more, tab-length}
 use Rattle.rows.proofs.AppendLaws.{Mine, mine-go, mine-stop, mine-then, adds-none, adds-more, adds-as}
@@ -472,6 +473,7 @@ module _ (joint : Joint) (a b : MomentumBody) {i : ℕ} {s t : List Float} where
     kept = kept-more (q .kept) (λ k x. omega (arith, q .within));
     count = λ m e. sym (ap countOf e) ∙ rows-of q;
     is = q .is;
+    numbered = ap refusalNumber (q .is);
     behind = λ m e. subst (λ (x : Written). Kept (λ k. Out i (spanOf x) k) s t) e (q .kept);
     cleared = λ f e. let z : _≡_ {A = ℕ} 0 1 = clash (q .is ∙ e) in absurd (omega arith);
   }
@@ -495,6 +497,7 @@ module _ (joint : Joint) (a b : MomentumBody) {i : ℕ} {s t u : List Float} {r 
     kept = kept-then (kept-more (p .kept) (λ k y. omega (arith, ap spanOf h))) (z .kept) (λ k y. y);
     count = λ m e. absurd (n m e);
     is = x ∙ sym v ∙ sym (ap (λ (y : Written). writtenAs y t i (joint .«body_a») (joint .«body_b»)) h) ∙ p .is;
+    numbered = written-number w t i (joint .«body_a») (joint .«body_b») ∙ ap refusalNumber (sym (ap (λ (y : Written). writtenAs y t i (joint .«body_a») (joint .«body_b»)) h) ∙ p .is);
     behind = λ m e. absurd (n m e);
     cleared = λ g e. z .zero;
   }

@@ -20,10 +20,30 @@ use Rattle.rows.specs.declared.geometry.Joint.{Joint}
 use Rattle.rows.specs.declared.geometry.EqualityRow.{EqualityRow}
 use Rattle.rows.specs.declared.geometry.Written.{Written}
 use Rattle.rows.specs.declared.geometry.Written.the-variants as Written
-use Rattle.rows.specs.Fault.{Fault, nonConvergent, arithmeticOverflow, Result}
+use Rattle.rows.specs.Fault.{Fault, nonConvergent, arithmeticOverflow, number, Result}
 use Rattle.rows.specs.Geometry.{rowCount, writeEqualityRows}
 use Rattle.rows.specs.View.{at, rowsAt, Out, Kept}
 
+-- ---- document 01's number of an answer: 0 where there is one, else the fault's
+abbrev pub refusalNumber : {A : Type 0} → Result A → ℕ
+refusalNumber (go x) = 0
+refusalNumber (stop fault) = number fault
+
+abbrev pub finishNumber : Finish → ℕ
+finishNumber Ends.Done = 0
+finishNumber Ends.NonConvergent = number nonConvergent
+finishNumber Ends.ArithmeticOverflow = number arithmeticOverflow
+
+abbrev pub stateNumber : StateAnswer → ℕ
+stateNumber (State.Value state) = 0
+stateNumber State.ArithmeticOverflow = number arithmeticOverflow
+
+abbrev pub writtenNumber : Written → ℕ
+writtenNumber (Written.Rows n) = 0
+writtenNumber Written.NonConvergent = number nonConvergent
+writtenNumber Written.ArithmeticOverflow = number arithmeticOverflow
+
+-- ---- bodies and states
 -- what a call that was to move a body hands back: beside a fault, the body `old`
 unfoldable pub answerOf : MomentumBody → Result MomentumBody → BodyAnswer
 answerOf old (go body) = record { outcome = Ends.Done; body = body }
@@ -40,6 +60,11 @@ finishAs Ends.ArithmeticOverflow x = stop arithmeticOverflow
 abbrev pub bodyAs : BodyAnswer → Result MomentumBody
 bodyAs r = finishAs (r .outcome) (r .body)
 
+-- what `new`, `kick` and `drift` promise for the result d that is defined: the answer, and its number
+pub record BodyAnswered (old : MomentumBody) (d : Result MomentumBody) (r : BodyAnswer) : Type 0 where
+  pub is : r ≡ answerOf old d
+  pub numbered : finishNumber (r .outcome) ≡ refusalNumber d
+
 -- a pass of drift: the next omega, or how its loop is left
 abbrev pub passAs : Pass → Turn Vec3 (Result Quat)
 passAs (Passes.Next omega) = go omega
@@ -50,6 +75,12 @@ abbrev pub stateAs : StateAnswer → Result BodyState
 stateAs (State.Value state) = go state
 stateAs State.ArithmeticOverflow = stop arithmeticOverflow
 
+-- what `state` promises
+pub record StateAnswered (d : Result BodyState) (r : StateAnswer) : Type 0 where
+  pub is : stateAs r ≡ d
+  pub numbered : stateNumber r ≡ refusalNumber d
+
+-- ---- rows
 -- the rows that s holds at i after a write
 abbrev pub writtenAs : Written → List Float → ℕ → ℕ → ℕ → Result (List EqualityRow)
 writtenAs (Written.Rows n) s i a b = go (rowsAt s i a b n)
@@ -62,5 +93,6 @@ pub record Writes (joint : Joint) (a b : MomentumBody) (i : ℕ) (s t : List Flo
   pub kept : Kept (λ k. Out i 84 k) s t
   pub count : (n : ℕ) → r ≡ Written.Rows n → n ≡ rowCount (joint .kind)
   pub is : writtenAs r t i (joint .«body_a») (joint .«body_b») ≡ writeEqualityRows joint a b
+  pub numbered : writtenNumber r ≡ refusalNumber (writeEqualityRows joint a b)
   pub behind : (n : ℕ) → r ≡ Written.Rows n → Kept (λ k. Out i (14 * n) k) s t
   pub cleared : (fault : Fault) → writeEqualityRows joint a b ≡ stop fault → (k : ℕ) → k < 84 → at t (i + k) ≡ ratio 0 1

@@ -10,7 +10,7 @@ ghost use mathlib.Core.Bool.{_&&_};
 ghost use Rattle.arith.specs.Flow.{stop, loop};
 ghost use Rattle.rows.specs.Fault.{arithmeticOverflow, vectorOr, tryFinite};
 ghost use Rattle.rows.specs.Body.{worldCenterOfMassOf, newOf, standing, inverseAngularMassOf, omegaOf, kickOf, anchorOf, placedAt, passOf, integrate, driftOf, originOf, stateOf, sameVec3, sameQuat};
-ghost use Rattle.rows.specs.Answer.{answerOf, passAs, stateAs};
+ghost use Rattle.rows.specs.Answer.{answerOf, BodyAnswered, passAs, StateAnswered};
 
 const MAX_ITERATIONS: usize = 32;
 
@@ -111,7 +111,7 @@ fn standing(body: RigidBody, inverse_inertia: Mat3) -> MomentumBody
 impl MomentumBody {
     // The body of a record. The inverse of its inertia was found before any body is made.
     pub fn new(body: RigidBody, inverse_inertia: Mat3) -> BodyAnswer
-        ensures { λ r. ⌜ r ≡ answerOf (standing body «inverse_inertia») (newOf body «inverse_inertia») ⌝ }
+        ensures { λ r. ⌜ BodyAnswered (standing body «inverse_inertia») (newOf body «inverse_inertia») r ⌝ }
     {
         let rotation = body.rotation;
         let inertia = body.inertia;
@@ -164,7 +164,7 @@ impl MomentumBody {
     }
 
     pub fn kick(self, linear: Vec3, angular: Vec3) -> BodyAnswer
-        ensures { λ r. ⌜ r ≡ answerOf self (kickOf self linear angular) ⌝ }
+        ensures { λ r. ⌜ BodyAnswered self (kickOf self linear angular) r ⌝ }
     {
         let OptionVec3::Some(momentum) = finite(self.momentum.add(linear)) else {
             return self.overflow();
@@ -263,7 +263,7 @@ impl MomentumBody {
     }
 
     pub fn drift(self, dt: f64) -> BodyAnswer
-        ensures { λ r. ⌜ r ≡ answerOf self (driftOf self dt) ⌝ }
+        ensures { λ r. ⌜ BodyAnswered self (driftOf self dt) r ⌝ }
     {
         let OptionVec3::Some(center) = finite(self.center.add(self.momentum.scale(dt / self.mass)))
         else {
@@ -310,7 +310,7 @@ impl MomentumBody {
 
     // The state that the body hands back. The transform keeps its old bits where the new one compares equal.
     pub fn state(self, old: BodyState) -> StateAnswer
-        ensures { λ r. ⌜ stateAs r ≡ stateOf self old ⌝ }
+        ensures { λ r. ⌜ StateAnswered (stateOf self old) r ⌝ }
     {
         let OptionVec3::Some(origin) = self.origin() else {
             return StateAnswer::ArithmeticOverflow;

@@ -27,7 +27,7 @@ use Rattle.rows.specs.Fault.{Fault, arithmeticOverflow, Result}
 use Rattle.rows.specs.Body.{newOf, kickOf, driftOf, stateWith, stateOf}
 use Rattle.rows.specs.AnswerLaws.{answer-is, answer-done, answer-nonconvergent, answer-overflow}
 use Rattle.rows.specs.View.{at, Out, Kept}
-use Rattle.rows.specs.Answer.{answerOf, finishAs, bodyAs}
+use Rattle.rows.specs.Answer.{finishAs, bodyAs, BodyAnswered}
 use Rattle.rows.specs.Region.{tab-length, tab-ext, tab-at, kept-refl, kept-set, kept-then, kept-more}
 use Rattle.rows.specs.Laws.Results.{go-same}
 use Rattle.solves.specs.declared.places.Generalized.{Generalized}
@@ -167,12 +167,12 @@ mass-is body {turned} {a} {b} {f} {g} {h} et ea eb ef eg eh =
     answer t angular = cond (t .some && finiteMat angular && isFinite (ratio 1 1 ⊘ body .mass)) (go (record { linear = ratio 1 1 ⊘ body .mass; angular = angular })) (stop arithmeticOverflow)
 
 -- ---- kick_and_drift
-module _ (dt : Float) (body : MomentumBody) (kick : Generalized) {kicked : BodyAnswer} (e : kicked ≡ answerOf body (kickOf body (kick .linear) (kick .angular))) where
+module _ (dt : Float) (body : MomentumBody) (kick : Generalized) {kicked : BodyAnswer} (e : BodyAnswered body (kickOf body (kick .linear) (kick .angular)) kicked) where
   abbrev drifting : MomentumBody → Result MomentumBody
   drifting b = driftOf b dt
 
-  pub kick-drifts : {r : BodyAnswer} → kicked .outcome ≡ Ends.Done → r ≡ answerOf (kicked .body) (driftOf (kicked .body) dt) → bodyAs r ≡ kickAndDrift dt body kick
-  kick-drifts h q = ap bodyAs q ∙ answer-is (kicked .body) (driftOf (kicked .body) dt) ∙ then-go drifting (answer-done body _ e h)
+  pub kick-drifts : {r : BodyAnswer} → kicked .outcome ≡ Ends.Done → BodyAnswered (kicked .body) (driftOf (kicked .body) dt) r → bodyAs r ≡ kickAndDrift dt body kick
+  kick-drifts h q = ap bodyAs (q .is) ∙ answer-is (kicked .body) (driftOf (kicked .body) dt) ∙ then-go drifting (answer-done body _ e h)
 
   pub kick-nonconvergent : kicked .outcome ≡ Ends.NonConvergent → bodyAs kicked ≡ kickAndDrift dt body kick
   kick-nonconvergent h = ap (λ (o : Finish). finishAs o (kicked .body)) h ∙ then-stop drifting (answer-nonconvergent body _ e h)

@@ -1,4 +1,3 @@
 pub mod Rows
 pub mod Ways
 pub mod MatrixWays
-pub mod Starred

@@ -1,5 +1,5 @@
 -- `body::MomentumBody::drift` meets its contract.
-use Rattle.rows.proofs.BodyLaws.{drift-1, drift-2, drift-3, drift-4, drift-5, lost, pass-as}
+use Rattle.rows.proofs.BodyLaws.{drift-1, drift-2, drift-3, drift-4, drift-5, found, lost, pass-as}
 use Rattle.rows.specs.Answer.{answerOf}
 use Rattle.rows.specs.AnswerLaws.{vector-go, vector-stop}
 use borrow.Author.Needs.{needs}
@@ -28,7 +28,7 @@ overflow-requires c κs = search needs
 returns : tie.Need-returns
 unfolding answerOf
 returns c =
-    lost (c .overflow .ensures) refl
+    lost _ (c .overflow .ensures) refl
     (drift-1 _ _ (c .before .before .before .before .before .scale .ensures) (c .before .before .before .before .add .ensures) (vector-stop (c .before .before .before .finite .ensures) (c .before .enum-told .given .1)))
 
 omega-requires : tie.Need-omega-requires
@@ -46,7 +46,7 @@ overflow-requires-2 c κs = search needs
 returns-2 : tie.Need-returns-2
 returns-2 c =
     let c₆ = c .before .before .before .before .before .before in
-    lost (c .overflow2 .ensures) refl
+    lost _ (c .overflow2 .ensures) refl
     (drift-2 _ _ (c₆ .before .before .before .scale .ensures) (c₆ .before .before .add .ensures) (vector-go (c₆ .before .finite .ensures) (c .before .before .before .before .before .center .given .1)) (vector-stop (c .before .before .before .omega .ensures) (c .before .enum-told2 .given .1)))
 
 passes-requires : tie.Need-passes-requires
@@ -72,14 +72,14 @@ unfolding answerOf
 returns-3 c =
     let c₆ = c .before .before .before .before .before .before in
     let c₁₂ = c₆ .before .before .before .before .before .before in
-    ap (answerOf _)
+    found _ _
     (drift-3 _ _ (c₁₂ .before .before .scale .ensures) (c₁₂ .before .add .ensures) (vector-go (c₆ .before .before .before .before .before .before .finite .ensures) (c₆ .before .before .before .before .center .given .1)) (vector-go (c₆ .before .before .omega .ensures) (c .before .before .before .before .before .before .omega2 .given .1)) (pass-as (c .before .before .before .before .passes .ensures) (c .before .before .rotation .given .1)) (c .turned .ensures))
 
 returns-4 : tie.Need-returns-4
 unfolding answerOf
 returns-4 c =
     let c₆ = c .before .before .before .before .before .before in
-    ap (answerOf _)
+    found _ _
     (drift-4 _ _ (c₆ .before .before .before .before .before .before .scale .ensures) (c₆ .before .before .before .before .before .add .ensures) (vector-go (c₆ .before .before .before .before .finite .ensures) (c₆ .before .before .center .given .1)) (vector-go (c .before .before .before .before .before .before .omega .ensures) (c .before .before .before .before .omega2 .given .1)) (pass-as (c .before .before .passes .ensures) (c .enum-told3 .given .1)))
 
 returns-5 : tie.Need-returns-5
@@ -87,7 +87,7 @@ unfolding answerOf
 returns-5 c =
     let c₆ = c .before .before .before .before .before .before in
     let c₁₂ = c₆ .before .before .before .before .before .before in
-    lost (c .overflow3 .ensures) refl
+    lost _ (c .overflow3 .ensures) refl
     (drift-5 _ _ (c₁₂ .before .scale .ensures) (c₆ .before .before .before .before .before .before .add .ensures) (vector-go (c₆ .before .before .before .before .before .finite .ensures) (c₆ .before .before .before .center .given .1)) (vector-go (c₆ .before .omega .ensures) (c .before .before .before .before .before .omega2 .given .1)) (pass-as (c .before .before .before .passes .ensures) (c .before .enum-told4 .given .1)))
 
 pub drift-spec : {M : Type 1} → statement M

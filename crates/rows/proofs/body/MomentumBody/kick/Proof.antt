@@ -1,5 +1,5 @@
 -- `body::MomentumBody::kick` meets its contract.
-use Rattle.rows.proofs.BodyLaws.{kick-1, kick-2, kick-3, lost}
+use Rattle.rows.proofs.BodyLaws.{kick-1, kick-2, kick-3, found, lost}
 use Rattle.rows.specs.Answer.{answerOf}
 use Rattle.rows.specs.AnswerLaws.{vector-go, vector-stop}
 use borrow.Author.Needs.{needs}
@@ -25,7 +25,7 @@ overflow-requires c κs = search needs
 returns : tie.Need-returns
 unfolding answerOf
 returns c =
-    lost (c .overflow .ensures) refl
+    lost _ (c .overflow .ensures) refl
     (kick-1 _ _ _ (c .before .before .before .before .add .ensures) (vector-stop (c .before .before .before .finite .ensures) (c .before .enum-told .given .1)))
 
 add-requires-2 : tie.Need-add-requires-2
@@ -46,14 +46,14 @@ overflow-requires-2 c κs = search needs
 returns-2 : tie.Need-returns-2
 returns-2 c =
     let c₆ = c .before .before .before .before .before .before in
-    lost (c .overflow2 .ensures) refl
+    lost _ (c .overflow2 .ensures) refl
     (kick-2 _ _ _ (c₆ .before .before .before .add .ensures) (vector-go (c₆ .before .before .finite .ensures) (c .before .before .before .before .before .before .momentum .given .1)) (c .before .before .before .before .add2 .ensures) (vector-stop (c .before .before .before .finite2 .ensures) (c .before .enum-told2 .given .1)))
 
 returns-3 : tie.Need-returns-3
 unfolding answerOf
 returns-3 c =
     let c₆ = c .before .before .before .before .before .before in
-    ap (answerOf _)
+    found _ _
     (kick-3 _ _ _ (c₆ .before .before .before .add .ensures) (vector-go (c₆ .before .before .finite .ensures) (c .before .before .before .before .before .before .momentum .given .1)) (c .before .before .before .before .add2 .ensures) (vector-go (c .before .before .before .finite2 .ensures) (c .before .spin .given .1)))
 
 pub kick-spec : {M : Type 1} → statement M

@@ -1,5 +1,5 @@
 -- `body::MomentumBody::new` meets its contract.
-use Rattle.rows.proofs.BodyLaws.{lost, new-1, new-2, new-3, new-4, new-5}
+use Rattle.rows.proofs.BodyLaws.{found, lost, new-1, new-2, new-3, new-4, new-5}
 use Rattle.rows.specs.Answer.{answerOf}
 use Rattle.rows.specs.AnswerLaws.{none-stop, some-go, vector-go, vector-stop}
 use Rattle.rows.specs.Fault.{arithmeticOverflow}
@@ -29,7 +29,7 @@ overflow-requires c κs = search needs
 returns : tie.Need-returns
 unfolding answerOf
 returns c =
-    lost (c .overflow .ensures) (c .before .standing .ensures)
+    lost _ (c .overflow .ensures) (c .before .standing .ensures)
     (new-1 _ _ (c .before .before .before .before .before .conjugate .ensures) (none-stop arithmeticOverflow (c .before .before .before .before .rotate-vector .ensures) (c .before .before .enum-told .given .1)))
 
 apply-requires : tie.Need-apply-requires
@@ -53,7 +53,7 @@ overflow-requires-2 c κs = search needs
 returns-2 : tie.Need-returns-2
 returns-2 c =
     let c₆ = c .before .before .before .before .before .before in
-    lost (c .overflow2 .ensures)
+    lost _ (c .overflow2 .ensures)
     (c .before .standing2 .ensures)
     (new-2 _ _ (c₆ .before .before .before .before .conjugate .ensures) (some-go arithmeticOverflow (c₆ .before .before .before .rotate-vector .ensures) (c₆ .before .local .given .1)) (c .before .before .before .before .before .apply .ensures) (none-stop arithmeticOverflow (c .before .before .before .before .rotate-vector2 .ensures) (c .before .before .enum-told2 .given .1)))
 
@@ -80,7 +80,7 @@ unfolding answerOf
 returns-3 c =
     let c₆ = c .before .before .before .before .before .before in
     let c₁₂ = c₆ .before .before .before .before .before .before in
-    lost (c .overflow3 .ensures)
+    lost _ (c .overflow3 .ensures)
     (c .before .standing3 .ensures)
     (new-3 _ _ (c₁₂ .before .before .before .conjugate .ensures) (some-go arithmeticOverflow (c₁₂ .before .before .rotate-vector .ensures) (c₆ .before .before .before .before .before .before .local .given .1)) (c₆ .before .before .before .before .apply .ensures) (some-go arithmeticOverflow (c₆ .before .before .before .rotate-vector2 .ensures) (c₆ .before .spin .given .1)) (c .before .before .before .before .before .scale .ensures) (vector-stop (c .before .before .before .before .finite .ensures) (c .before .before .enum-told3 .given .1)))
 
@@ -105,7 +105,7 @@ returns-4 c =
     let c₆ = c .before .before .before .before .before .before in
     let c₁₂ = c₆ .before .before .before .before .before .before in
     let c₁₈ = c₁₂ .before .before .before .before .before .before in
-    lost (c .overflow4 .ensures)
+    lost _ (c .overflow4 .ensures)
     (c .before .standing4 .ensures)
     (new-4 _ _ (c₁₈ .before .conjugate .ensures) (some-go arithmeticOverflow (c₁₂ .before .before .before .before .before .before .rotate-vector .ensures) (c₁₂ .before .before .before .before .local .given .1)) (c₁₂ .before .before .apply .ensures) (some-go arithmeticOverflow (c₁₂ .before .rotate-vector2 .ensures) (c₆ .before .before .before .before .before .spin .given .1)) (c₆ .before .before .before .scale .ensures) (vector-go (c₆ .before .before .finite .ensures) (c .before .before .before .before .before .before .momentum .given .1)) (vector-stop (c .before .before .before .before .world-center-of-mass .ensures) (c .before .before .enum-told4 .given .1)))
 
@@ -115,7 +115,7 @@ returns-5 c =
     let c₆ = c .before .before .before .before .before .before in
     let c₁₂ = c₆ .before .before .before .before .before .before in
     let c₁₈ = c₁₂ .before .before .before .before .before .before in
-    ap (answerOf _)
+    found _ _
     (new-5 _ _ (c₁₈ .before .conjugate .ensures) (some-go arithmeticOverflow (c₁₂ .before .before .before .before .before .before .rotate-vector .ensures) (c₁₂ .before .before .before .before .local .given .1)) (c₁₂ .before .before .apply .ensures) (some-go arithmeticOverflow (c₁₂ .before .rotate-vector2 .ensures) (c₆ .before .before .before .before .before .spin .given .1)) (c₆ .before .before .before .scale .ensures) (vector-go (c₆ .before .before .finite .ensures) (c .before .before .before .before .before .before .momentum .given .1)) (vector-go (c .before .before .before .before .world-center-of-mass .ensures) (c .before .before .center .given .1)))
 
 pub new-spec : {M : Type 1} → statement M
