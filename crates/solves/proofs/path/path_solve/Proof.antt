@@ -26,7 +26,7 @@ new-requires : tie.Need-new-requires
 new-requires c κs = search needs
 
 returns : tie.Need-returns
-returns c = new-path (vecAt (now (c .before .before .before .before .before .args .s)) SOLUTION (c .before .before .before .before .before .args .n)) (c .new .ensures) (omega arith) (path-declined (c .before .before .before .before .before .pre) (order-no (c .before .before .before .path-order .result) (c .before .before .before .path-order .ensures .0) (not-yes _ (c .before .if1 .taken)))) (λ _. refl)
+returns c = new-path (vecAt (now (c .before .before .before .before .before .args .s)) SOLUTION (c .before .before .before .before .before .args .n)) (c .new .ensures) (omega arith) (path-declined (c .before .before .before .before .before .pre) (order-no (c .before .before .before .path-order .result) (c .before .before .before .path-order .ensures .0) (not-yes _ (c .before .if1 .taken)))) (λ _. (refl, refl))
 
 path-factored-requires : tie.Need-path-factored-requires
 path-factored-requires c κs = (c .before .before .before .before .before .before .before .before .pre, c .before .before .before .before .before .before .path-order .ensures .1 (not-no _ (c .before .before .before .before .if1 .left)) .1)
