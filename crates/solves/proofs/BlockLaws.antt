@@ -1,17 +1,17 @@
 -- The path's integers: blocks, edges, the walk and the order, from arrays to lists.
-use Prim.Native.Nat.{ℕ, zero, suc, _+_, _*_, _-_, _≤_, _<_, min}
+use Prim.Native.Nat.{ℕ, zero, suc, _+_, _*_, _-_, _≤_, _<_}
 use mathlib.Core.Path.{_≡_, refl, sym, _∙_, ap, subst}
 use mathlib.Core.Bool.{Bool, true, false, cond, not, _&&_, _||_}
 use mathlib.Core.List.{List, [], _∷_, _++_, append-assoc, append-nil}
 use native.Mathlib.Numerals.{add-one}
 use native.Mathlib.Omega.{arith}
 use native.Mathlib.Decide.{ℕ-discrete, decLt}
-use borrow.Author.Tests.{eq-eqb, ne-eqb, eqb-true, eqb-false}
+use borrow.Author.Tests.{eq-eqb, ne-eqb}
 use lib.Dec.{eqb}
 use lib.ListN.{length, getD, set, replicate, length-set, length-replicate, getD-replicate, List·getD-eq-default}
 use lib.Seq.{getD-set-same, getD-set-other}
 use Rattle.arith.specs.Flow.{Turn, go, stop, _>>=_, turns, tab, loop, returnIf}
-use Rattle.arith.specs.FlowLaws.{turns-none, turns-more, turns-end, then-go, then-stop, loop-none, loop-more, loop-stop, loop-end, cond-yes, cond-no}
+use Rattle.arith.specs.FlowLaws.{turns-none, turns-more, then-go, then-stop, loop-none, loop-more, loop-stop, loop-end, cond-yes, cond-no}
 use Rattle.rows.specs.Region.{tab-length, tab-ext, tab-at, tab-more}
 use Rattle.solves.specs.declared.path.Blocks.{Blocks}
 use Rattle.solves.specs.declared.path.Order.{Order}

@@ -1,38 +1,35 @@
 -- The solves of the path's factor, a refinement, and the path's solve as a whole.
-use Prim.Native.Nat.{ℕ, zero, suc, _+_, _*_, _-_, _≤_, _<_, _^_, min}
-use mathlib.Core.Path.{_≡_, refl, sym, _∙_, ap, subst}
+use Prim.Native.Nat.{ℕ, _+_, _*_, _-_, _≤_, _<_, _^_, min}
+use mathlib.Core.Path.{_≡_, refl, sym, _∙_, ap}
 use mathlib.Core.Bool.{Bool, true, false, cond}
 use mathlib.Core.List.{List, [], _∷_, _++_}
 use native.Mathlib.Omega.{arith}
-use lib.ListN.{length, getD, set, replicate, length-set, length-replicate, getD-replicate}
-use lib.Seq.{getD-set-same}
-use lib.Ieee as Ieee
-use lib.Ieee.{Float, nan, binary64}
+use lib.ListN.{length, getD, set, replicate, length-replicate, getD-replicate}
+use lib.Ieee.{Float}
 use Rattle.arith.specs.Real.{ratio, _⊕_, _⊖_, _⊗_, _⊘_}
-use Rattle.arith.specs.Flow.{Turn, go, stop, _>>=_, turns, tab, loop, returnIf}
+use Rattle.arith.specs.Flow.{Turn, go, stop, turns, tab, loop}
 use Rattle.arith.specs.FlowLaws.{turns-none, turns-more, turns-end, then-go, then-stop, loop-none, loop-more, loop-stop, loop-end, cond-yes, cond-no}
 use Rattle.rows.specs.declared.geometry.EqualityRow.{EqualityRow}
 use Rattle.rows.specs.Fault.{Fault, nonConvergent, arithmeticOverflow, Result, try}
 use Rattle.rows.specs.View.{at, Out, Kept}
 use Rattle.rows.specs.Region.{tab-length, tab-ext, tab-at, is-tab, kept-refl, kept-then, kept-more, kept-set}
 use Rattle.solves.specs.declared.places.MassResponse.{MassResponse}
-use Rattle.solves.specs.declared.gradients.Test.{Test}
 use Rattle.solves.specs.Region.{vecAt, Filled, Does}
 use Rattle.solves.specs.RegionLaws.{vec-at, vec-in, kept-vec, vec-set, vec-more, filled-vec}
 use Rattle.solves.specs.Solver.{rowIn, noRow, operator, difference, within, toleranceFor, Solve, after, spent, leastSquares, gradients}
-use Rattle.solves.specs.Path.{index, cell, bandStart, Factor, forwardSum, forwardTurn, forward, backwardSum, Back, backwardTurn, backward, Refined, refine, refinement, pathOrder, pathFactored, Ending, declined, ended, pathAlong, pathOn, pathSolve, orElse, linearSolve}
+use Rattle.solves.specs.Path.{index, cell, Factor, forwardSum, forwardTurn, forward, backwardSum, Back, backwardTurn, backward, Refined, refine, refinement, pathOrder, pathFactored, Ending, declined, ended, pathAlong, pathOn, pathSolve, orElse, linearSolve}
 use Rattle.solves.specs.declared.End.{End}
 use Rattle.solves.specs.declared.End.the-variants as Ends
 use Rattle.solves.specs.declared.path.PathOrder.{PathOrder}
 use Rattle.solves.specs.declared.Ended.{Ended}
-use Rattle.solves.specs.Answer.{ranAs, partAs, orderAs, endAs, endedWith, solveAs, resultNumber, endNumber, Solves}
-use Rattle.solves.specs.View.{rowOn, rowsOn, massesAt, listAt, bandAt, factorAt, refinedAt, Along, Passing, Factoring, Refining, Rows, Shares, Work, MASSES, RHS, SOLUTION, RESIDUAL, PRODUCT, PATH-BAND, PATH-SCALE, PATH-RHS, DIAGONAL}
-use Rattle.solves.specs.DoesLaws.{goes-on, returns-if, try-go, try-stop}
+use Rattle.solves.specs.Answer.{orderAs, endAs, endedWith, solveAs, resultNumber, endNumber, Solves}
+use Rattle.solves.specs.View.{rowOn, rowsOn, massesAt, listAt, bandAt, factorAt, refinedAt, Along, Factoring, Refining, Rows, Work, MASSES, RHS, SOLUTION, RESIDUAL, PRODUCT, PATH-BAND, PATH-SCALE, PATH-RHS, DIAGONAL}
+use Rattle.solves.specs.DoesLaws.{goes-on, returns-if}
 use Rattle.solves.specs.ViewLaws.{kept-rows, kept-masses}
 use Rattle.solves.proofs.OperatorLaws.{Moves}
 use Rattle.solves.proofs.SearchLaws.{first-go, first-stop, new-ended}
 use Rattle.solves.proofs.BlockLaws.{list-at}
-use Rattle.solves.proofs.FactorLaws.{cell-at, cell-first, from-turn, from-none}
+use Rattle.solves.proofs.FactorLaws.{cell-at, cell-first, from-turn}
 
 -- forward_sum
 abbrev pub forwardPart : List Float → List Float → ℕ → ℕ → Float → Float

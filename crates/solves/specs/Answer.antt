@@ -5,7 +5,7 @@ use mathlib.Core.Bool.{Bool, true, false, cond}
 use mathlib.Core.List.{List}
 use lib.Ieee.{Float}
 use Rattle.arith.specs.Flow.{Turn, go, stop}
-use Rattle.rows.specs.Fault.{nonConvergent, arithmeticOverflow, number, Result, try}
+use Rattle.rows.specs.Fault.{nonConvergent, arithmeticOverflow, number, Result}
 use Rattle.solves.specs.declared.Sum.{Sum}
 use Rattle.solves.specs.declared.Sum.the-variants as Sums
 use Rattle.solves.specs.declared.Outcome.{Outcome}
@@ -110,10 +110,6 @@ resultNumber (stop fault) = number fault
 abbrev pub outcomeNumber : Outcome → ℕ
 outcomeNumber Outcomes.Done = 0
 outcomeNumber Outcomes.ArithmeticOverflow = number arithmeticOverflow
-
-abbrev pub sumNumber : Sum → ℕ
-sumNumber (Sums.Value x) = 0
-sumNumber Sums.ArithmeticOverflow = number arithmeticOverflow
 
 -- `Declined` has none: a linear solve never answers it
 abbrev pub endNumber : End → Turn ℕ (Unit {0})

@@ -1,16 +1,15 @@
 -- How what functions do composes: `?` after a call, and the frames with it. From an answer's case to the definition's result.
-use Prim.Native.Nat.{ℕ, _≤_, _<_}
-use mathlib.Core.Path.{_≡_, refl, sym, _∙_, ap}
-use mathlib.Core.Bool.{Bool, true, false, cond}
+use Prim.Native.Nat.{ℕ}
+use mathlib.Core.Path.{_≡_, sym, _∙_, ap}
+use mathlib.Core.Bool.{Bool, true, false}
 use mathlib.Core.List.{List}
 use lib.Ieee.{Float}
 use Rattle.arith.specs.Real.{isFinite}
-use Rattle.arith.specs.Flow.{Turn, go, stop, _>>=_, returnIf}
+use Rattle.arith.specs.Flow.{go, stop, _>>=_, returnIf}
 use Rattle.arith.specs.FlowLaws.{then-go, then-stop}
 use Rattle.vectors.specs.declared.vector.Vec3.{Vec3}
 use Rattle.vectors.specs.Vector.{finiteOf}
 use Rattle.rows.specs.Fault.{Fault, arithmeticOverflow, number, Result, tryFinite, try}
-use Rattle.rows.specs.View.{Kept}
 use Rattle.rows.specs.Region.{kept-then, kept-more}
 use Rattle.solves.specs.declared.places.Generalized.{Generalized}
 use Rattle.solves.specs.declared.Sum.{Sum}

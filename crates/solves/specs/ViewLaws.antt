@@ -15,7 +15,7 @@ use Rattle.solves.specs.declared.places.Generalized.{Generalized}
 use Rattle.solves.specs.declared.places.MassResponse.{MassResponse}
 use Rattle.solves.specs.Region.{Filled}
 use Rattle.solves.specs.Solver.{noShare, noRow, noGeneralized, noMass, rowIn, generalizedIn, massIn}
-use Rattle.solves.specs.View.{rowOn, rowsOn, generalizedAt, generalizedsAt, massAt, massesAt, Work, Tables, SOLUTION, RESIDUAL, DIRECTION, PRODUCT, DIAGONAL, NORMAL, GENERALIZED, PATH-BAND, PATH-SCALE, PATH-RHS}
+use Rattle.solves.specs.View.{rowOn, rowsOn, generalizedAt, generalizedsAt, massAt, massesAt, Work, Tables, SOLUTION, RESIDUAL, DIRECTION, PRODUCT, DIAGONAL, NORMAL, GENERALIZED, PATH-BAND, PATH-SCALE}
 
 -- views that a write keeps, and elements of them
 module _ {P : ℕ → Type 0} {s t : List Float} (kept : Kept P s t) where

@@ -1,11 +1,8 @@
 use native.Mathlib.Omega.{arith}
 use borrow.Author.Needs.{needs}
-use mathlib.Core.Path.{_≡_, refl, sym, ap, _∙_}
-use Prim.Native.Nat.{_+_, _*_, _≤_, _<_, _-_}
-use lib.ListN.{length, length-set}
-use denote.Ref.{now}
+use mathlib.Core.Path.{_∙_}
+use lib.ListN.{length}
 use Rattle.solves.proofs.OperatorLaws.{rows-kept, operator-1, operator-2, operator-3}
-use borrow.Author.Needs.{needs}
 use Rattle.solves.proofs.operator.operator.Statement.{statement}
 use Rattle.solves.proofs.operator.operator.Tie as tie
 

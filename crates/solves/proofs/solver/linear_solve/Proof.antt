@@ -1,9 +1,7 @@
 use native.Mathlib.Omega.{arith}
 use borrow.Author.Needs.{needs}
-use mathlib.Core.Path.{_≡_, refl, sym, ap, _∙_}
-use Prim.Native.Nat.{_+_, _*_, _≤_, _<_, _-_}
-use lib.ListN.{length, length-set}
-use denote.Ref.{now}
+use mathlib.Core.Path.{_∙_}
+use lib.ListN.{length}
 use Rattle.solves.specs.declared.End.{End}
 use Rattle.solves.specs.Answer.{endAs}
 use Rattle.solves.specs.Region.{vecAt}
@@ -11,7 +9,6 @@ use Rattle.solves.specs.View.{SOLUTION}
 use Rattle.solves.specs.DoesLaws.{does-as}
 use Rattle.solves.proofs.OperatorLaws.{rows-kept}
 use Rattle.solves.proofs.RefineLaws.{solved-as, does-eq, linear-least, linear-path, linear-gradients, solves-so}
-use borrow.Author.Needs.{needs}
 use Rattle.solves.proofs.solver.linear_solve.Statement.{statement}
 use Rattle.solves.proofs.solver.linear_solve.Tie as tie
 
