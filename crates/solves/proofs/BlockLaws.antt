@@ -1,24 +1,24 @@
 -- The path's integers: blocks, edges, the walk and the order, from arrays to lists.
-use Prim.Native.Nat.{ℕ, zero, suc, _+_, _*_, _-_, _≤_, _<_, min}
+use Prim.Native.Nat.{ℕ, zero, suc, _+_, _*_, _-_, _≤_, _<_}
 use mathlib.Core.Path.{_≡_, refl, sym, _∙_, ap, subst}
 use mathlib.Core.Bool.{Bool, true, false, cond, not, _&&_, _||_}
 use mathlib.Core.List.{List, [], _∷_, _++_, append-assoc, append-nil}
 use native.Mathlib.Numerals.{add-one}
 use native.Mathlib.Omega.{arith}
 use native.Mathlib.Decide.{ℕ-discrete, decLt}
-use borrow.Author.Tests.{eq-eqb, ne-eqb, eqb-true, eqb-false}
+use borrow.Author.Tests.{eq-eqb, ne-eqb}
 use lib.Dec.{eqb}
 use lib.ListN.{length, getD, set, replicate, length-set, length-replicate, getD-replicate, List·getD-eq-default}
 use lib.Seq.{getD-set-same, getD-set-other}
 use Rattle.arith.specs.Flow.{Turn, go, stop, _>>=_, turns, tab, loop, returnIf}
-use Rattle.arith.specs.FlowLaws.{turns-none, turns-more, turns-end, then-go, then-stop, loop-none, loop-more, loop-stop, loop-end, cond-yes, cond-no}
+use Rattle.arith.specs.FlowLaws.{turns-none, turns-more, then-go, then-stop, loop-none, loop-more, loop-stop, loop-end, cond-yes, cond-no}
 use Rattle.rows.specs.Region.{tab-length, tab-ext, tab-at, tab-more}
 use Rattle.solves.specs.declared.path.Blocks.{Blocks}
 use Rattle.solves.specs.declared.path.Order.{Order}
 use Rattle.solves.specs.declared.path.PathOrder.{PathOrder}
 use Rattle.solves.specs.Path.{index, none, begins, startTurn, pathStarts, addEdge, blockEdges, pathEdges, neighbor, follows, nextBlock, Seen, Walk, run, walkTurn, walked, walk, walkFrom, isEnd, pathWalks, pathOrder}
 use Rattle.solves.specs.Answer.{edgesAs, seenAs, orderAs, orderIn}
-use Rattle.solves.specs.View.{listAt, startsOf, rowsOf, sizeOf, Blocked, Linked, Linking, room, orderOf, seenOf, Listed, Free, Along}
+use Rattle.solves.specs.View.{listAt, startsOf, rowsOf, sizeOf, Blocked, Linked, Linking, room, orderOf, seenOf, Listed, Free, Along, Blank, noPath}
 use Rattle.solves.specs.DoesLaws.{goes-on, returns-if}
 
 -- an element of the first n
@@ -340,7 +340,11 @@ append-more {order} {from} {to} {i} {out} inv h l m = record {
   count = omega (arith, inv .count);
   is = list-more (out .rows) (out .count) i (omega (arith, inv .size, inv .count)) ∙ ap (λ (x : List ℕ). x ++ (i ∷ [])) (inv .is) ∙ append-assoc (orderOf order) (run from i) (i ∷ [])
       ∙ ap (λ (x : List ℕ). orderOf order ++ x) (sym (run-more from i h));
-  listed = λ n q k. record { size = length-set (out .rows) (out .count) i ∙ inv .size; rows = λ j r. by n q (inv .listed n q k) j r (ℕ-discrete j (out .count)) };
+  listed = λ n q k. record {
+    size = length-set (out .rows) (out .count) i ∙ inv .size;
+    rows = λ j r. by n q (inv .listed n q k) j r (ℕ-discrete j (out .count));
+    blank = λ j r m. getD-set-other (out .rows) (out .count) j i 0 (λ e. omega arith) ∙ inv .listed n q k .blank j (omega arith) m;
+  };
 }
   where
     by : (n : ℕ) → to ≤ n → Listed out n → (j : ℕ) → j < out .count + 1 → Dec (j ≡ out .count) → getD (set (out .rows) (out .count) i) j 0 < n
@@ -562,7 +566,11 @@ module _ {ia ib : List ℕ} {blocks : Blocks} (pre : Blocked ia ib blocks) {edge
     free = record {
       size = length-replicate {A = Bool} 96 false;
       left = omega (arith, room-none pre (blocks .count) (omega arith), pre .most);
-      listed = record { size = length-replicate {A = ℕ} 96 0; rows = λ i h. absurd (omega arith) };
+      listed = record {
+        size = length-replicate {A = ℕ} 96 0;
+        rows = λ i h. absurd (omega arith);
+        blank = λ i h m. getD-replicate {A = ℕ} 96 i 0 0 m;
+      };
     };
   }
 
@@ -646,5 +654,18 @@ module _ (ia ib : List ℕ) (n : ℕ) {blocks : Blocks} (made : (Blocked ia ib b
     pub order-short : (w .order .count ≡ n → ⊥) → stop tt ≡ pathOrder A₂ B₂ n
     order-short h = finish-none n (w .order) (w .found) h ∙ walked-is
 
-  pub order-along : {order : Order} → order .count ≡ n → Listed order (rowsOf blocks) → (order .count ≡ n) × (Along (order .rows) n)
-  order-along {order} h l = (h, λ i q. subst (λ (m : ℕ). getD (order .rows) i 0 < m) (made .1) (l .rows i (omega arith)))
+    pub order-lost : w .found ≡ false → stop tt ≡ pathOrder A₂ B₂ n
+    unfolding finish
+    order-lost h = ap (finish n) (cond-no _ _ h) ∙ walked-is
+
+  pub order-along : {order : Order} → order .count ≡ n → Listed order (rowsOf blocks) → (order .count ≡ n) × (Along (order .rows) n) × (Blank (order .rows) n)
+  order-along {order} h l = (
+    h,
+    λ i q. subst (λ (m : ℕ). getD (order .rows) i 0 < m) (made .1) (l .rows i (omega arith)),
+    λ i q m. l .blank i (omega arith) m,
+  )
+
+-- no path is the answer
+pub no-path-is : {r : PathOrder} {n : ℕ} {d : Turn (List ℕ) (Unit {0})} → r ≡ noPath → stop tt ≡ d
+    → (orderAs r ≡ d) × (r .found ≡ true → (r .order .count ≡ n) × (Along (r .order .rows) n) × (Blank (r .order .rows) n)) × (r .found ≡ false → r ≡ noPath)
+no-path-is h e = (ap orderAs h ∙ e, λ f. absurd (false-true (sym (ap (λ (x : PathOrder). x .found) h) ∙ f)), λ _. h)

@@ -1,32 +1,32 @@
 -- The path's factor: scales, entries, rows and the band, from the scratch to the definitions over lists.
-use Prim.Native.Nat.{ℕ, zero, suc, _+_, _*_, _-_, _≤_, _<_, min}
-use mathlib.Core.Path.{_≡_, refl, sym, _∙_, ap, subst}
+use Prim.Native.Nat.{ℕ, zero, _+_, _*_, _-_, _≤_, _<_}
+use mathlib.Core.Path.{_≡_, refl, sym, _∙_, ap}
 use mathlib.Core.Bool.{Bool, true, false, cond, not, _||_}
-use mathlib.Core.List.{List, [], _∷_, _++_}
+use mathlib.Core.List.{List}
 use native.Mathlib.Omega.{arith}
 use borrow.Author.Tests.{eq-eqb, ne-eqb}
 use lib.Dec.{eqb}
-use lib.ListN.{length, getD, set, replicate, length-set, length-replicate, getD-replicate}
+use lib.ListN.{length, getD, set, replicate, length-replicate, getD-replicate}
 use lib.Ieee as Ieee
-use lib.Ieee.{Float, nan, binary64}
+use lib.Ieee.{Float, binary64}
 use Rattle.arith.specs.Real.{ratio, isFinite, _⊖_, _⊗_, _⊘_}
 use Rattle.arith.specs.Root.{sqrt}
-use Rattle.arith.specs.Flow.{Turn, go, stop, _>>=_, turns, tab, loop, each, returnIf}
-use Rattle.arith.specs.FlowLaws.{turns-none, turns-more, turns-end, then-go, then-stop, loop-none, loop-more, loop-stop, loop-end, each-none, each-more, each-stop, each-end, cond-yes, cond-no}
+use Rattle.arith.specs.Flow.{go, stop, turns, tab, loop, each}
+use Rattle.arith.specs.FlowLaws.{turns-none, turns-more, then-go, then-stop, loop-none, loop-more, loop-stop, loop-end, each-none, each-more, each-stop, each-end, cond-yes, cond-no}
 use Rattle.rows.specs.declared.geometry.EqualityRow.{EqualityRow}
 use Rattle.rows.specs.Fault.{Fault, nonConvergent, arithmeticOverflow, Result}
 use Rattle.rows.specs.View.{at, Out, Kept}
-use Rattle.rows.specs.Region.{tab-length, tab-ext, is-tab, kept-refl, kept-then, kept-more, kept-set}
+use Rattle.rows.specs.Region.{is-tab, kept-refl, kept-then, kept-more, kept-set}
 use Rattle.solves.specs.declared.places.MassResponse.{MassResponse}
 use Rattle.solves.specs.declared.Part.{Part}
 use Rattle.solves.specs.declared.Part.the-variants as Parts
 use Rattle.solves.specs.Region.{vecAt, Filled, Does}
-use Rattle.solves.specs.RegionLaws.{vec-at, vec-in, kept-vec, vec-set, vec-more, filled-vec}
+use Rattle.solves.specs.RegionLaws.{vec-at, kept-vec, vec-set, vec-more, filled-vec}
 use Rattle.solves.specs.Solver.{rowIn, crossMass}
-use Rattle.solves.specs.Path.{index, cell, bandStart, reduced, Factor, rowOf, scaleAt, pathScale, pathEntry, pathRow, pathFactor, pathFactored}
+use Rattle.solves.specs.Path.{cell, reduced, Factor, rowOf, scaleAt, pathScale, pathEntry, pathRow, pathFactor, pathFactored}
 use Rattle.solves.specs.Answer.{partAs}
 use Rattle.solves.specs.View.{rowOn, rowsOn, massesAt, listAt, bandAt, factorAt, Along, Factoring, Rows, MASSES, PATH-BAND, PATH-SCALE}
-use Rattle.solves.specs.DoesLaws.{goes-on, returns-if, does-as}
+use Rattle.solves.specs.DoesLaws.{goes-on, returns-if}
 use Rattle.solves.specs.ViewLaws.{kept-rows, kept-masses, row-in}
 use Rattle.solves.proofs.BlockLaws.{list-at}
 

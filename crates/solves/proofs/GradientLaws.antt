@@ -1,7 +1,7 @@
 -- The conjugate gradients: the test of a residual, the diagonal, and a pass in its two halves; then what stands before the loop.
 use Prim.Native.Nat.{ℕ, _+_, _*_, _-_, _≤_, _<_, _^_}
 use mathlib.Core.Path.{_≡_, refl, sym, _∙_, ap}
-use mathlib.Core.Bool.{Bool, true, false, cond, not, _||_}
+use mathlib.Core.Bool.{Bool, true, false, not, _||_}
 use mathlib.Core.List.{List, [], _∷_, _++_}
 use native.Mathlib.Omega.{arith}
 use lib.ListN.{length, set}
@@ -9,26 +9,24 @@ use lib.Ieee as Ieee
 use lib.Ieee.{Float, binary64}
 use Rattle.arith.specs.Real.{ratio, isFinite, _⊕_, _⊗_, _⊘_}
 use Rattle.arith.specs.Root.{sqrt}
-use Rattle.arith.specs.Flow.{Turn, go, stop, _>>=_, returnIf, turns, loop, tab}
+use Rattle.arith.specs.Flow.{Turn, go, stop, turns, loop, tab}
 use Rattle.arith.specs.FlowLaws.{turns-more, turns-end, then-go, then-stop, loop-none, loop-more, loop-stop, loop-end}
 use Rattle.vectors.specs.declared.vector.Vec3.{Vec3}
 use Rattle.vectors.specs.Vector.{dotOf}
 use Rattle.vectors.specs.Matrix.{applyOf}
 use Rattle.rows.specs.declared.geometry.EqualityRow.{EqualityRow}
-use Rattle.rows.specs.Fault.{Fault, nonConvergent, arithmeticOverflow, Result, try}
+use Rattle.rows.specs.Fault.{nonConvergent, arithmeticOverflow, Result, try}
 use Rattle.rows.specs.View.{at, Out, Kept}
 use Rattle.rows.specs.Region.{tab-length, tab-ext, kept-refl, kept-then, kept-more, kept-set}
 use Rattle.solves.specs.declared.places.MassResponse.{MassResponse}
 use Rattle.solves.specs.declared.gradients.Test.{Test}
 use Rattle.solves.specs.declared.gradients.Test.the-variants as Tests
-use Rattle.solves.specs.declared.Part.{Part}
-use Rattle.solves.specs.declared.Part.the-variants as Parts
 use Rattle.solves.specs.declared.Step.{Step}
 use Rattle.solves.specs.Region.{vecAt, Filled, Does}
 use Rattle.solves.specs.RegionLaws.{vec-at, vec-in, kept-vec, vec-more, filled-vec, filled-more}
-use Rattle.solves.specs.Solver.{rowIn, massIn, dot, operator, plus, minus, difference, within, toleranceFor, Search, Solve, after, spent, search, diagonalOf, Prepared, prepareRow, prepare, trueResidual, scaledSquare, nextDirection, advance, settle, gradientPass, gradients}
+use Rattle.solves.specs.Solver.{rowIn, massIn, dot, operator, plus, minus, difference, within, toleranceFor, Search, spent, search, diagonalOf, Prepared, prepareRow, prepare, trueResidual, scaledSquare, nextDirection, advance, settle, gradientPass, gradients}
 use Rattle.solves.specs.Path.{Ending, ended}
-use Rattle.solves.specs.Answer.{passAs, testAs, trueAs, partAs}
+use Rattle.solves.specs.Answer.{passAs, testAs, trueAs}
 use Rattle.solves.specs.View.{rowOn, rowsOn, massAt, massesAt, searchAt, preparedAt, Rows, Shares, Passing, Work, MASSES, RHS, SOLUTION, RESIDUAL, DIRECTION, PRODUCT, DIAGONAL}
 use Rattle.solves.specs.DoesLaws.{goes-on, returns-if, try-go, try-stop}
 use Rattle.solves.specs.ViewLaws.{kept-rows, kept-masses, row-in, mass-in}
@@ -116,9 +114,6 @@ module _ {z : List Float} {ia ib : List ℕ} {rows n count : ℕ} (pre : Rows z 
 
     abbrev D : Float
     D = diagonalOf (rowIn R k) (massIn M (rowIn R k .a)) (massIn M (rowIn R k .b))
-
-    bad : Bool → Type 0
-    bad b = not (isFinite D) || Ieee.le D (ratio 0 1) ≡ b
 
     wild : not f ≡ true → not (isFinite D) || Ieee.le D (ratio 0 1) ≡ true
     wild q = either _ (sym (ap not (ef ∙ ap isFinite d-is)) ∙ q)

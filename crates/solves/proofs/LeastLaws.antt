@@ -1,25 +1,25 @@
 -- least_squares: a pass is five writes, with the views between them; then the loop, and what stands before it.
-use Prim.Native.Nat.{ℕ, _+_, _*_, _-_, _≤_, _<_, _^_}
+use Prim.Native.Nat.{ℕ, _+_, _*_, _^_}
 use mathlib.Core.Path.{_≡_, refl, sym, _∙_, ap}
-use mathlib.Core.Bool.{Bool, true, false, cond}
+use mathlib.Core.Bool.{true, false}
 use mathlib.Core.List.{List}
 use native.Mathlib.Omega.{arith}
 use lib.ListN.{length}
 use lib.Ieee as Ieee
 use lib.Ieee.{Float, binary64}
-use Rattle.arith.specs.Real.{ratio, _⊕_, _⊗_, _⊘_}
+use Rattle.arith.specs.Real.{ratio, _⊘_}
 use Rattle.arith.specs.Root.{sqrt}
-use Rattle.arith.specs.Flow.{Turn, go, stop, _>>=_, returnIf}
+use Rattle.arith.specs.Flow.{Turn, go, stop, returnIf}
 use Rattle.arith.specs.FlowLaws.{then-go, then-stop}
 use Rattle.rows.specs.declared.geometry.EqualityRow.{EqualityRow}
-use Rattle.rows.specs.Fault.{Fault, nonConvergent, arithmeticOverflow, Result, try}
+use Rattle.rows.specs.Fault.{nonConvergent, arithmeticOverflow, Result, try}
 use Rattle.rows.specs.View.{Out, Kept}
 use Rattle.rows.specs.Region.{tab-length, kept-refl, kept-then, kept-more}
 use Rattle.solves.specs.declared.places.MassResponse.{MassResponse}
 use Rattle.solves.specs.declared.Step.{Step}
 use Rattle.solves.specs.Region.{vecAt, Does}
 use Rattle.solves.specs.RegionLaws.{kept-vec}
-use Rattle.solves.specs.Solver.{dot, operator, plus, minus, toleranceFor, Search, Solve, after, spent, search, leastPass, leastSquares}
+use Rattle.solves.specs.Solver.{dot, operator, plus, minus, toleranceFor, Search, spent, search, leastPass, leastSquares}
 use Rattle.solves.specs.Path.{Ending, ended}
 use Rattle.solves.specs.Answer.{passAs}
 use Rattle.solves.specs.View.{rowOn, rowsOn, massesAt, searchAt, Rows, Shares, Work, MASSES, RHS, SOLUTION, RESIDUAL, DIRECTION, PRODUCT, NORMAL}

@@ -1,15 +1,15 @@
 -- `dot`, `transpose`, `operator` and `cross_mass`: from reads of the scratch to the definitions over lists.
-use Prim.Native.Nat.{ℕ, zero, suc, _+_, _*_, _-_, _≤_, _<_}
+use Prim.Native.Nat.{ℕ, zero, _+_, _*_, _≤_, _<_}
 use mathlib.Core.Path.{_≡_, refl, sym, _∙_, ap, subst}
 use mathlib.Core.Bool.{Bool, true, false, cond}
-use mathlib.Core.List.{List, [], _∷_, _++_}
+use mathlib.Core.List.{List}
 use native.Mathlib.Omega.{arith}
 use lib.Dec.{eqb}
 use borrow.Author.Tests.{eq-eqb, ne-eqb}
-use lib.ListN.{length, getD, set, replicate, length-set}
-use lib.Ieee.{Float, nan}
+use lib.ListN.{length, set, replicate}
+use lib.Ieee.{Float}
 use Rattle.arith.specs.Real.{ratio, isFinite, _⊕_, _⊗_}
-use Rattle.arith.specs.Flow.{Turn, go, stop, _>>=_, turns, tab, loop, add, each}
+use Rattle.arith.specs.Flow.{go, stop, turns, tab, loop, each}
 use Rattle.arith.specs.FlowLaws.{turns-more, cond-no, then-go, then-stop, loop-none, loop-more, loop-stop, loop-end, each-none, each-more, each-stop, each-end}
 use Rattle.vectors.specs.declared.vector.Vec3.{Vec3}
 use Rattle.vectors.specs.Vector.{dotOf}
@@ -17,7 +17,7 @@ use Rattle.vectors.specs.Matrix.{applyOf}
 use Rattle.rows.specs.declared.geometry.EqualityRow.{EqualityRow}
 use Rattle.rows.specs.Fault.{arithmeticOverflow, Result}
 use Rattle.rows.specs.View.{at, Out, Kept}
-use Rattle.rows.specs.Region.{tab-length, tab-ext, tab-at, kept-set, kept-refl, kept-then, kept-more, Over}
+use Rattle.rows.specs.Region.{tab-length, tab-at, kept-set, kept-refl, kept-then, kept-more}
 use Rattle.solves.specs.declared.places.Generalized.{Generalized}
 use Rattle.solves.specs.declared.places.MassResponse.{MassResponse}
 use Rattle.solves.specs.declared.Outcome.{Outcome}
@@ -26,7 +26,7 @@ use Rattle.solves.specs.Region.{vecAt, Filled, Does}
 use Rattle.solves.specs.RegionLaws.{vec-at, vec-in, kept-vec, vec-more}
 use Rattle.solves.specs.Solver.{rowIn, generalizedIn, massIn, noGeneralized, noMass, tryNumber, sumProducts, dot, pushed, pushInto, pushRow, transpose, scaled, scaleAll, rate, rates, operator, noShare, through, addThrough, crossEnd, crossMass}
 use Rattle.solves.specs.Answer.{ranAs}
-use Rattle.solves.specs.View.{rowOn, rowsOn, generalizedAt, generalizedsAt, massAt, massesAt, Rows, Place, Shares, GENERALIZED, MASSES, END}
+use Rattle.solves.specs.View.{rowOn, rowsOn, generalizedAt, generalizedsAt, massAt, massesAt, Rows, Place, Shares, GENERALIZED, MASSES}
 use Rattle.solves.specs.DoesLaws.{number-yes, number-no, ran-done, ran-over, does-stop, does-then}
 use Rattle.solves.specs.ViewLaws.{kept-rows, kept-masses, row-in, share-in, mass-in, shares-set, shares-more, shares-none}
 

@@ -1,38 +1,35 @@
 -- The solves of the path's factor, a refinement, and the path's solve as a whole.
-use Prim.Native.Nat.{ℕ, zero, suc, _+_, _*_, _-_, _≤_, _<_, _^_, min}
-use mathlib.Core.Path.{_≡_, refl, sym, _∙_, ap, subst}
+use Prim.Native.Nat.{ℕ, _+_, _*_, _-_, _≤_, _<_, _^_, min}
+use mathlib.Core.Path.{_≡_, refl, sym, _∙_, ap}
 use mathlib.Core.Bool.{Bool, true, false, cond}
 use mathlib.Core.List.{List, [], _∷_, _++_}
 use native.Mathlib.Omega.{arith}
-use lib.ListN.{length, getD, set, replicate, length-set, length-replicate, getD-replicate}
-use lib.Seq.{getD-set-same}
-use lib.Ieee as Ieee
-use lib.Ieee.{Float, nan, binary64}
+use lib.ListN.{length, getD, set, replicate, length-replicate, getD-replicate}
+use lib.Ieee.{Float}
 use Rattle.arith.specs.Real.{ratio, _⊕_, _⊖_, _⊗_, _⊘_}
-use Rattle.arith.specs.Flow.{Turn, go, stop, _>>=_, turns, tab, loop, returnIf}
+use Rattle.arith.specs.Flow.{Turn, go, stop, turns, tab, loop}
 use Rattle.arith.specs.FlowLaws.{turns-none, turns-more, turns-end, then-go, then-stop, loop-none, loop-more, loop-stop, loop-end, cond-yes, cond-no}
 use Rattle.rows.specs.declared.geometry.EqualityRow.{EqualityRow}
 use Rattle.rows.specs.Fault.{Fault, nonConvergent, arithmeticOverflow, Result, try}
 use Rattle.rows.specs.View.{at, Out, Kept}
 use Rattle.rows.specs.Region.{tab-length, tab-ext, tab-at, is-tab, kept-refl, kept-then, kept-more, kept-set}
 use Rattle.solves.specs.declared.places.MassResponse.{MassResponse}
-use Rattle.solves.specs.declared.gradients.Test.{Test}
 use Rattle.solves.specs.Region.{vecAt, Filled, Does}
 use Rattle.solves.specs.RegionLaws.{vec-at, vec-in, kept-vec, vec-set, vec-more, filled-vec}
 use Rattle.solves.specs.Solver.{rowIn, noRow, operator, difference, within, toleranceFor, Solve, after, spent, leastSquares, gradients}
-use Rattle.solves.specs.Path.{index, cell, bandStart, Factor, forwardSum, forwardTurn, forward, backwardSum, Back, backwardTurn, backward, Refined, refine, refinement, pathOrder, pathFactored, Ending, declined, ended, pathAlong, pathOn, pathSolve, orElse, linearSolve}
+use Rattle.solves.specs.Path.{index, cell, Factor, forwardSum, forwardTurn, forward, backwardSum, Back, backwardTurn, backward, Refined, refine, refinement, pathOrder, pathFactored, Ending, declined, ended, pathAlong, pathOn, pathSolve, orElse, linearSolve}
 use Rattle.solves.specs.declared.End.{End}
 use Rattle.solves.specs.declared.End.the-variants as Ends
 use Rattle.solves.specs.declared.path.PathOrder.{PathOrder}
 use Rattle.solves.specs.declared.Ended.{Ended}
-use Rattle.solves.specs.Answer.{ranAs, partAs, orderAs, endAs, endedWith, solveAs}
-use Rattle.solves.specs.View.{rowOn, rowsOn, massesAt, listAt, bandAt, factorAt, refinedAt, Along, Passing, Factoring, Refining, Rows, Shares, Work, MASSES, RHS, SOLUTION, RESIDUAL, PRODUCT, PATH-BAND, PATH-SCALE, PATH-RHS, DIAGONAL}
-use Rattle.solves.specs.DoesLaws.{goes-on, returns-if, try-go, try-stop}
+use Rattle.solves.specs.Answer.{orderAs, endAs, endedWith, solveAs, resultNumber, endNumber, Solves}
+use Rattle.solves.specs.View.{rowOn, rowsOn, massesAt, listAt, bandAt, factorAt, refinedAt, Along, Factoring, Refining, Rows, Work, MASSES, RHS, SOLUTION, RESIDUAL, PRODUCT, PATH-BAND, PATH-SCALE, PATH-RHS, DIAGONAL}
+use Rattle.solves.specs.DoesLaws.{goes-on, returns-if}
 use Rattle.solves.specs.ViewLaws.{kept-rows, kept-masses}
 use Rattle.solves.proofs.OperatorLaws.{Moves}
 use Rattle.solves.proofs.SearchLaws.{first-go, first-stop, new-ended}
 use Rattle.solves.proofs.BlockLaws.{list-at}
-use Rattle.solves.proofs.FactorLaws.{cell-at, cell-first, from-turn, from-none}
+use Rattle.solves.proofs.FactorLaws.{cell-at, cell-first, from-turn}
 
 -- forward_sum
 abbrev pub forwardPart : List Float → List Float → ℕ → ℕ → Float → Float
@@ -501,6 +498,27 @@ not-declined-1 q = let z : _≡_ {A = ℕ} 0 1 = cc in omega arith
 pub not-declined-2 : Ends.ArithmeticOverflow ≡ Ends.Declined → ⊥
 not-declined-2 q = let z : _≡_ {A = ℕ} 0 1 = cc in omega arith
 
-pub new-path : {r : Ended} {e : End} {p : ℕ} {P : ℕ → Type 0} {s t : List Float} (x : List Float) {d : Ending} → r ≡ endedWith e p → p ≤ 4 → Does P s t (endAs e p x) d → (e ≡ Ends.Declined → t ≡ s)
-    → (Does P s t (solveAs r x) d) × (r .end ≡ Ends.Declined → t ≡ s) × (r .passes ≤ 4)
-new-path x h l d f = (new-ended x h l d .0, λ q. f (sym (ap (λ (o : Ended). o .end) h) ∙ q), new-ended x h l d .1)
+pub new-path : {r : Ended} {e : End} {p : ℕ} {P : ℕ → Type 0} {s t : List Float} (x : List Float) {d : Ending} → r ≡ endedWith e p → p ≤ 4
+    → Does P s t (endAs e p x) d → (e ≡ Ends.Declined → (t ≡ s) × (p ≡ 0))
+    → (Does P s t (solveAs r x) d) × (r .end ≡ Ends.Declined → (t ≡ s) × (r .passes ≡ 0)) × (r .passes ≤ 4)
+new-path x h l d f = (
+  new-ended x h l d .0,
+  λ q. let g = f (sym (ap (λ (o : Ended). o .end) h) ∙ q) in (g .0, ap (λ (o : Ended). o .passes) h ∙ g .1),
+  new-ended x h l d .1,
+)
+
+-- what `linear_solve` says, with the number of its answer
+numberIn : Ending → Turn ℕ (Unit {0})
+numberIn declined = stop tt
+numberIn (ended solve) = go (resultNumber (solve .answer))
+
+end-number : (end : End) (passes : ℕ) (x : List Float) → endNumber end ≡ numberIn (endAs end passes x)
+unfolding numberIn
+end-number Ends.Solved passes x = refl
+end-number Ends.Declined passes x = refl
+end-number Ends.NonConvergent passes x = refl
+end-number Ends.ArithmeticOverflow passes x = refl
+
+pub solves-so : {s t : List Float} (n : ℕ) (r : Ended) {solve : Solve} → Does Work s t (solveAs r (vecAt t SOLUTION n)) (ended solve) → r .passes ≤ 4 * n + 64 → Solves s t n r solve
+unfolding numberIn
+solves-so {s} {t} n r d l = (d, l, end-number (r .end) (r .passes) (vecAt t SOLUTION n) ∙ ap numberIn (d .is))

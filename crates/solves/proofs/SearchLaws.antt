@@ -1,22 +1,19 @@
 -- Searches of at most so many passes, each over the scratch: the loop's invariant, its ends, and what stands before it. Least squares and the gradients share them.
-use Prim.Native.Nat.{ℕ, _+_, _*_, _-_, _≤_, _<_, _^_}
+use Prim.Native.Nat.{ℕ, _+_, _≤_, _<_, _^_}
 use mathlib.Core.Path.{_≡_, refl, sym, _∙_, ap, subst}
-use mathlib.Core.Bool.{Bool, true, false}
 use mathlib.Core.List.{List}
-use native.Mathlib.Omega.{arith}
-use lib.Ieee as Ieee
 use lib.Ieee.{Float, binary64, ofBits, round}
 use Rattle.arith.specs.Real.{F, ratio, _⊕_, _⊗_}
 use Rattle.arith.specs.Root.{sqrt}
-use Rattle.arith.specs.Flow.{Turn, go, stop, _>>=_, loop}
+use Rattle.arith.specs.Flow.{Turn, go, stop, loop}
 use Rattle.arith.specs.FlowLaws.{then-go, then-stop, loop-none, loop-more, loop-stop, loop-end}
 use Rattle.rows.specs.Fault.{Fault, nonConvergent, arithmeticOverflow, Result, try}
 use Rattle.rows.specs.View.{Kept}
 use Rattle.rows.specs.Region.{kept-refl, kept-then}
 use Rattle.solves.specs.declared.Step.{Step}
 use Rattle.solves.specs.declared.Step.the-variants as Steps
-use Rattle.solves.specs.Region.{vecAt, Does}
-use Rattle.solves.specs.Solver.{dot, within, toleranceFor, Search, Solve, after, spent, search}
+use Rattle.solves.specs.Region.{Does}
+use Rattle.solves.specs.Solver.{dot, toleranceFor, Search, Solve, after, spent, search}
 use Rattle.solves.specs.declared.End.{End}
 use Rattle.solves.specs.declared.Ended.{Ended}
 use Rattle.solves.specs.Path.{Ending, ended}

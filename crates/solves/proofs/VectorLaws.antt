@@ -1,12 +1,12 @@
 -- Loops that fill a vector from two others by index.
 use Prim.Native.Nat.{ℕ, _+_, _≤_, _<_}
-use mathlib.Core.Path.{_≡_, refl, sym, _∙_, ap}
+use mathlib.Core.Path.{_≡_, sym, _∙_, ap}
 use mathlib.Core.List.{List}
 use native.Mathlib.Omega.{arith}
 use lib.ListN.{length, set}
 use lib.Ieee.{Float}
 use Rattle.arith.specs.Flow.{tab}
-use Rattle.rows.specs.View.{at, Out, Kept}
+use Rattle.rows.specs.View.{at, Out}
 use Rattle.rows.specs.Region.{kept-more, tab-ext, tab-length}
 use Rattle.solves.specs.Region.{vecAt, Filled, Does}
 use Rattle.solves.specs.View.{Apart}

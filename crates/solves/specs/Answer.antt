@@ -1,10 +1,11 @@
 -- The code's answers as the definitions' results.
-use Prim.Native.Nat.{ℕ}
+use Prim.Native.Nat.{ℕ, _+_, _*_, _≤_}
+use mathlib.Core.Path.{_≡_}
 use mathlib.Core.Bool.{Bool, true, false, cond}
 use mathlib.Core.List.{List}
 use lib.Ieee.{Float}
 use Rattle.arith.specs.Flow.{Turn, go, stop}
-use Rattle.rows.specs.Fault.{nonConvergent, arithmeticOverflow, Result, try}
+use Rattle.rows.specs.Fault.{nonConvergent, arithmeticOverflow, number, Result}
 use Rattle.solves.specs.declared.Sum.{Sum}
 use Rattle.solves.specs.declared.Sum.the-variants as Sums
 use Rattle.solves.specs.declared.Outcome.{Outcome}
@@ -26,8 +27,8 @@ use Rattle.solves.specs.declared.gradients.Prepared.the-variants as Rhos
 use Rattle.solves.specs.Solver.{Search, Prepared, Solve}
 use Rattle.solves.specs.declared.path.PathOrder.{PathOrder}
 use Rattle.solves.specs.Path.{Seen, Ending, declined, ended}
-use Rattle.solves.specs.Region.{vecAt}
-use Rattle.solves.specs.View.{searchAt, preparedAt, orderOf, seenOf, SOLUTION, RESIDUAL}
+use Rattle.solves.specs.Region.{vecAt, Does}
+use Rattle.solves.specs.View.{searchAt, preparedAt, orderOf, seenOf, generalizedsAt, Shares, Work, SOLUTION, RESIDUAL, GENERALIZED}
 
 abbrev pub sumAs : Sum → Result Float
 sumAs (Sums.Value x) = go x
@@ -100,3 +101,29 @@ orderAs r = cond (r .found) (go (orderOf (r .order))) (stop tt)
 abbrev pub orderIn : Turn Seen (Unit {0}) → Turn (List ℕ) (Unit {0})
 orderIn (go seen) = go (seen .order)
 orderIn (stop _) = stop tt
+
+-- ---- document 01's numbers: 0 where nothing failed, and the fault's number
+abbrev pub resultNumber : {A : Type 0} → Result A → ℕ
+resultNumber (go _) = 0
+resultNumber (stop fault) = number fault
+
+abbrev pub outcomeNumber : Outcome → ℕ
+outcomeNumber Outcomes.Done = 0
+outcomeNumber Outcomes.ArithmeticOverflow = number arithmeticOverflow
+
+-- `Declined` has none: a linear solve never answers it
+abbrev pub endNumber : End → Turn ℕ (Unit {0})
+endNumber Ends.Solved = go 0
+endNumber Ends.Declined = stop tt
+endNumber Ends.NonConvergent = go (number nonConvergent)
+endNumber Ends.ArithmeticOverflow = go (number arithmeticOverflow)
+
+-- ---- what the two calls say that the step takes; s is the scratch before, t after
+-- `transpose` answered r: what it leaves alone (`Shares` says what is free behind that), the shares of `count` bodies or the fault, and the number
+abbrev pub Pushes : List Float → List Float → ℕ → Outcome → Result (List Generalized) → Type 0
+Pushes s t count r shares = (Does Shares s t (ranAs r (generalizedsAt t GENERALIZED count)) shares) × (outcomeNumber r ≡ resultNumber shares)
+
+-- `linear_solve` of n rows answered r: what it leaves alone (`Work` says what is free behind that), the solution or the fault with the passes, their limit, and the number
+abbrev pub Solves : List Float → List Float → ℕ → Ended → Solve → Type 0
+Solves s t n r solve =
+    (Does Work s t (solveAs r (vecAt t SOLUTION n)) (ended solve)) × (r .passes ≤ 4 * n + 64) × (endNumber (r .end) ≡ go (resultNumber (solve .answer)))

@@ -1,16 +1,15 @@
 -- How what functions do composes: `?` after a call, and the frames with it. From an answer's case to the definition's result.
-use Prim.Native.Nat.{ℕ, _≤_, _<_}
-use mathlib.Core.Path.{_≡_, refl, sym, _∙_, ap}
-use mathlib.Core.Bool.{Bool, true, false, cond}
+use Prim.Native.Nat.{ℕ}
+use mathlib.Core.Path.{_≡_, sym, _∙_, ap}
+use mathlib.Core.Bool.{Bool, true, false}
 use mathlib.Core.List.{List}
 use lib.Ieee.{Float}
 use Rattle.arith.specs.Real.{isFinite}
-use Rattle.arith.specs.Flow.{Turn, go, stop, _>>=_, returnIf}
+use Rattle.arith.specs.Flow.{go, stop, _>>=_, returnIf}
 use Rattle.arith.specs.FlowLaws.{then-go, then-stop}
 use Rattle.vectors.specs.declared.vector.Vec3.{Vec3}
 use Rattle.vectors.specs.Vector.{finiteOf}
-use Rattle.rows.specs.Fault.{Fault, arithmeticOverflow, Result, tryFinite, try}
-use Rattle.rows.specs.View.{Kept}
+use Rattle.rows.specs.Fault.{Fault, arithmeticOverflow, number, Result, tryFinite, try}
 use Rattle.rows.specs.Region.{kept-then, kept-more}
 use Rattle.solves.specs.declared.places.Generalized.{Generalized}
 use Rattle.solves.specs.declared.Sum.{Sum}
@@ -21,7 +20,7 @@ use Rattle.solves.specs.declared.Outcome.{Outcome}
 use Rattle.solves.specs.declared.Outcome.the-variants as Outcomes
 use Rattle.solves.specs.Region.{Does}
 use Rattle.solves.specs.Solver.{tryNumber}
-use Rattle.solves.specs.Answer.{sumAs, shareAs, ranAs}
+use Rattle.solves.specs.Answer.{sumAs, shareAs, ranAs, resultNumber}
 
 -- tests
 pub finite-yes : {v w : Vec3} {b : Bool} → w ≡ v → b ≡ finiteOf w → b ≡ true → go w ≡ tryFinite v
@@ -89,3 +88,11 @@ module _ {A : Type 0} {P : ℕ → Type 0} {s t : List Float} {r : Outcome} (x :
 -- what a call did, in the case that its answer is q
 pub does-as : {A B : Type 0} {P : ℕ → Type 0} {s t : List Float} (f : B → A) {r q : B} {d : A} → r ≡ q → Does P s t (f r) d → Does P s t (f q) d
 does-as f h e = record { kept = e .kept; is = sym (ap f h) ∙ e .is }
+
+-- what a call did, with the number of its answer
+pub done-number : {A : Type 0} {P : ℕ → Type 0} {s t : List Float} {x : A} {d : Result A} → Does P s t (go x) d → (Does P s t (go x) d) × (0 ≡ resultNumber d)
+done-number d = (d, ap resultNumber (d .is))
+
+pub over-number : {A : Type 0} {P : ℕ → Type 0} {s t : List Float} {d : Result A} → Does P s t (stop arithmeticOverflow) d
+    → (Does P s t (stop arithmeticOverflow) d) × (number arithmeticOverflow ≡ resultNumber d)
+over-number d = (d, ap resultNumber (d .is))

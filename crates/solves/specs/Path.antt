@@ -10,10 +10,10 @@ use Rattle.arith.specs.Real.{_⊕_, _⊖_, _⊗_, _⊘_, ratio, isFinite}
 use Rattle.arith.specs.Root.{sqrt}
 use Rattle.arith.specs.Flow.{Turn, go, stop, _>>=_, turns, loop, tab, each, returnIf}
 use Rattle.rows.specs.declared.geometry.EqualityRow.{EqualityRow}
-use Rattle.rows.specs.Fault.{Fault, nonConvergent, arithmeticOverflow, Result, try}
+use Rattle.rows.specs.Fault.{nonConvergent, Result, try}
 use Rattle.rows.specs.View.{at}
 use Rattle.solves.specs.declared.places.MassResponse.{MassResponse}
-use Rattle.solves.specs.Solver.{rowIn, dot, operator, crossMass, difference, within, toleranceFor, Solve, after, spent, leastSquares, gradients}
+use Rattle.solves.specs.Solver.{rowIn, operator, crossMass, difference, within, toleranceFor, Solve, after, spent, leastSquares, gradients}
 
 -- l[i]
 abbrev pub index : List ℕ → ℕ → ℕ

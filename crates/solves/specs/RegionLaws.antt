@@ -1,17 +1,16 @@
 -- Laws of `Region`: vectors that a write keeps, changes in one place or fills.
-use Prim.Native.Nat.{ℕ, zero, suc, _+_, _*_, _-_, _≤_, _<_, min}
+use Prim.Native.Nat.{ℕ, _+_, _≤_, _<_}
 use mathlib.Core.Path.{_≡_, refl, sym, _∙_, ap}
 use mathlib.Core.List.{List, [], _∷_, _++_}
-use native.Mathlib.Numerals.{add-one}
 use native.Mathlib.Omega.{arith}
 use native.Mathlib.Decide.{ℕ-discrete}
-use lib.ListN.{length, getD, set, length-set}
-use lib.Seq.{getD-set-same, getD-set-other}
+use lib.ListN.{length, getD, set}
+use lib.Seq.{getD-set-same}
 use lib.Ieee.{Float, nan}
 use Rattle.arith.specs.Flow.{tab}
 use Rattle.vectors.specs.declared.vector.Vec3.{Vec3}
 use Rattle.rows.specs.View.{at, vec3At, Out, Kept}
-use Rattle.rows.specs.Region.{tab-length, tab-ext, tab-at, tab-set, tab-more, kept-set, kept-refl, kept-then, kept-more, Over}
+use Rattle.rows.specs.Region.{tab-ext, tab-at, tab-set, tab-more, kept-set, kept-refl, kept-then, kept-more, Over}
 use Rattle.solves.specs.Region.{vecAt, Filled}
 
 -- one element read is one element of the view

@@ -14,7 +14,7 @@ use Rattle.vectors.specs.declared.vector.Vec3.{Vec3}
 use Rattle.vectors.specs.Vector.{zeroVec, dotOf, addOf, scaleOf}
 use Rattle.vectors.specs.Matrix.{applyOf}
 use Rattle.rows.specs.declared.geometry.EqualityRow.{EqualityRow}
-use Rattle.rows.specs.Fault.{Fault, nonConvergent, arithmeticOverflow, Result, tryFinite, try}
+use Rattle.rows.specs.Fault.{nonConvergent, arithmeticOverflow, Result, tryFinite, try}
 use Rattle.rows.specs.View.{at}
 use Rattle.solves.specs.declared.places.Generalized.{Generalized}
 use Rattle.solves.specs.declared.places.MassResponse.{MassResponse}

@@ -3,7 +3,7 @@ use Prim.Native.Nat.{ℕ, zero, suc, _+_, _*_, _-_, _≤_, _<_, min}
 use mathlib.Core.Path.{_≡_}
 use mathlib.Core.Bool.{Bool, false, cond}
 use mathlib.Core.List.{List}
-use lib.ListN.{length, getD}
+use lib.ListN.{length, getD, replicate}
 use lib.Ieee.{Float}
 use Rattle.arith.specs.Flow.{tab}
 use Rattle.vectors.specs.declared.vector.Vec3.{Vec3}
@@ -14,6 +14,7 @@ use Rattle.solves.specs.declared.places.Generalized.{Generalized}
 use Rattle.solves.specs.declared.places.MassResponse.{MassResponse}
 use Rattle.solves.specs.declared.path.Blocks.{Blocks}
 use Rattle.solves.specs.declared.path.Order.{Order}
+use Rattle.solves.specs.declared.path.PathOrder.{PathOrder}
 use Rattle.solves.specs.Region.{vecAt}
 use Rattle.solves.specs.Solver.{Search, Prepared}
 use Rattle.solves.specs.Path.{none, Seen, Factor, Refined}
@@ -101,7 +102,10 @@ searchAt s n rho = record { solution = vecAt s SOLUTION n; residual = vecAt s RE
 abbrev pub preparedAt : List Float → ℕ → Float → Prepared
 preparedAt s n rho = record { diagonal = vecAt s DIAGONAL n; direction = vecAt s DIRECTION n; rho = rho }
 
--- outside of the bodies' shares, and of what a linear solve writes
+-- ---- what a call may write, and what it leaves free there
+-- No caller can see what is free: every call writes a table before it reads it, the step reads of a solution only the first n of one that was found and of the
+-- shares only the first `count` that a transpose made, and it sets the whole scratch to zero before it answers.
+-- Outside of the bodies' shares. A transpose leaves free: the shares behind the first `count` and, where it overflows, all of them.
 abbrev pub Shares : ℕ → Type 0
 Shares i = Out GENERALIZED 96 i
 
@@ -109,8 +113,24 @@ Shares i = Out GENERALIZED 96 i
 abbrev pub Passing : ℕ → Type 0
 Passing i = (Out SOLUTION (DIAGONAL - SOLUTION) i) × (Shares i)
 
+-- Outside of the solution and of the tables that a linear solve works in, which lie behind it one after the other: residual, direction, product, diagonal, normal,
+-- the bodies' shares, and the path's band, scale and right side (`Tables`, by name). A linear solve leaves free: those tables, the solution behind its first n
+-- and, where it fails, all of the solution.
 abbrev pub Work : ℕ → Type 0
 Work i = Out SOLUTION (START - SOLUTION) i
+
+-- i is in none of them, by name: the same as `Work` (ViewLaws `work-tables`, `tables-work`)
+pub record Tables (i : ℕ) : Type 0 where
+  pub solution : Out SOLUTION 96 i
+  pub residual : Out RESIDUAL 96 i
+  pub direction : Out DIRECTION 96 i
+  pub product : Out PRODUCT 96 i
+  pub diagonal : Out DIAGONAL 96 i
+  pub normal : Out NORMAL 96 i
+  pub shares : Out GENERALIZED 96 i
+  pub band : Out PATH-BAND 1152 i
+  pub scale : Out PATH-SCALE 96 i
+  pub side : Out PATH-RHS 96 i
 
 -- n rows in one of the two tables, on bodies below count
 pub record Rows (s : List Float) (ia ib : List ℕ) (rows n count : ℕ) : Type 0 where
@@ -174,10 +194,11 @@ orderOf order = listAt (order .rows) (order .count)
 abbrev pub seenOf : Order → List Bool → Seen
 seenOf order visited = record { order = orderOf order; visited = visited }
 
--- what an order lists are rows below n
+-- what an order lists are rows below n; behind them its table is 0
 pub record Listed (order : Order) (n : ℕ) : Type 0 where
   pub size : length (order .rows) ≡ 96
   pub rows : (i : ℕ) → i < order .count → getD (order .rows) i 0 < n
+  pub blank : (i : ℕ) → order .count ≤ i → i < 96 → getD (order .rows) i 0 ≡ 0
 
 -- an order and what was visited: there is room for the rows of all other blocks
 pub record Free (blocks : Blocks) (order : Order) (visited : List Bool) : Type 0 where
@@ -188,6 +209,14 @@ pub record Free (blocks : Blocks) (order : Order) (visited : List Bool) : Type 0
 -- the first n of an order are rows below n
 abbrev pub Along : List ℕ → ℕ → Type 0
 Along order n = (i : ℕ) → i < n → getD order i 0 < n
+
+-- and the others are 0
+abbrev pub Blank : List ℕ → ℕ → Type 0
+Blank order n = (i : ℕ) → n ≤ i → i < 96 → getD order i 0 ≡ 0
+
+-- no path
+abbrev pub noPath : PathOrder
+noPath = record { found = false; order = record { rows = replicate 96 0; count = 0 } }
 
 -- ---- the path's numbers
 abbrev pub bandAt : List Float → ℕ → List Float

@@ -3,6 +3,7 @@ use Prim.Native.Nat.{ℕ, _+_, _*_, _-_, _≤_, _<_}
 use mathlib.Core.Path.{_≡_, sym, _∙_, ap}
 use mathlib.Core.List.{List, [], _∷_, _++_}
 use native.Mathlib.Omega.{arith}
+use native.Mathlib.Decide.{decLt}
 use lib.ListN.{getD, set, replicate, length-replicate, getD-replicate}
 use lib.Ieee.{Float}
 use Rattle.arith.specs.Real.{ratio}
@@ -14,7 +15,7 @@ use Rattle.solves.specs.declared.places.Generalized.{Generalized}
 use Rattle.solves.specs.declared.places.MassResponse.{MassResponse}
 use Rattle.solves.specs.Region.{Filled}
 use Rattle.solves.specs.Solver.{noShare, noRow, noGeneralized, noMass, rowIn, generalizedIn, massIn}
-use Rattle.solves.specs.View.{rowOn, rowsOn, generalizedAt, generalizedsAt, massAt, massesAt}
+use Rattle.solves.specs.View.{rowOn, rowsOn, generalizedAt, generalizedsAt, massAt, massesAt, Work, Tables, SOLUTION, RESIDUAL, DIRECTION, PRODUCT, DIAGONAL, NORMAL, GENERALIZED, PATH-BAND, PATH-SCALE}
 
 -- views that a write keeps, and elements of them
 module _ {P : ℕ → Type 0} {s t : List Float} (kept : Kept P s t) where
@@ -78,3 +79,49 @@ shares-none {s} {t} off m e = sym (is-tab m (generalizedAt t off) noShare (repli
       linear = record { x = zeroed k (off + 6 * k) h (omega arith) (omega arith) j; y = zeroed k (off + 6 * k + 1) h (omega arith) (omega arith) j; z = zeroed k (off + 6 * k + 2) h (omega arith) (omega arith) j };
       angular = record { x = zeroed k (off + 6 * k + 3) h (omega arith) (omega arith) j; y = zeroed k (off + 6 * k + 3 + 1) h (omega arith) (omega arith) j; z = zeroed k (off + 6 * k + 3 + 2) h (omega arith) (omega arith) j };
     }
+
+-- what a linear solve may write are its ten tables
+pub work-tables : (i : ℕ) → Work i → Tables i
+work-tables i w = record {
+  solution = omega arith;
+  residual = omega arith;
+  direction = omega arith;
+  product = omega arith;
+  diagonal = omega arith;
+  normal = omega arith;
+  shares = omega arith;
+  band = omega arith;
+  scale = omega arith;
+  side = omega arith;
+}
+
+out-low : (a n i : ℕ) → i < a → Out a n i
+out-low a n i h = omega arith
+
+out-high : (a m n i : ℕ) → a + m + n ≤ i → Out a (m + n) i
+out-high a m n i h = omega arith
+
+out-past : (a n i : ℕ) → (i < a → ⊥) → Out a n i → a + n ≤ i
+out-past a n i h p = omega arith
+
+not-below : (a m i : ℕ) → a + m ≤ i → i < a + m → ⊥
+not-below a m i h l = omega arith
+
+-- outside of two tables, one behind the other
+out-join : (a m n i : ℕ) → Out a m i → Out (a + m) n i → Out a (m + n) i
+out-join a m n i p q = by (decLt i a)
+  where
+    by : Dec (i < a) → Out a (m + n) i
+    by (yes h) = out-low a (m + n) i h
+    by (no h) = out-high a m n i (out-past (a + m) n i (not-below a m i (out-past a m i h p)) q)
+
+pub tables-work : (i : ℕ) → Tables i → Work i
+tables-work i t =
+    out-join SOLUTION 96 1920 i (t .solution)
+    (out-join RESIDUAL 96 1824 i (t .residual)
+    (out-join DIRECTION 96 1728 i (t .direction)
+    (out-join PRODUCT 96 1632 i (t .product)
+    (out-join DIAGONAL 96 1536 i (t .diagonal)
+    (out-join NORMAL 96 1440 i (t .normal)
+    (out-join GENERALIZED 96 1344 i (t .shares)
+    (out-join PATH-BAND 1152 192 i (t .band) (out-join PATH-SCALE 96 96 i (t .scale) (t .side)))))))))

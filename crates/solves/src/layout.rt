@@ -34,5 +34,3 @@ pub(crate) const PATH_RHS: usize = 4960;
 pub const START: usize = 5056;
 
 pub const CANDIDATE: usize = 5472;
-
-pub const END: usize = 5680;

@@ -19,7 +19,7 @@ ghost use mathlib.Core.Path.{_≡_};
 ghost use Prim.Native.Nat.{_+_, _≤_, _<_};
 ghost use lib.ListN.{length};
 ghost use Rattle.rows.specs.View.{Out};
-ghost use Rattle.solves.specs.Answer.{sumAs, shareAs, ranAs};
+ghost use Rattle.solves.specs.Answer.{sumAs, shareAs, ranAs, Pushes};
 ghost use Rattle.solves.specs.Region.{vecAt, Does};
 ghost use Rattle.solves.specs.Solver.{sumProducts, dot as dotOf, toleranceFor, pushed as pushedOf, pushInto, pushRow, transpose as transposeOf, scaled as scaledOf, scaleAll, rate as rateOf, rates as ratesOf, operator as operatorOf, through as throughOf, addThrough, crossEnd, crossMass};
 ghost use Rattle.solves.specs.View.{rowsOn, generalizedsAt, massesAt, Rows, Place, Shares, GENERALIZED, MASSES, RHS, END};
@@ -127,7 +127,7 @@ pub fn transpose(
     count: usize,
 ) -> Outcome
     requires { ⌜ (Rows (now s) (now ia) (now ib) rows n count) × (Place values) ⌝ }
-    ensures { λ r. ⌜ Does Shares (now (s .entry)) (now (s .exit)) (ranAs r (generalizedsAt (now (s .exit)) GENERALIZED count)) (transposeOf (rowsOn (now (ia .entry)) (now (ib .entry)) (now (s .entry)) rows n) (vecAt (now (s .entry)) values n) count) ⌝ }
+    ensures { λ r. ⌜ Pushes (now (s .entry)) (now (s .exit)) count r (transposeOf (rowsOn (now (ia .entry)) (now (ib .entry)) (now (s .entry)) rows n) (vecAt (now (s .entry)) values n) count) ⌝ }
 {
     clear(s, GENERALIZED, 6 * count);
     for k in 0..n {

@@ -24,7 +24,7 @@ use crate::values::difference;
 use arith::number::is_finite;
 use arith::root::sqrt;
 ghost use mathlib.Core.Path.{_≡_};
-ghost use mathlib.Core.Bool.{true, cond};
+ghost use mathlib.Core.Bool.{true, false, cond};
 ghost use mathlib.Core.List.{_++_};
 ghost use Prim.Native.Nat.{ℕ, _+_, _-_, _≤_, _<_, min};
 ghost use lib.ListN.{length, getD, set};
@@ -34,7 +34,7 @@ ghost use Rattle.solves.specs.Solver.{spent};
 ghost use Rattle.solves.specs.Path.{begins as beginsOf, pathStarts, addEdge, blockEdges, neighbor as neighborOf, follows as followsOf, nextBlock, run, walk as walkOf, walkFrom, isEnd, pathWalks, pathOrder, pathScale, reduced as reducedOf, pathEntry, pathRow, pathFactor, pathFactored, forwardSum, forward as forwardOf, backwardSum, backward as backwardOf, refine as refineOf, refinement, ended, pathSolve};
 ghost use Rattle.solves.specs.Answer.{ranAs, partAs, edgesAs, seenAs, orderAs, orderIn, solveAs};
 ghost use Rattle.solves.specs.Region.{vecAt, Does};
-ghost use Rattle.solves.specs.View.{rowsOn, massesAt, listAt, startsOf, rowsOf, Blocked, Linking, Free, orderOf, seenOf, Listed, Along, bandAt, factorAt, refinedAt, Refining, Factoring, Rows, Work, MASSES, RHS, SOLUTION, RESIDUAL, PATH-BAND, PATH-SCALE, PATH-RHS, END};
+ghost use Rattle.solves.specs.View.{rowsOn, massesAt, listAt, startsOf, rowsOf, Blocked, Linking, Free, orderOf, seenOf, Listed, Along, Blank, noPath, bandAt, factorAt, refinedAt, Refining, Factoring, Rows, Work, MASSES, RHS, SOLUTION, RESIDUAL, PATH-BAND, PATH-SCALE, PATH-RHS, END};
 
 const BAND_WIDTH: usize = 12; // At most two adjacent six-row joints on a path.
 // No block: the Rust's `usize::MAX`. There are at most 96 blocks.
@@ -293,31 +293,37 @@ fn path_walks(ia: &[usize; 96], ib: &[usize; 96], blocks: Blocks, edges: &[usize
     PathOrder { found: true, order }
 }
 
+fn no_path() -> PathOrder
+    ensures { λ r. ⌜ r ≡ noPath ⌝ }
+{
+    PathOrder {
+        found: false,
+        order: Order {
+            rows: [0usize; 96],
+            count: 0,
+        },
+    }
+}
+
 // The rows along the path, if the graph is one.
 fn path_order(ia: &[usize; 96], ib: &[usize; 96], n: usize) -> PathOrder
     requires { ⌜ (n ≤ 96) × ((k : ℕ) → k < n → getD (now ia) k 0 < 16) × ((k : ℕ) → k < n → getD (now ib) k 0 < 16) ⌝ }
-    ensures { λ r. ⌜ (orderAs r ≡ pathOrder (listAt (now (ia .entry)) n) (listAt (now (ib .entry)) n) n) × (r .found ≡ true → (r .order .count ≡ n) × (Along (r .order .rows) n)) ⌝ }
+    ensures { λ r. ⌜ (orderAs r ≡ pathOrder (listAt (now (ia .entry)) n) (listAt (now (ib .entry)) n) n) × (r .found ≡ true → (r .order .count ≡ n) × (Along (r .order .rows) n) × (Blank (r .order .rows) n)) × (r .found ≡ false → r ≡ noPath) ⌝ }
 {
     let blocks = path_blocks(ia, ib, n);
     let mut edges = [NONE; 32];
     if !path_edges(ia, ib, blocks, &mut edges) {
-        return PathOrder {
-            found: false,
-            order: Order {
-                rows: [0usize; 96],
-                count: 0,
-            },
-        };
+        return no_path();
     }
     let walked = path_walks(ia, ib, blocks, &edges);
+    if !walked.found {
+        return no_path();
+    }
     let order = walked.order;
     if order.count == n {
         return walked;
     }
-    PathOrder {
-        found: false,
-        order,
-    }
+    no_path()
 }
 
 // The first column of row i's band.
@@ -594,7 +600,7 @@ pub(crate) fn path_solve(
     count: usize,
 ) -> Ended
     requires { ⌜ Rows (now s) (now ia) (now ib) rows n count ⌝ }
-    ensures { λ r. ⌜ (Does Work (now (s .entry)) (now (s .exit)) (solveAs r (vecAt (now (s .exit)) SOLUTION n)) (pathSolve (rowsOn (now (ia .entry)) (now (ib .entry)) (now (s .entry)) rows n) (massesAt (now (s .entry)) MASSES count) (vecAt (now (s .entry)) RHS n) (vecAt (now (s .entry)) SOLUTION n))) × (r .end ≡ End.Declined → (now (s .exit)) ≡ (now (s .entry))) × (r .passes ≤ 4) ⌝ }
+    ensures { λ r. ⌜ (Does Work (now (s .entry)) (now (s .exit)) (solveAs r (vecAt (now (s .exit)) SOLUTION n)) (pathSolve (rowsOn (now (ia .entry)) (now (ib .entry)) (now (s .entry)) rows n) (massesAt (now (s .entry)) MASSES count) (vecAt (now (s .entry)) RHS n) (vecAt (now (s .entry)) SOLUTION n))) × (r .end ≡ End.Declined → ((now (s .exit)) ≡ (now (s .entry))) × (r .passes ≡ 0)) × (r .passes ≤ 4) ⌝ }
 {
     let path = path_order(ia, ib, n);
     if !path.found {

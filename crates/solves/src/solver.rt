@@ -9,11 +9,10 @@ use crate::least_squares::least_squares;
 use crate::path::path_solve;
 use crate::values::clear;
 use crate::values::copy;
-ghost use Prim.Native.Nat.{_+_, _*_, _≤_};
-ghost use Rattle.solves.specs.Path.{ended, linearSolve};
-ghost use Rattle.solves.specs.Answer.{solveAs};
-ghost use Rattle.solves.specs.Region.{vecAt, Does};
-ghost use Rattle.solves.specs.View.{rowsOn, massesAt, Rows, Work, MASSES, RHS, SOLUTION};
+ghost use Rattle.solves.specs.Path.{linearSolve};
+ghost use Rattle.solves.specs.Answer.{Solves};
+ghost use Rattle.solves.specs.Region.{vecAt};
+ghost use Rattle.solves.specs.View.{rowsOn, massesAt, Rows, MASSES, RHS};
 
 pub fn linear_solve(
     s: &mut [f64],
@@ -25,7 +24,7 @@ pub fn linear_solve(
     cyclic: bool,
 ) -> Ended
     requires { ⌜ Rows (now s) (now ia) (now ib) rows n count ⌝ }
-    ensures { λ r. ⌜ (Does Work (now (s .entry)) (now (s .exit)) (solveAs r (vecAt (now (s .exit)) SOLUTION n)) (ended (linearSolve cyclic (rowsOn (now (ia .entry)) (now (ib .entry)) (now (s .entry)) rows n) (massesAt (now (s .entry)) MASSES count) (vecAt (now (s .entry)) RHS n)))) × (r .passes ≤ 4 * n + 64) ⌝ }
+    ensures { λ r. ⌜ Solves (now (s .entry)) (now (s .exit)) n r (linearSolve cyclic (rowsOn (now (ia .entry)) (now (ib .entry)) (now (s .entry)) rows n) (massesAt (now (s .entry)) MASSES count) (vecAt (now (s .entry)) RHS n)) ⌝ }
 {
     clear(s, SOLUTION, n);
     copy(s, RESIDUAL, RHS, n);

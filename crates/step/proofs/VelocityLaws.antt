@@ -31,7 +31,7 @@ use Rattle.solves.specs.declared.End.the-variants as Solved
 use Rattle.solves.specs.declared.Ended.{Ended}
 use Rattle.solves.specs.Solver.{rowIn, generalizedIn, transpose}
 use Rattle.solves.specs.Path.{ended, linearSolve}
-use Rattle.solves.specs.Answer.{ranAs, solveAs}
+use Rattle.solves.specs.Answer.{ranAs, solveAs, Solves}
 use Rattle.solves.specs.Region.{vecAt, Does}
 use Rattle.solves.specs.RegionLaws.{vec-at}
 use Rattle.solves.specs.View.{ROWS, MASSES, RHS, SOLUTION, GENERALIZED, CANDIDATE, Rows, Shares, Work, rowOn, rowsOn, generalizedAt, generalizedsAt, massesAt}
@@ -208,7 +208,7 @@ module _ {s : List Float} {ia ib : List ℕ} {n bodies : ℕ} (pre : Rows s ia i
 
 -- correct_velocities
 module _ {s : List Float} {ia ib : List ℕ} {n bodies : ℕ} (pre : Rows s ia ib ROWS n bodies) (cyclic : Bool) {t : List Float} (r : Ended)
-    (d : (Does Work s t (solveAs r (vecAt t SOLUTION n)) (ended (linearSolve cyclic (rowsOn ia ib s ROWS n) (massesAt s MASSES bodies) (vecAt s RHS n)))) × (r .passes ≤ 4 * n + 64)) where
+    (d : Solves s t n r (linearSolve cyclic (rowsOn ia ib s ROWS n) (massesAt s MASSES bodies) (vecAt s RHS n))) where
   abbrev Corrects : List Float → Turn (Took (List MomentumBody)) (Took (Result (List MomentumBody))) → Type 0
   Corrects u x = (Does Correcting s u x (velocitiesBy cyclic (rowsOn ia ib s ROWS n) (massesAt s MASSES bodies) (candidatesAt s bodies) (vecAt s RHS n))) × (r .passes ≤ 448)
 

@@ -1,13 +1,8 @@
-use native.Mathlib.Omega.{arith}
 use borrow.Author.Needs.{needs}
-use mathlib.Core.Path.{_≡_, refl, sym, ap, _∙_}
-use Prim.Native.Nat.{_+_, _*_, _≤_, _<_, _-_}
-use lib.ListN.{length, length-set}
-use denote.Ref.{now}
+use lib.ListN.{length}
 use Rattle.arith.specs.Laws.Constants.{zero-is}
 use Rattle.solves.specs.DoesLaws.{done, over, sum-there, sum-over}
 use Rattle.solves.proofs.GradientLaws.{advance-lost-1, advance-lost-2, advance-flat, advance-wild, advance-done}
-use borrow.Author.Needs.{needs}
 use Rattle.solves.proofs.gradients.advance.Statement.{statement}
 use Rattle.solves.proofs.gradients.advance.Tie as tie
 

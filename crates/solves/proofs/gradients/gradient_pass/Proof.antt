@@ -1,9 +1,6 @@
-use native.Mathlib.Omega.{arith}
 use borrow.Author.Needs.{needs}
-use mathlib.Core.Path.{_≡_, refl, sym, ap, _∙_}
-use Prim.Native.Nat.{_+_, _*_, _≤_, _<_, _-_}
-use lib.ListN.{length, length-set}
-use denote.Ref.{now}
+use mathlib.Core.Path.{_∙_}
+use lib.ListN.{length}
 use Rattle.solves.specs.declared.Part.{Part}
 use Rattle.rows.specs.Fault.{try}
 use Rattle.solves.specs.Answer.{partAs}
@@ -11,7 +8,6 @@ use Rattle.solves.specs.View.{searchAt}
 use Rattle.solves.proofs.OperatorLaws.{rows-kept}
 use Rattle.solves.specs.DoesLaws.{does-as}
 use Rattle.solves.proofs.GradientLaws.{test-is, pass-near, pass-on, pass-stop, pass-lost}
-use borrow.Author.Needs.{needs}
 use Rattle.solves.proofs.gradients.gradient_pass.Statement.{statement}
 use Rattle.solves.proofs.gradients.gradient_pass.Tie as tie
 

@@ -1,9 +1,7 @@
 use native.Mathlib.Omega.{arith}
 use borrow.Author.Needs.{needs}
-use mathlib.Core.Path.{_≡_, refl, sym, ap, _∙_}
-use Prim.Native.Nat.{_+_, _*_, _≤_, _<_, _-_}
-use lib.ListN.{length, length-set}
-use denote.Ref.{now}
+use mathlib.Core.Path.{ap, _∙_}
+use lib.ListN.{length}
 use lib.Ieee.{Float}
 use Rattle.solves.specs.declared.gradients.Prepared.{Prepared}
 use Rattle.solves.specs.Solver.{toleranceFor}
@@ -14,7 +12,6 @@ use Rattle.solves.proofs.OperatorLaws.{rows-kept}
 use Rattle.solves.proofs.SearchLaws.{tenth-12, new-ended}
 use Rattle.solves.specs.DoesLaws.{does-as, sum-there, sum-over}
 use Rattle.solves.proofs.GradientLaws.{gradients-refused, gradients-lost, gradients-whole}
-use borrow.Author.Needs.{needs}
 use Rattle.solves.proofs.gradients.gradients.Statement.{statement}
 use Rattle.solves.proofs.gradients.gradients.Tie as tie
 

@@ -1,9 +1,7 @@
 use native.Mathlib.Omega.{arith}
-use borrow.Author.Needs.{needs}
-use mathlib.Core.Path.{_≡_, refl, sym, ap, _∙_}
-use Prim.Native.Nat.{_+_, _*_, _≤_, _<_, _-_}
+use mathlib.Core.Path.{_≡_, refl}
+use Prim.Native.Nat.{_≤_, _-_}
 use lib.ListN.{length, length-set}
-use denote.Ref.{now}
 use Rattle.arith.specs.Laws.Constants.{zero-is}
 use mathlib.Core.List.{[]}
 use Rattle.arith.specs.Real.{ratio}

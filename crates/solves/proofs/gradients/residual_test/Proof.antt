@@ -1,14 +1,9 @@
-use native.Mathlib.Omega.{arith}
 use borrow.Author.Needs.{needs}
-use mathlib.Core.Path.{_≡_, refl, sym, ap, _∙_}
-use Prim.Native.Nat.{_+_, _*_, _≤_, _<_, _-_}
-use lib.ListN.{length, length-set}
 use denote.Ref.{now}
 use Rattle.solves.specs.DoesLaws.{sum-there, sum-over}
 use Rattle.solves.proofs.GradientLaws.{test-over, test-there}
 use Rattle.solves.specs.Region.{vecAt}
 use Rattle.solves.specs.View.{RESIDUAL}
-use borrow.Author.Needs.{needs}
 use Rattle.solves.proofs.gradients.residual_test.Statement.{statement}
 use Rattle.solves.proofs.gradients.residual_test.Tie as tie
 

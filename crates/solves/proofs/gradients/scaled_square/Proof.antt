@@ -1,8 +1,6 @@
 use native.Mathlib.Omega.{arith}
-use borrow.Author.Needs.{needs}
-use mathlib.Core.Path.{_≡_, refl, sym, ap, _∙_}
-use Prim.Native.Nat.{_+_, _*_, _≤_, _<_, _-_}
-use lib.ListN.{length, length-set}
+use mathlib.Core.Path.{_≡_, _∙_}
+use Prim.Native.Nat.{_≤_, _-_}
 use denote.Ref.{now}
 use Rattle.arith.specs.Laws.Constants.{zero-is}
 use Rattle.arith.specs.Real.{ratio}

@@ -1,14 +1,9 @@
-use native.Mathlib.Omega.{arith}
 use borrow.Author.Needs.{needs}
-use mathlib.Core.Path.{_≡_, refl, sym, ap, _∙_}
-use Prim.Native.Nat.{_+_, _*_, _≤_, _<_, _-_}
-use lib.ListN.{length, length-set}
-use denote.Ref.{now}
+use lib.ListN.{length}
 use Rattle.solves.specs.declared.gradients.Test.{Test}
 use Rattle.solves.specs.Answer.{trueAs}
 use Rattle.solves.specs.DoesLaws.{does-as}
 use Rattle.solves.proofs.GradientLaws.{settle-stop, settle-next}
-use borrow.Author.Needs.{needs}
 use Rattle.solves.proofs.gradients.settle.Statement.{statement}
 use Rattle.solves.proofs.gradients.settle.Tie as tie
 

@@ -1,12 +1,7 @@
-use native.Mathlib.Omega.{arith}
 use borrow.Author.Needs.{needs}
-use mathlib.Core.Path.{_≡_, refl, sym, ap, _∙_}
-use Prim.Native.Nat.{_+_, _*_, _≤_, _<_, _-_}
-use lib.ListN.{length, length-set}
-use denote.Ref.{now}
+use lib.ListN.{length}
 use Rattle.solves.specs.DoesLaws.{done, over}
 use Rattle.solves.proofs.GradientLaws.{test-is, true-lost, true-far, true-lost-2, true-again}
-use borrow.Author.Needs.{needs}
 use Rattle.solves.proofs.gradients.true_residual.Statement.{statement}
 use Rattle.solves.proofs.gradients.true_residual.Tie as tie
 

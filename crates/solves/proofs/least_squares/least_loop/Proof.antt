@@ -1,8 +1,8 @@
 use native.Mathlib.Omega.{arith}
 use borrow.Author.Needs.{needs}
-use mathlib.Core.Path.{_≡_, refl, sym, ap, _∙_}
-use Prim.Native.Nat.{_+_, _*_, _≤_, _<_, _-_}
-use lib.ListN.{length, length-set}
+use mathlib.Core.Path.{_≡_, refl, _∙_}
+use Prim.Native.Nat.{_+_, _*_, _≤_, _-_}
+use lib.ListN.{length}
 use denote.Ref.{now}
 use Rattle.solves.specs.Region.{vecAt}
 use Rattle.solves.specs.View.{SOLUTION, Work}

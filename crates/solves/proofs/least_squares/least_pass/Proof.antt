@@ -1,14 +1,11 @@
 use native.Mathlib.Omega.{arith}
 use borrow.Author.Needs.{needs}
-use mathlib.Core.Path.{_≡_, refl, sym, ap, _∙_}
-use Prim.Native.Nat.{_+_, _*_, _≤_, _<_, _-_}
-use lib.ListN.{length, length-set}
-use denote.Ref.{now}
+use mathlib.Core.Path.{_∙_}
+use lib.ListN.{length}
 use Rattle.arith.specs.Laws.Constants.{zero-is}
 use Rattle.solves.specs.DoesLaws.{done, over, sum-there, sum-over}
 use Rattle.solves.proofs.OperatorLaws.{rows-kept}
 use Rattle.solves.proofs.LeastLaws.{pass-solved, pass-lost-1, pass-lost-2, pass-stuck, pass-lost-3, pass-lost-4, pass-next}
-use borrow.Author.Needs.{needs}
 use Rattle.solves.proofs.least_squares.least_pass.Statement.{statement}
 use Rattle.solves.proofs.least_squares.least_pass.Tie as tie
 

@@ -1,9 +1,7 @@
 use native.Mathlib.Omega.{arith}
 use borrow.Author.Needs.{needs}
-use mathlib.Core.Path.{_≡_, refl, sym, ap, _∙_}
-use Prim.Native.Nat.{_+_, _*_, _≤_, _<_, _-_}
-use lib.ListN.{length, length-set}
-use denote.Ref.{now}
+use mathlib.Core.Path.{ap, _∙_}
+use lib.ListN.{length}
 use lib.Ieee.{Float}
 use Rattle.solves.specs.Solver.{toleranceFor}
 use Rattle.solves.specs.Region.{vecAt}
@@ -12,7 +10,6 @@ use Rattle.solves.specs.DoesLaws.{done, over, sum-there, sum-over}
 use Rattle.solves.proofs.OperatorLaws.{rows-kept}
 use Rattle.solves.proofs.SearchLaws.{tenth-14, new-ended}
 use Rattle.solves.proofs.LeastLaws.{least-lost-1, least-lost-2, least-lost-3, least-whole}
-use borrow.Author.Needs.{needs}
 use Rattle.solves.proofs.least_squares.least_squares.Statement.{statement}
 use Rattle.solves.proofs.least_squares.least_squares.Tie as tie
 

@@ -1,12 +1,7 @@
-use native.Mathlib.Omega.{arith}
 use borrow.Author.Needs.{needs}
-use mathlib.Core.Path.{_≡_, refl, sym, ap, _∙_}
-use Prim.Native.Nat.{_+_, _*_, _≤_, _<_, _-_}
-use lib.ListN.{length, length-set}
-use denote.Ref.{now}
+use lib.ListN.{length}
 use Rattle.solves.specs.DoesLaws.{share-there, share-over}
 use Rattle.solves.proofs.OperatorLaws.{into-done, into-over}
-use borrow.Author.Needs.{needs}
 use Rattle.solves.proofs.operator.push_into.Statement.{statement}
 use Rattle.solves.proofs.operator.push_into.Tie as tie
 

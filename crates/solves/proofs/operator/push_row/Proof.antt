@@ -1,11 +1,6 @@
-use native.Mathlib.Omega.{arith}
 use borrow.Author.Needs.{needs}
-use mathlib.Core.Path.{_≡_, refl, sym, ap, _∙_}
-use Prim.Native.Nat.{_+_, _*_, _≤_, _<_, _-_}
-use lib.ListN.{length, length-set}
-use denote.Ref.{now}
+use lib.ListN.{length}
 use Rattle.solves.proofs.OperatorLaws.{row-over, row-then}
-use borrow.Author.Needs.{needs}
 use Rattle.solves.proofs.operator.push_row.Statement.{statement}
 use Rattle.solves.proofs.operator.push_row.Tie as tie
 

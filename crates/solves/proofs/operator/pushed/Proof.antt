@@ -1,11 +1,5 @@
-use native.Mathlib.Omega.{arith}
 use borrow.Author.Needs.{needs}
-use mathlib.Core.Path.{_≡_, refl, sym, ap, _∙_}
-use Prim.Native.Nat.{_+_, _*_, _≤_, _<_, _-_}
-use lib.ListN.{length, length-set}
-use denote.Ref.{now}
 use Rattle.solves.proofs.PlaceLaws.{pushed-1, pushed-2, pushed-3}
-use borrow.Author.Needs.{needs}
 use Rattle.solves.proofs.operator.pushed.Statement.{statement}
 use Rattle.solves.proofs.operator.pushed.Tie as tie
 

@@ -1,10 +1,8 @@
 use native.Mathlib.Omega.{arith}
-use borrow.Author.Needs.{needs}
-use mathlib.Core.Path.{_≡_, refl, sym, ap, _∙_}
-use Prim.Native.Nat.{_+_, _*_, _≤_, _<_, _-_}
+use mathlib.Core.Path.{_≡_, refl}
+use Prim.Native.Nat.{_≤_, _-_}
 use lib.ListN.{length, length-set}
-use denote.Ref.{now}
-use Rattle.arith.specs.Flow.{go, stop}
+use Rattle.arith.specs.Flow.{go}
 use Rattle.arith.specs.FlowLaws.{not-yes, not-no}
 use Rattle.rows.specs.View.{Out}
 use Rattle.solves.specs.Solver.{rates as ratesOf}

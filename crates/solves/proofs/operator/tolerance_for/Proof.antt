@@ -1,13 +1,7 @@
-use native.Mathlib.Omega.{arith}
 use borrow.Author.Needs.{needs}
-use mathlib.Core.Path.{_≡_, refl, sym, ap, _∙_}
-use Prim.Native.Nat.{_+_, _*_, _≤_, _<_, _-_}
-use lib.ListN.{length, length-set}
-use denote.Ref.{now}
 use Rattle.arith.specs.Laws.Constants.{one-is}
 use Rattle.solves.specs.DoesLaws.{sum-there, sum-over}
 use Rattle.solves.proofs.SearchLaws.{tolerance-go, tolerance-stop}
-use borrow.Author.Needs.{needs}
 use Rattle.solves.proofs.operator.tolerance_for.Statement.{statement}
 use Rattle.solves.proofs.operator.tolerance_for.Tie as tie
 

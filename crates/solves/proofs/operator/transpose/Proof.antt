@@ -1,13 +1,13 @@
 use native.Mathlib.Omega.{arith}
 use borrow.Author.Needs.{needs}
-use mathlib.Core.Path.{_≡_, refl, sym, ap, _∙_}
-use Prim.Native.Nat.{_+_, _*_, _≤_, _<_, _-_}
-use lib.ListN.{length, length-set}
-use denote.Ref.{now}
-use Rattle.arith.specs.Flow.{go, stop}
+use mathlib.Core.Path.{_≡_, refl}
+use Prim.Native.Nat.{_≤_, _-_}
+use lib.ListN.{length}
+use Rattle.arith.specs.Flow.{go}
 use Rattle.arith.specs.Flow.{loop}
 use Rattle.solves.specs.Region.{vecAt, Does}
 use Rattle.solves.specs.View.{rowsOn, generalizedsAt, Shares, GENERALIZED}
+use Rattle.solves.specs.DoesLaws.{done-number, over-number}
 use Rattle.solves.proofs.OperatorLaws.{rowTurn, on-a, on-b, transpose-none, transpose-stops, transpose-again, transpose-ends, transpose-from}
 use Rattle.solves.proofs.operator.transpose.Statement.{statement}
 use Rattle.solves.proofs.operator.transpose.Tie as tie
@@ -49,7 +49,7 @@ same-length : tie.Need-same-length Inv-loop μ-loop
 same-length c = omega (arith, c .before .before .before .before .before .before .before .before .before .before .before .before .before .clear .ensures .kept .size, c .before .before .before .before .before .before .before .before .before .before .loop .inv .1, c .before .before .before .before .before .before .before .before .before .before .before .before .before .before .before .before .pre .0 .whole, c .before .before .before .before .push-row .ensures .kept .size)
 
 returns : tie.Need-returns Inv-loop μ-loop
-returns c = transpose-from (c .before .before .before .before .before .before .before .before .before .before .before .before .before .before .before .before .pre .0) (c .before .before .before .before .before .before .before .before .before .before .before .before .before .before .before .before .pre .1) _ (c .before .before .before .before .before .before .before .before .before .before .before .before .before .clear .ensures) (transpose-stops (c .before .before .before .before .before .before .before .before .before .before .before .before .before .before .before .before .pre .0) (c .before .before .before .before .before .before .before .before .before .before .before .before .before .before .before .before .pre .1) _ (c .before .before .before .before .before .before .before .before .before .before .loop .inv .2) (c .before .before .before .before .before .before .before .before .before .loop-test .taken) (c .before .before .before .before .before .before .before .load-row .ensures) refl (c .before .before .before .before .push-row .ensures) (c .enum-told .given .1))
+returns c = over-number (transpose-from (c .before .before .before .before .before .before .before .before .before .before .before .before .before .before .before .before .pre .0) (c .before .before .before .before .before .before .before .before .before .before .before .before .before .before .before .before .pre .1) _ (c .before .before .before .before .before .before .before .before .before .before .before .before .before .clear .ensures) (transpose-stops (c .before .before .before .before .before .before .before .before .before .before .before .before .before .before .before .before .pre .0) (c .before .before .before .before .before .before .before .before .before .before .before .before .before .before .before .before .pre .1) _ (c .before .before .before .before .before .before .before .before .before .before .loop .inv .2) (c .before .before .before .before .before .before .before .before .before .loop-test .taken) (c .before .before .before .before .before .before .before .load-row .ensures) refl (c .before .before .before .before .push-row .ensures) (c .enum-told .given .1)))
 
 enum-told-2 : tie.Need-enum-told-2 Inv-loop μ-loop
 enum-told-2 c = search needs
@@ -67,7 +67,7 @@ same-length-2 : tie.Need-same-length-2 Inv-loop μ-loop
 same-length-2 c = omega (arith, c .before .before .before .before .clear .ensures .kept .size, c .before .loop .inv .1, c .before .before .before .before .before .before .before .pre .0 .whole)
 
 returns-2 : tie.Need-returns-2 Inv-loop μ-loop
-returns-2 c = transpose-from (c .before .before .before .before .before .before .before .pre .0) (c .before .before .before .before .before .before .before .pre .1) _ (c .before .before .before .before .clear .ensures) (transpose-ends (c .before .before .before .before .before .before .before .pre .0) (c .before .before .before .before .before .before .before .pre .1) _ (c .before .loop .inv .2) (omega arith) (c .loop-test .left))
+returns-2 c = done-number (transpose-from (c .before .before .before .before .before .before .before .pre .0) (c .before .before .before .before .before .before .before .pre .1) _ (c .before .before .before .before .clear .ensures) (transpose-ends (c .before .before .before .before .before .before .before .pre .0) (c .before .before .before .before .before .before .before .pre .1) _ (c .before .loop .inv .2) (omega arith) (c .loop-test .left)))
 
 pub transpose-spec : {M : Type 1} → statement M
 transpose-spec =

@@ -1,11 +1,6 @@
-use native.Mathlib.Omega.{arith}
 use borrow.Author.Needs.{needs}
-use mathlib.Core.Path.{_≡_, refl, sym, ap, _∙_}
-use Prim.Native.Nat.{_+_, _*_, _≤_, _<_, _-_}
-use lib.ListN.{length, length-set}
 use denote.Ref.{now}
 use Rattle.solves.proofs.BlockLaws.{edge-1, edge-2, edge-3}
-use borrow.Author.Needs.{needs}
 use Rattle.solves.proofs.path.add_edge.Statement.{statement}
 use Rattle.solves.proofs.path.add_edge.Tie as tie
 

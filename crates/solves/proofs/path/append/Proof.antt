@@ -1,9 +1,5 @@
 use native.Mathlib.Omega.{arith}
-use borrow.Author.Needs.{needs}
-use mathlib.Core.Path.{_≡_, refl, sym, ap, _∙_}
-use Prim.Native.Nat.{_+_, _*_, _≤_, _<_, _-_}
-use lib.ListN.{length, length-set}
-use denote.Ref.{now}
+use Prim.Native.Nat.{_≤_, _-_}
 use Rattle.solves.proofs.BlockLaws.{Appended, append-none, append-more, append-ends}
 use Rattle.solves.proofs.path.append.Statement.{statement}
 use Rattle.solves.proofs.path.append.Tie as tie

@@ -1,11 +1,6 @@
-use native.Mathlib.Omega.{arith}
 use borrow.Author.Needs.{needs}
-use mathlib.Core.Path.{_≡_, refl, sym, ap, _∙_}
-use Prim.Native.Nat.{_+_, _*_, _≤_, _<_, _-_}
-use lib.ListN.{length, length-set}
 use denote.Ref.{now}
 use Rattle.solves.proofs.BlockLaws.{begins-first, begins-same, begins-b, begins-a}
-use borrow.Author.Needs.{needs}
 use Rattle.solves.proofs.path.begins.Statement.{statement}
 use Rattle.solves.proofs.path.begins.Tie as tie
 

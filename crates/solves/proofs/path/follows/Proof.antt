@@ -1,9 +1,4 @@
-use native.Mathlib.Omega.{arith}
-use borrow.Author.Needs.{needs}
-use mathlib.Core.Path.{_≡_, refl, sym, ap, _∙_}
-use Prim.Native.Nat.{_+_, _*_, _≤_, _<_, _-_}
-use lib.ListN.{length, length-set}
-use denote.Ref.{now}
+use mathlib.Core.Path.{refl}
 use Rattle.solves.proofs.BlockLaws.{follows-none, follows-other}
 use Rattle.solves.proofs.path.follows.Statement.{statement}
 use Rattle.solves.proofs.path.follows.Tie as tie

@@ -1,11 +1,7 @@
 use native.Mathlib.Omega.{arith}
-use borrow.Author.Needs.{needs}
-use mathlib.Core.Path.{_≡_, refl, sym, ap, _∙_}
-use Prim.Native.Nat.{_+_, _*_, _≤_, _<_, _-_}
-use lib.ListN.{length, length-set}
+use mathlib.Core.Path.{refl}
 use denote.Ref.{now}
 use Rattle.solves.proofs.BlockLaws.{a-body, b-body, end-visited, end-a, end-b}
-use borrow.Author.Needs.{needs}
 use Rattle.solves.proofs.path.is_end.Statement.{statement}
 use Rattle.solves.proofs.path.is_end.Tie as tie
 

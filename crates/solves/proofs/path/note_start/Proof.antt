@@ -1,11 +1,6 @@
-use native.Mathlib.Omega.{arith}
 use borrow.Author.Needs.{needs}
-use mathlib.Core.Path.{_≡_, refl, sym, ap, _∙_}
-use Prim.Native.Nat.{_+_, _*_, _≤_, _<_, _-_}
-use lib.ListN.{length, length-set}
-use denote.Ref.{now}
+use mathlib.Core.Path.{sym, _∙_}
 use Rattle.arith.specs.FlowLaws.{cond-yes, cond-no}
-use borrow.Author.Needs.{needs}
 use Rattle.solves.proofs.path.note_start.Statement.{statement}
 use Rattle.solves.proofs.path.note_start.Tie as tie
 

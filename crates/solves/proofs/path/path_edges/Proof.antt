@@ -1,9 +1,6 @@
 use native.Mathlib.Omega.{arith}
-use borrow.Author.Needs.{needs}
-use mathlib.Core.Path.{_≡_, refl, sym, ap, _∙_}
-use Prim.Native.Nat.{_+_, _*_, _≤_, _<_, _-_}
-use lib.ListN.{length, length-set}
-use denote.Ref.{now}
+use mathlib.Core.Path.{_≡_}
+use Prim.Native.Nat.{_≤_, _-_}
 use Rattle.arith.specs.Flow.{go, loop}
 use Rattle.arith.specs.FlowLaws.{loop-none, loop-end, not-yes, not-no}
 use Rattle.solves.specs.Path.{blockEdges}

@@ -1,14 +1,12 @@
 use native.Mathlib.Omega.{arith}
 use borrow.Author.Needs.{needs}
-use mathlib.Core.Path.{_≡_, refl, sym, ap, _∙_}
-use Prim.Native.Nat.{_+_, _*_, _≤_, _<_, _-_}
+use mathlib.Core.Path.{refl}
 use lib.ListN.{length, length-set}
 use denote.Ref.{now}
 use Rattle.arith.specs.Laws.Constants.{zero-is}
 use Rattle.solves.specs.DoesLaws.{sum-there, sum-over}
 use Rattle.solves.proofs.OperatorLaws.{on-a, on-b}
 use Rattle.solves.proofs.FactorLaws.{entry-lost, entry-wild, entry-low, entry-pivot, entry-side}
-use borrow.Author.Needs.{needs}
 use Rattle.solves.proofs.path.path_entry.Statement.{statement}
 use Rattle.solves.proofs.path.path_entry.Tie as tie
 

@@ -1,8 +1,6 @@
-use native.Mathlib.Omega.{arith}
 use borrow.Author.Needs.{needs}
-use mathlib.Core.Path.{_≡_, refl, sym, ap, _∙_}
-use Prim.Native.Nat.{_+_, _*_, _≤_, _<_, _-_}
-use lib.ListN.{length, length-set}
+use mathlib.Core.Path.{_∙_}
+use lib.ListN.{length}
 use denote.Ref.{now}
 use Rattle.solves.specs.declared.Part.{Part}
 use Rattle.solves.specs.Answer.{partAs}
@@ -11,7 +9,6 @@ use Rattle.solves.specs.View.{PATH-SCALE}
 use Rattle.solves.specs.DoesLaws.{does-as}
 use Rattle.solves.proofs.OperatorLaws.{rows-kept}
 use Rattle.solves.proofs.FactorLaws.{factored-1, factored-on}
-use borrow.Author.Needs.{needs}
 use Rattle.solves.proofs.path.path_factored.Statement.{statement}
 use Rattle.solves.proofs.path.path_factored.Tie as tie
 

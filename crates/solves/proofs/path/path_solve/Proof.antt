@@ -1,8 +1,7 @@
 use native.Mathlib.Omega.{arith}
 use borrow.Author.Needs.{needs}
-use mathlib.Core.Path.{_≡_, refl, sym, ap, _∙_}
-use Prim.Native.Nat.{_+_, _*_, _≤_, _<_, _-_}
-use lib.ListN.{length, length-set}
+use mathlib.Core.Path.{refl, ap, _∙_}
+use lib.ListN.{length}
 use denote.Ref.{now}
 use lib.Ieee.{Float}
 use Rattle.arith.specs.FlowLaws.{not-yes, not-no}
@@ -15,7 +14,6 @@ use Rattle.solves.specs.DoesLaws.{does-as, sum-there, sum-over}
 use Rattle.solves.proofs.OperatorLaws.{rows-kept}
 use Rattle.solves.proofs.SearchLaws.{tenth-12}
 use Rattle.solves.proofs.RefineLaws.{order-no, order-yes, path-declined, path-lost, path-whole, path-refused, ended-not, not-declined-1, not-declined-2, new-path}
-use borrow.Author.Needs.{needs}
 use Rattle.solves.proofs.path.path_solve.Statement.{statement}
 use Rattle.solves.proofs.path.path_solve.Tie as tie
 
@@ -26,7 +24,7 @@ new-requires : tie.Need-new-requires
 new-requires c κs = search needs
 
 returns : tie.Need-returns
-returns c = new-path (vecAt (now (c .before .before .before .before .before .args .s)) SOLUTION (c .before .before .before .before .before .args .n)) (c .new .ensures) (omega arith) (path-declined (c .before .before .before .before .before .pre) (order-no (c .before .before .before .path-order .result) (c .before .before .before .path-order .ensures .0) (not-yes _ (c .before .if1 .taken)))) (λ _. refl)
+returns c = new-path (vecAt (now (c .before .before .before .before .before .args .s)) SOLUTION (c .before .before .before .before .before .args .n)) (c .new .ensures) (omega arith) (path-declined (c .before .before .before .before .before .pre) (order-no (c .before .before .before .path-order .result) (c .before .before .before .path-order .ensures .0) (not-yes _ (c .before .if1 .taken)))) (λ _. (refl, refl))
 
 path-factored-requires : tie.Need-path-factored-requires
 path-factored-requires c κs = (c .before .before .before .before .before .before .before .before .pre, c .before .before .before .before .before .before .path-order .ensures .1 (not-no _ (c .before .before .before .before .if1 .left)) .1)

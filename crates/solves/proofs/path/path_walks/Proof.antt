@@ -1,9 +1,5 @@
 use native.Mathlib.Omega.{arith}
-use borrow.Author.Needs.{needs}
-use mathlib.Core.Path.{_≡_, refl, sym, ap, _∙_}
-use Prim.Native.Nat.{_+_, _*_, _≤_, _<_, _-_}
-use lib.ListN.{length, length-set}
-use denote.Ref.{now}
+use Prim.Native.Nat.{_≤_, _-_}
 use Rattle.arith.specs.FlowLaws.{not-yes, not-no}
 use Rattle.solves.proofs.BlockLaws.{WalksSo, walks-none, walks-lost, walks-more, walks-end, seen-yes, seen-no, false-true}
 use Rattle.solves.proofs.path.path_walks.Statement.{statement}

@@ -1,13 +1,11 @@
 use native.Mathlib.Omega.{arith}
 use borrow.Author.Needs.{needs}
-use mathlib.Core.Path.{_≡_, refl, sym, ap, _∙_}
-use Prim.Native.Nat.{_+_, _*_, _≤_, _<_, _-_}
-use lib.ListN.{length, length-set}
+use mathlib.Core.Path.{_∙_}
+use lib.ListN.{length}
 use denote.Ref.{now}
 use Rattle.solves.specs.DoesLaws.{done, over}
 use Rattle.solves.proofs.OperatorLaws.{rows-kept}
 use Rattle.solves.proofs.RefineLaws.{refine-lost, refine-done}
-use borrow.Author.Needs.{needs}
 use Rattle.solves.proofs.path.refine.Statement.{statement}
 use Rattle.solves.proofs.path.refine.Tie as tie
 

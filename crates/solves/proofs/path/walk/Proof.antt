@@ -1,8 +1,6 @@
 use native.Mathlib.Omega.{arith}
 use borrow.Author.Needs.{needs}
-use mathlib.Core.Path.{_≡_, refl, sym, ap, _∙_}
-use Prim.Native.Nat.{_+_, _*_, _≤_, _<_, _-_}
-use lib.ListN.{length, length-set}
+use Prim.Native.Nat.{_≤_, _-_}
 use denote.Ref.{now}
 use Rattle.solves.proofs.BlockLaws.{WalkSo, a-body, b-body, walk-none, walk-met, append-fits, walk-ends, walk-more, walk-spent, false-true}
 use Rattle.solves.proofs.path.walk.Statement.{statement}

@@ -1,8 +1,3 @@
-use native.Mathlib.Omega.{arith}
-use borrow.Author.Needs.{needs}
-use mathlib.Core.Path.{_≡_, refl, sym, ap, _∙_}
-use Prim.Native.Nat.{_+_, _*_, _≤_, _<_, _-_}
-use lib.ListN.{length, length-set}
 use denote.Ref.{now}
 use Rattle.solves.proofs.BlockLaws.{from-end, from-other}
 use Rattle.solves.proofs.path.walk_from.Statement.{statement}

@@ -1,11 +1,7 @@
 use native.Mathlib.Omega.{arith}
 use borrow.Author.Needs.{needs}
-use mathlib.Core.Path.{_≡_, refl, sym, ap, _∙_}
-use Prim.Native.Nat.{_+_, _*_, _≤_, _<_, _-_}
 use lib.ListN.{length, length-set}
-use denote.Ref.{now}
 use Rattle.solves.specs.RegionLaws.{stored3}
-use borrow.Author.Needs.{needs}
 use Rattle.solves.proofs.places.store3.Statement.{statement}
 use Rattle.solves.proofs.places.store3.Tie as tie
 

@@ -1,17 +1,14 @@
 use native.Mathlib.Omega.{arith}
 use borrow.Author.Needs.{needs}
-use mathlib.Core.Path.{_≡_, refl, sym, ap, _∙_}
-use Prim.Native.Nat.{_+_, _*_, _≤_, _<_, _-_}
-use lib.ListN.{length, length-set}
-use denote.Ref.{now}
+use mathlib.Core.Path.{_∙_}
+use lib.ListN.{length}
 use Rattle.solves.specs.declared.End.{End}
 use Rattle.solves.specs.Answer.{endAs}
 use Rattle.solves.specs.Region.{vecAt}
 use Rattle.solves.specs.View.{SOLUTION}
 use Rattle.solves.specs.DoesLaws.{does-as}
 use Rattle.solves.proofs.OperatorLaws.{rows-kept}
-use Rattle.solves.proofs.RefineLaws.{solved-as, does-eq, linear-least, linear-path, linear-gradients}
-use borrow.Author.Needs.{needs}
+use Rattle.solves.proofs.RefineLaws.{solved-as, does-eq, linear-least, linear-path, linear-gradients, solves-so}
 use Rattle.solves.proofs.solver.linear_solve.Statement.{statement}
 use Rattle.solves.proofs.solver.linear_solve.Tie as tie
 
@@ -28,7 +25,7 @@ same-length : tie.Need-same-length
 same-length c = c .before .before .least-squares .ensures .0 .kept .size ∙ c .before .before .before .before .before .before .before .copy .ensures .kept .size ∙ c .before .before .before .before .before .before .before .before .before .before .before .clear .ensures .kept .size
 
 returns : tie.Need-returns
-returns c = (linear-least (c .before .before .before .before .before .before .before .before .before .before .before .before .before .before .pre) (c .before .before .before .before .before .before .before .before .before .before .before .before .before .before .args .cyclic) (c .before .before .before .before .before .before .before .before .before .before .before .clear .ensures) (c .before .before .before .before .before .before .before .copy .ensures) (c .before .before .before .before .if1 .taken) (c .before .before .least-squares .ensures .0), c .before .before .least-squares .ensures .1)
+returns c = solves-so _ (c .before .before .least-squares .result) (linear-least (c .before .before .before .before .before .before .before .before .before .before .before .before .before .before .pre) (c .before .before .before .before .before .before .before .before .before .before .before .before .before .before .args .cyclic) (c .before .before .before .before .before .before .before .before .before .before .before .clear .ensures) (c .before .before .before .before .before .before .before .copy .ensures) (c .before .before .before .before .if1 .taken) (c .before .before .least-squares .ensures .0)) (c .before .before .least-squares .ensures .1)
 
 path-solve-requires : tie.Need-path-solve-requires
 path-solve-requires c κs = rows-kept (c .before .before .before .before .before .before .before .before .before .before .before .pre) (c .before .before .before .before .copy .ensures .kept .size ∙ c .before .before .before .before .before .before .before .before .clear .ensures .kept .size)
@@ -52,25 +49,25 @@ same-length-2 : tie.Need-same-length-2
 same-length-2 c = c .before .before .gradients .ensures .0 .kept .size ∙ c .before .before .before .before .before .before .before .before .path-solve .ensures .0 .kept .size ∙ c .before .before .before .before .before .before .before .before .before .before .before .before .before .copy .ensures .kept .size ∙ c .before .before .before .before .before .before .before .before .before .before .before .before .before .before .before .before .before .clear .ensures .kept .size
 
 returns-2 : tie.Need-returns-2
-returns-2 c = (linear-gradients (c .before .before .before .before .before .before .before .before .before .before .before .before .before .before .before .before .before .before .before .before .pre) (c .before .before .before .before .before .before .before .before .before .before .before .before .before .before .before .before .before .before .before .before .args .cyclic) (c .before .before .before .before .before .before .before .before .before .before .before .before .before .before .before .before .before .clear .ensures) (c .before .before .before .before .before .before .before .before .before .before .before .before .before .copy .ensures) (c .before .before .before .before .before .before .before .before .before .before .if1 .left) (does-as (λ (q : End). endAs q (c .before .before .before .before .before .before .before .before .path-solve .result .passes) (vecAt (c .before .before .before .before .before .before .before .before .path-solve .last .0) SOLUTION (c .before .before .before .before .before .before .before .before .before .before .before .before .before .before .before .before .before .before .before .before .args .n))) (c .before .before .before .before .enum-told .given .1) (c .before .before .before .before .before .before .before .before .path-solve .ensures .0)) (c .before .before .before .before .before .before .before .before .path-solve .ensures .1 (c .before .before .before .before .enum-told .given .1)) (c .before .before .gradients .ensures .0), omega (arith, c .before .before .gradients .ensures .1))
+returns-2 c = solves-so _ (c .before .before .gradients .result) (linear-gradients (c .before .before .before .before .before .before .before .before .before .before .before .before .before .before .before .before .before .before .before .before .pre) (c .before .before .before .before .before .before .before .before .before .before .before .before .before .before .before .before .before .before .before .before .args .cyclic) (c .before .before .before .before .before .before .before .before .before .before .before .before .before .before .before .before .before .clear .ensures) (c .before .before .before .before .before .before .before .before .before .before .before .before .before .copy .ensures) (c .before .before .before .before .before .before .before .before .before .before .if1 .left) (does-as (λ (q : End). endAs q (c .before .before .before .before .before .before .before .before .path-solve .result .passes) (vecAt (c .before .before .before .before .before .before .before .before .path-solve .last .0) SOLUTION (c .before .before .before .before .before .before .before .before .before .before .before .before .before .before .before .before .before .before .before .before .args .n))) (c .before .before .before .before .enum-told .given .1) (c .before .before .before .before .before .before .before .before .path-solve .ensures .0)) (c .before .before .before .before .before .before .before .before .path-solve .ensures .1 (c .before .before .before .before .enum-told .given .1) .0) (c .before .before .gradients .ensures .0)) (omega (arith, c .before .before .gradients .ensures .1))
 
 same-length-3 : tie.Need-same-length-3
 same-length-3 c = c .before .before .before .before .path-solve .ensures .0 .kept .size ∙ c .before .before .before .before .before .before .before .before .before .copy .ensures .kept .size ∙ c .before .before .before .before .before .before .before .before .before .before .before .before .before .clear .ensures .kept .size
 
 returns-3 : tie.Need-returns-3
-returns-3 c = (does-eq (solved-as (c .before .before .before .before .path-solve .result) (vecAt (c .before .before .before .before .path-solve .last .0) SOLUTION (c .before .before .before .before .before .before .before .before .before .before .before .before .before .before .before .before .args .n)) (c .enum-told2 .given .1)) (linear-path (c .before .before .before .before .before .before .before .before .before .before .before .before .before .before .before .before .pre) (c .before .before .before .before .before .before .before .before .before .before .before .before .before .before .before .before .args .cyclic) (c .before .before .before .before .before .before .before .before .before .before .before .before .before .clear .ensures) (c .before .before .before .before .before .before .before .before .before .copy .ensures) (c .before .before .before .before .before .before .if1 .left) (does-as (λ (q : End). endAs q (c .before .before .before .before .path-solve .result .passes) (vecAt (c .before .before .before .before .path-solve .last .0) SOLUTION (c .before .before .before .before .before .before .before .before .before .before .before .before .before .before .before .before .args .n))) (c .enum-told2 .given .1) (c .before .before .before .before .path-solve .ensures .0))), omega (arith, c .before .before .before .before .path-solve .ensures .2))
+returns-3 c = solves-so _ (c .before .before .before .before .path-solve .result) (does-eq (solved-as (c .before .before .before .before .path-solve .result) (vecAt (c .before .before .before .before .path-solve .last .0) SOLUTION (c .before .before .before .before .before .before .before .before .before .before .before .before .before .before .before .before .args .n)) (c .enum-told2 .given .1)) (linear-path (c .before .before .before .before .before .before .before .before .before .before .before .before .before .before .before .before .pre) (c .before .before .before .before .before .before .before .before .before .before .before .before .before .before .before .before .args .cyclic) (c .before .before .before .before .before .before .before .before .before .before .before .before .before .clear .ensures) (c .before .before .before .before .before .before .before .before .before .copy .ensures) (c .before .before .before .before .before .before .if1 .left) (does-as (λ (q : End). endAs q (c .before .before .before .before .path-solve .result .passes) (vecAt (c .before .before .before .before .path-solve .last .0) SOLUTION (c .before .before .before .before .before .before .before .before .before .before .before .before .before .before .before .before .args .n))) (c .enum-told2 .given .1) (c .before .before .before .before .path-solve .ensures .0)))) (omega (arith, c .before .before .before .before .path-solve .ensures .2))
 
 same-length-4 : tie.Need-same-length-4
 same-length-4 c = c .before .before .before .before .path-solve .ensures .0 .kept .size ∙ c .before .before .before .before .before .before .before .before .before .copy .ensures .kept .size ∙ c .before .before .before .before .before .before .before .before .before .before .before .before .before .clear .ensures .kept .size
 
 returns-4 : tie.Need-returns-4
-returns-4 c = (does-eq (solved-as (c .before .before .before .before .path-solve .result) (vecAt (c .before .before .before .before .path-solve .last .0) SOLUTION (c .before .before .before .before .before .before .before .before .before .before .before .before .before .before .before .before .args .n)) (c .enum-told3 .given .1)) (linear-path (c .before .before .before .before .before .before .before .before .before .before .before .before .before .before .before .before .pre) (c .before .before .before .before .before .before .before .before .before .before .before .before .before .before .before .before .args .cyclic) (c .before .before .before .before .before .before .before .before .before .before .before .before .before .clear .ensures) (c .before .before .before .before .before .before .before .before .before .copy .ensures) (c .before .before .before .before .before .before .if1 .left) (does-as (λ (q : End). endAs q (c .before .before .before .before .path-solve .result .passes) (vecAt (c .before .before .before .before .path-solve .last .0) SOLUTION (c .before .before .before .before .before .before .before .before .before .before .before .before .before .before .before .before .args .n))) (c .enum-told3 .given .1) (c .before .before .before .before .path-solve .ensures .0))), omega (arith, c .before .before .before .before .path-solve .ensures .2))
+returns-4 c = solves-so _ (c .before .before .before .before .path-solve .result) (does-eq (solved-as (c .before .before .before .before .path-solve .result) (vecAt (c .before .before .before .before .path-solve .last .0) SOLUTION (c .before .before .before .before .before .before .before .before .before .before .before .before .before .before .before .before .args .n)) (c .enum-told3 .given .1)) (linear-path (c .before .before .before .before .before .before .before .before .before .before .before .before .before .before .before .before .pre) (c .before .before .before .before .before .before .before .before .before .before .before .before .before .before .before .before .args .cyclic) (c .before .before .before .before .before .before .before .before .before .before .before .before .before .clear .ensures) (c .before .before .before .before .before .before .before .before .before .copy .ensures) (c .before .before .before .before .before .before .if1 .left) (does-as (λ (q : End). endAs q (c .before .before .before .before .path-solve .result .passes) (vecAt (c .before .before .before .before .path-solve .last .0) SOLUTION (c .before .before .before .before .before .before .before .before .before .before .before .before .before .before .before .before .args .n))) (c .enum-told3 .given .1) (c .before .before .before .before .path-solve .ensures .0)))) (omega (arith, c .before .before .before .before .path-solve .ensures .2))
 
 same-length-5 : tie.Need-same-length-5
 same-length-5 c = c .before .before .before .before .path-solve .ensures .0 .kept .size ∙ c .before .before .before .before .before .before .before .before .before .copy .ensures .kept .size ∙ c .before .before .before .before .before .before .before .before .before .before .before .before .before .clear .ensures .kept .size
 
 returns-5 : tie.Need-returns-5
-returns-5 c = (does-eq (solved-as (c .before .before .before .before .path-solve .result) (vecAt (c .before .before .before .before .path-solve .last .0) SOLUTION (c .before .before .before .before .before .before .before .before .before .before .before .before .before .before .before .before .args .n)) (c .enum-told4 .given .1)) (linear-path (c .before .before .before .before .before .before .before .before .before .before .before .before .before .before .before .before .pre) (c .before .before .before .before .before .before .before .before .before .before .before .before .before .before .before .before .args .cyclic) (c .before .before .before .before .before .before .before .before .before .before .before .before .before .clear .ensures) (c .before .before .before .before .before .before .before .before .before .copy .ensures) (c .before .before .before .before .before .before .if1 .left) (does-as (λ (q : End). endAs q (c .before .before .before .before .path-solve .result .passes) (vecAt (c .before .before .before .before .path-solve .last .0) SOLUTION (c .before .before .before .before .before .before .before .before .before .before .before .before .before .before .before .before .args .n))) (c .enum-told4 .given .1) (c .before .before .before .before .path-solve .ensures .0))), omega (arith, c .before .before .before .before .path-solve .ensures .2))
+returns-5 c = solves-so _ (c .before .before .before .before .path-solve .result) (does-eq (solved-as (c .before .before .before .before .path-solve .result) (vecAt (c .before .before .before .before .path-solve .last .0) SOLUTION (c .before .before .before .before .before .before .before .before .before .before .before .before .before .before .before .before .args .n)) (c .enum-told4 .given .1)) (linear-path (c .before .before .before .before .before .before .before .before .before .before .before .before .before .before .before .before .pre) (c .before .before .before .before .before .before .before .before .before .before .before .before .before .before .before .before .args .cyclic) (c .before .before .before .before .before .before .before .before .before .before .before .before .before .clear .ensures) (c .before .before .before .before .before .before .before .before .before .copy .ensures) (c .before .before .before .before .before .before .if1 .left) (does-as (λ (q : End). endAs q (c .before .before .before .before .path-solve .result .passes) (vecAt (c .before .before .before .before .path-solve .last .0) SOLUTION (c .before .before .before .before .before .before .before .before .before .before .before .before .before .before .before .before .args .n))) (c .enum-told4 .given .1) (c .before .before .before .before .path-solve .ensures .0)))) (omega (arith, c .before .before .before .before .path-solve .ensures .2))
 
 pub linear-solve-spec : {M : Type 1} → statement M
 linear-solve-spec =

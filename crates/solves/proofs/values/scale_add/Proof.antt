@@ -1,15 +1,13 @@
 use native.Mathlib.Omega.{arith}
-use borrow.Author.Needs.{needs}
-use mathlib.Core.Path.{_≡_, refl, sym, ap, _∙_}
-use Prim.Native.Nat.{_+_, _*_, _≤_, _<_, _-_}
+use mathlib.Core.Path.{_≡_, refl}
+use Prim.Native.Nat.{_≤_, _-_}
 use lib.ListN.{length, length-set}
-use denote.Ref.{now}
 use lib.Ieee.{Float}
-use Rattle.arith.specs.Real.{_⊕_, _⊖_, _⊗_}
+use Rattle.arith.specs.Real.{_⊕_, _⊗_}
 use Rattle.solves.specs.Solver.{plus}
 use Rattle.solves.specs.Region.{Filled}
 use Rattle.solves.specs.RegionLaws.{filled-none}
-use Rattle.solves.proofs.VectorLaws.{both, two-more, two-is, apart-out}
+use Rattle.solves.proofs.VectorLaws.{both, two-more, two-is}
 use Rattle.solves.proofs.values.scale_add.Statement.{statement}
 use Rattle.solves.proofs.values.scale_add.Tie as tie
 

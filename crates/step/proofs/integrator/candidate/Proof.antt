@@ -19,19 +19,19 @@ same-length : tie.Need-same-length
 same-length c = search needs
 
 returns : tie.Need-returns
-returns c = candidate-1 (c .before .before .before .before .before .before .before .args .joints) (c .before .before .before .before .before .before .before .args .count) (c .before .before .before .before .before .before .before .args .dt) (now (c .before .before .before .before .before .before .before .args .ia)) (now (c .before .before .before .before .before .before .before .args .ib)) (c .before .before .before .before .before .before .before .args .n) (c .before .before .before .before .before .before .before .args .bodies) (c .before .before .before .before .before .before .before .pre .0 .most) (c .before .before .before .before .before .before .before .pre .0 .bodies) _ _ (c .before .before .before .before .transpose .result) (c .before .before .before .before .transpose .ensures) (c .enum-told .given .1)
+returns c = candidate-1 (c .before .before .before .before .before .before .before .args .joints) (c .before .before .before .before .before .before .before .args .count) (c .before .before .before .before .before .before .before .args .dt) (now (c .before .before .before .before .before .before .before .args .ia)) (now (c .before .before .before .before .before .before .before .args .ib)) (c .before .before .before .before .before .before .before .args .n) (c .before .before .before .before .before .before .before .args .bodies) (c .before .before .before .before .before .before .before .pre .0 .most) (c .before .before .before .before .before .before .before .pre .0 .bodies) _ _ (c .before .before .before .before .transpose .result) (c .before .before .before .before .transpose .ensures .0) (c .enum-told .given .1)
 
 enum-told-2 : tie.Need-enum-told-2
 enum-told-2 c = search needs
 
 move-bodies-requires : tie.Need-move-bodies-requires
-move-bodies-requires c κs = (omega (arith, c .before .before .before .before .before .transpose .ensures .kept .size, c .before .before .before .before .before .before .before .before .pre .0 .whole), c .before .before .before .before .before .before .before .before .pre .0 .bodies)
+move-bodies-requires c κs = (omega (arith, c .before .before .before .before .before .transpose .ensures .0 .kept .size, c .before .before .before .before .before .before .before .before .pre .0 .whole), c .before .before .before .before .before .before .before .before .pre .0 .bodies)
 
 enum-told-3 : tie.Need-enum-told-3
 enum-told-3 c = search needs
 
 write-rows-requires : tie.Need-write-rows-requires
-write-rows-requires c κs = (omega (arith, c .before .before .before .before .before .move-bodies .ensures .kept .size, c .before .before .before .before .before .before .before .before .before .before .before .transpose .ensures .kept .size, c .before .before .before .before .before .before .before .before .before .before .before .before .before .before .pre .0 .whole), omega arith, joined-sixteen (c .before .before .before .before .before .before .before .before .before .before .before .before .before .before .pre .1))
+write-rows-requires c κs = (omega (arith, c .before .before .before .before .before .move-bodies .ensures .kept .size, c .before .before .before .before .before .before .before .before .before .before .before .transpose .ensures .0 .kept .size, c .before .before .before .before .before .before .before .before .before .before .before .before .before .before .pre .0 .whole), omega arith, joined-sixteen (c .before .before .before .before .before .before .before .before .before .before .before .before .before .before .pre .1))
 
 enum-told-4 : tie.Need-enum-told-4
 enum-told-4 c = search needs
@@ -43,19 +43,19 @@ same-length-2 : tie.Need-same-length-2
 same-length-2 c = search needs
 
 returns-2 : tie.Need-returns-2
-returns-2 c = candidate-3 (c .before .before .before .before .before .before .before .before .before .before .before .before .before .before .before .before .before .args .joints) (c .before .before .before .before .before .before .before .before .before .before .before .before .before .before .before .before .before .args .count) (c .before .before .before .before .before .before .before .before .before .before .before .before .before .before .before .before .before .args .dt) (now (c .before .before .before .before .before .before .before .before .before .before .before .before .before .before .before .before .before .args .ia)) (now (c .before .before .before .before .before .before .before .before .before .before .before .before .before .before .before .before .before .args .ib)) (c .before .before .before .before .before .before .before .before .before .before .before .before .before .before .before .before .before .args .n) (c .before .before .before .before .before .before .before .before .before .before .before .before .before .before .before .before .before .args .bodies) (c .before .before .before .before .before .before .before .before .before .before .before .before .before .before .before .before .before .pre .0 .most) (c .before .before .before .before .before .before .before .before .before .before .before .before .before .before .before .before .before .pre .0 .bodies) _ _ (c .before .before .before .before .before .before .before .before .before .before .before .before .before .before .transpose .result) (c .before .before .before .before .before .before .before .before .before .before .before .before .before .before .transpose .ensures) (c .before .before .before .before .before .before .before .before .before .before .enum-told2 .given .1) _ (c .before .before .before .before .before .before .before .before .move-bodies .result) (c .before .before .before .before .before .before .before .before .move-bodies .ensures) (c .before .before .before .before .enum-told3 .given .1) _ (c .before .before .before .before .before .before .before .before .before .before .before .before .before .before .before .before .before .pre .3) _ (c .before .before .write-rows .result) (c .before .before .write-rows .ensures _ (c .before .before .before .before .before .before .before .before .before .before .before .before .before .before .before .before .before .pre .1) _ _ (c .before .before .before .before .before .before .before .before .before .before .before .before .before .before .before .before .before .pre .2))
+returns-2 c = candidate-3 (c .before .before .before .before .before .before .before .before .before .before .before .before .before .before .before .before .before .args .joints) (c .before .before .before .before .before .before .before .before .before .before .before .before .before .before .before .before .before .args .count) (c .before .before .before .before .before .before .before .before .before .before .before .before .before .before .before .before .before .args .dt) (now (c .before .before .before .before .before .before .before .before .before .before .before .before .before .before .before .before .before .args .ia)) (now (c .before .before .before .before .before .before .before .before .before .before .before .before .before .before .before .before .before .args .ib)) (c .before .before .before .before .before .before .before .before .before .before .before .before .before .before .before .before .before .args .n) (c .before .before .before .before .before .before .before .before .before .before .before .before .before .before .before .before .before .args .bodies) (c .before .before .before .before .before .before .before .before .before .before .before .before .before .before .before .before .before .pre .0 .most) (c .before .before .before .before .before .before .before .before .before .before .before .before .before .before .before .before .before .pre .0 .bodies) _ _ (c .before .before .before .before .before .before .before .before .before .before .before .before .before .before .transpose .result) (c .before .before .before .before .before .before .before .before .before .before .before .before .before .before .transpose .ensures .0) (c .before .before .before .before .before .before .before .before .before .before .enum-told2 .given .1) _ (c .before .before .before .before .before .before .before .before .move-bodies .result) (c .before .before .before .before .before .before .before .before .move-bodies .ensures) (c .before .before .before .before .enum-told3 .given .1) _ (c .before .before .before .before .before .before .before .before .before .before .before .before .before .before .before .before .before .pre .3) _ (c .before .before .write-rows .result) (c .before .before .write-rows .ensures _ (c .before .before .before .before .before .before .before .before .before .before .before .before .before .before .before .before .before .pre .1) _ _ (c .before .before .before .before .before .before .before .before .before .before .before .before .before .before .before .before .before .pre .2))
 
 same-length-3 : tie.Need-same-length-3
 same-length-3 c = search needs
 
 returns-3 : tie.Need-returns-3
-returns-3 c = candidate-2 (c .before .before .before .before .before .before .before .before .before .before .before .before .before .args .joints) (c .before .before .before .before .before .before .before .before .before .before .before .before .before .args .count) (c .before .before .before .before .before .before .before .before .before .before .before .before .before .args .dt) (now (c .before .before .before .before .before .before .before .before .before .before .before .before .before .args .ia)) (now (c .before .before .before .before .before .before .before .before .before .before .before .before .before .args .ib)) (c .before .before .before .before .before .before .before .before .before .before .before .before .before .args .n) (c .before .before .before .before .before .before .before .before .before .before .before .before .before .args .bodies) (c .before .before .before .before .before .before .before .before .before .before .before .before .before .pre .0 .most) (c .before .before .before .before .before .before .before .before .before .before .before .before .before .pre .0 .bodies) _ _ (c .before .before .before .before .before .before .before .before .before .before .transpose .result) (c .before .before .before .before .before .before .before .before .before .before .transpose .ensures) (c .before .before .before .before .before .before .enum-told2 .given .1) _ (c .before .before .before .before .move-bodies .result) (c .before .before .before .before .move-bodies .ensures) (candidate-2-case (c .before .before .before .before .before .before .before .before .before .before .before .before .before .args .joints) (c .before .before .before .before .before .before .before .before .before .before .before .before .before .args .count) (c .before .before .before .before .before .before .before .before .before .before .before .before .before .args .dt) (now (c .before .before .before .before .before .before .before .before .before .before .before .before .before .args .ia)) (now (c .before .before .before .before .before .before .before .before .before .before .before .before .before .args .ib)) (c .before .before .before .before .before .before .before .before .before .before .before .before .before .args .n) (c .before .before .before .before .before .before .before .before .before .before .before .before .before .args .bodies) (c .before .before .before .before .before .before .before .before .before .before .before .before .before .pre .0 .most) (c .before .before .before .before .before .before .before .before .before .before .before .before .before .pre .0 .bodies) _ _ (c .before .before .before .before .before .before .before .before .before .before .transpose .result) (c .before .before .before .before .before .before .before .before .before .before .transpose .ensures) (c .before .before .before .before .before .before .enum-told2 .given .1) _ (c .before .before .before .before .move-bodies .result) (c .before .before .before .before .move-bodies .ensures) (c .enum-told4 .given .1))
+returns-3 c = candidate-2 (c .before .before .before .before .before .before .before .before .before .before .before .before .before .args .joints) (c .before .before .before .before .before .before .before .before .before .before .before .before .before .args .count) (c .before .before .before .before .before .before .before .before .before .before .before .before .before .args .dt) (now (c .before .before .before .before .before .before .before .before .before .before .before .before .before .args .ia)) (now (c .before .before .before .before .before .before .before .before .before .before .before .before .before .args .ib)) (c .before .before .before .before .before .before .before .before .before .before .before .before .before .args .n) (c .before .before .before .before .before .before .before .before .before .before .before .before .before .args .bodies) (c .before .before .before .before .before .before .before .before .before .before .before .before .before .pre .0 .most) (c .before .before .before .before .before .before .before .before .before .before .before .before .before .pre .0 .bodies) _ _ (c .before .before .before .before .before .before .before .before .before .before .transpose .result) (c .before .before .before .before .before .before .before .before .before .before .transpose .ensures .0) (c .before .before .before .before .before .before .enum-told2 .given .1) _ (c .before .before .before .before .move-bodies .result) (c .before .before .before .before .move-bodies .ensures) (candidate-2-case (c .before .before .before .before .before .before .before .before .before .before .before .before .before .args .joints) (c .before .before .before .before .before .before .before .before .before .before .before .before .before .args .count) (c .before .before .before .before .before .before .before .before .before .before .before .before .before .args .dt) (now (c .before .before .before .before .before .before .before .before .before .before .before .before .before .args .ia)) (now (c .before .before .before .before .before .before .before .before .before .before .before .before .before .args .ib)) (c .before .before .before .before .before .before .before .before .before .before .before .before .before .args .n) (c .before .before .before .before .before .before .before .before .before .before .before .before .before .args .bodies) (c .before .before .before .before .before .before .before .before .before .before .before .before .before .pre .0 .most) (c .before .before .before .before .before .before .before .before .before .before .before .before .before .pre .0 .bodies) _ _ (c .before .before .before .before .before .before .before .before .before .before .transpose .result) (c .before .before .before .before .before .before .before .before .before .before .transpose .ensures .0) (c .before .before .before .before .before .before .enum-told2 .given .1) _ (c .before .before .before .before .move-bodies .result) (c .before .before .before .before .move-bodies .ensures) (c .enum-told4 .given .1))
 
 same-length-4 : tie.Need-same-length-4
 same-length-4 c = search needs
 
 returns-4 : tie.Need-returns-4
-returns-4 c = candidate-2 (c .before .before .before .before .before .before .before .before .before .before .before .before .before .args .joints) (c .before .before .before .before .before .before .before .before .before .before .before .before .before .args .count) (c .before .before .before .before .before .before .before .before .before .before .before .before .before .args .dt) (now (c .before .before .before .before .before .before .before .before .before .before .before .before .before .args .ia)) (now (c .before .before .before .before .before .before .before .before .before .before .before .before .before .args .ib)) (c .before .before .before .before .before .before .before .before .before .before .before .before .before .args .n) (c .before .before .before .before .before .before .before .before .before .before .before .before .before .args .bodies) (c .before .before .before .before .before .before .before .before .before .before .before .before .before .pre .0 .most) (c .before .before .before .before .before .before .before .before .before .before .before .before .before .pre .0 .bodies) _ _ (c .before .before .before .before .before .before .before .before .before .before .transpose .result) (c .before .before .before .before .before .before .before .before .before .before .transpose .ensures) (c .before .before .before .before .before .before .enum-told2 .given .1) _ (c .before .before .before .before .move-bodies .result) (c .before .before .before .before .move-bodies .ensures) (candidate-2-case (c .before .before .before .before .before .before .before .before .before .before .before .before .before .args .joints) (c .before .before .before .before .before .before .before .before .before .before .before .before .before .args .count) (c .before .before .before .before .before .before .before .before .before .before .before .before .before .args .dt) (now (c .before .before .before .before .before .before .before .before .before .before .before .before .before .args .ia)) (now (c .before .before .before .before .before .before .before .before .before .before .before .before .before .args .ib)) (c .before .before .before .before .before .before .before .before .before .before .before .before .before .args .n) (c .before .before .before .before .before .before .before .before .before .before .before .before .before .args .bodies) (c .before .before .before .before .before .before .before .before .before .before .before .before .before .pre .0 .most) (c .before .before .before .before .before .before .before .before .before .before .before .before .before .pre .0 .bodies) _ _ (c .before .before .before .before .before .before .before .before .before .before .transpose .result) (c .before .before .before .before .before .before .before .before .before .before .transpose .ensures) (c .before .before .before .before .before .before .enum-told2 .given .1) _ (c .before .before .before .before .move-bodies .result) (c .before .before .before .before .move-bodies .ensures) (c .enum-told5 .given .1))
+returns-4 c = candidate-2 (c .before .before .before .before .before .before .before .before .before .before .before .before .before .args .joints) (c .before .before .before .before .before .before .before .before .before .before .before .before .before .args .count) (c .before .before .before .before .before .before .before .before .before .before .before .before .before .args .dt) (now (c .before .before .before .before .before .before .before .before .before .before .before .before .before .args .ia)) (now (c .before .before .before .before .before .before .before .before .before .before .before .before .before .args .ib)) (c .before .before .before .before .before .before .before .before .before .before .before .before .before .args .n) (c .before .before .before .before .before .before .before .before .before .before .before .before .before .args .bodies) (c .before .before .before .before .before .before .before .before .before .before .before .before .before .pre .0 .most) (c .before .before .before .before .before .before .before .before .before .before .before .before .before .pre .0 .bodies) _ _ (c .before .before .before .before .before .before .before .before .before .before .transpose .result) (c .before .before .before .before .before .before .before .before .before .before .transpose .ensures .0) (c .before .before .before .before .before .before .enum-told2 .given .1) _ (c .before .before .before .before .move-bodies .result) (c .before .before .before .before .move-bodies .ensures) (candidate-2-case (c .before .before .before .before .before .before .before .before .before .before .before .before .before .args .joints) (c .before .before .before .before .before .before .before .before .before .before .before .before .before .args .count) (c .before .before .before .before .before .before .before .before .before .before .before .before .before .args .dt) (now (c .before .before .before .before .before .before .before .before .before .before .before .before .before .args .ia)) (now (c .before .before .before .before .before .before .before .before .before .before .before .before .before .args .ib)) (c .before .before .before .before .before .before .before .before .before .before .before .before .before .args .n) (c .before .before .before .before .before .before .before .before .before .before .before .before .before .args .bodies) (c .before .before .before .before .before .before .before .before .before .before .before .before .before .pre .0 .most) (c .before .before .before .before .before .before .before .before .before .before .before .before .before .pre .0 .bodies) _ _ (c .before .before .before .before .before .before .before .before .before .before .transpose .result) (c .before .before .before .before .before .before .before .before .before .before .transpose .ensures .0) (c .before .before .before .before .before .before .enum-told2 .given .1) _ (c .before .before .before .before .move-bodies .result) (c .before .before .before .before .move-bodies .ensures) (c .enum-told5 .given .1))
 
 pub candidate-spec : {M : Type 1} → statement M
 candidate-spec =
