@@ -4,7 +4,7 @@ to the *.out beside it.
 
     tools/check_plans.py PROGRAM DIRECTORY...
 
-The program, which may be given with arguments in one word ('loader target/bin/pose'),
+The program, which may be given with arguments in one word ('PROGRAM ARGUMENT'),
 reads one plan on standard input. Ends with status 1 on a difference.
 """
 import pathlib

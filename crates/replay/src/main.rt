@@ -1,6 +1,15 @@
 // Answers each plan of data/plans.bin as `pose` would: a length in two bytes, the least first, then the plan.
 ghost use Prim.Native.Nat.{_<_};
 use libc::STDOUT_FILENO;
+use streams::Got;
+
+// What a turn came to: a plan was answered, the file had ended, or it went no further.
+enum Turn {
+    Answered,
+    Over,
+    Unread,
+    Unwritten,
+}
 
 fn joined(low: u8, high: u8) -> usize
     ensures { λ r. ⌜ r < 65536 ⌝ }
@@ -8,33 +17,58 @@ fn joined(low: u8, high: u8) -> usize
     low as usize + 256 * high as usize
 }
 
-// Reads and answers one plan; false where the file ends.
-fn next(fd: i32) -> bool {
+// Reads and answers one plan.
+fn next(fd: i32) -> Turn {
     let mut length = [0u8; 2];
-    if io::read_full(fd, &mut length) < 2 {
-        return false;
+    let got = streams::read_all(fd, &mut length);
+    let last = got.last;
+    if got.count < 2 {
+        return stopped(last, got.count);
     }
     let n = joined(length[0], length[1]);
     let mut plan = io::large_buffer();
     answer(fd, &mut plan[..n])
 }
 
-fn answer(fd: i32, file: &mut [u8]) -> bool {
+// The file may end before a plan, and nowhere else.
+fn stopped(last: Got, count: usize) -> Turn {
+    if streams::failed(last) {
+        return Turn::Unread;
+    }
+    if count == 0 {
+        return Turn::Over;
+    }
+    Turn::Unread
+}
+
+fn answer(fd: i32, file: &mut [u8]) -> Turn {
     let mut scratch = [0.0f64; 6144];
     let mut out = [0u8; 4096];
-    if io::read_full(fd, file) < file.len() {
-        return false;
+    let got = streams::read_all(fd, file);
+    if got.count < file.len() {
+        return Turn::Unread;
     }
     let n = plan::pose(file, &mut scratch, &mut out);
-    io::write_all(STDOUT_FILENO, &out[..n])
+    if io::write_all(STDOUT_FILENO, &out[..n]) {
+        return Turn::Answered;
+    }
+    Turn::Unwritten
 }
 
 // Nothing says that the file ends, so the loop counts its turns down.
-fn replay(fd: i32) {
+fn replay(fd: i32) -> Turn {
     let mut turns = u64::MAX;
-    while turns > 0 && next(fd) {
-        turns -= 1;
+    while turns > 0 {
+        match next(fd) {
+            Turn::Answered => {
+                turns -= 1;
+            }
+            end => {
+                return end;
+            }
+        }
     }
+    Turn::Over
 }
 
 fn main() {
@@ -44,6 +78,11 @@ fn main() {
         os::fail(path);
         return;
     }
-    replay(fd);
+    let end = replay(fd);
     libc::close(fd);
+    match end {
+        Turn::Unread => streams::complain(b"replay: plans.bin could not be read to its end\n"),
+        Turn::Unwritten => streams::complain(b"replay: an answer could not be written whole\n"),
+        _ => {}
+    }
 }

@@ -45,36 +45,52 @@ fn balls() -> [Joint; 16] {
     [ball; 16]
 }
 
-fn show(bodies: &mut [f64], joints: usize, dt: f64) {
+// Whether the report could be written whole.
+fn show(bodies: &mut [f64], joints: usize, dt: f64) -> bool {
     let mut scratch = [0.0; 6144];
     let mut out = [0u8; 4096];
     let answer = step::solve(bodies, balls(), joints, dt, &mut scratch);
     let outcome = answer.outcome;
     let number = step::number(outcome);
     let n = plan::report::report(number, answer.nonlinear, answer.linear, bodies, &mut out);
-    io::write_all(STDOUT_FILENO, &out[..n]);
+    io::write_all(STDOUT_FILENO, &out[..n])
 }
 
 // A body of this mass moves one metre in a step of one second.
-fn show_one(mass: f64) {
+fn show_one(mass: f64) -> bool {
     let mut one = [0.0; 26];
     place(&mut one, 0, mass, 1.0);
-    show(&mut one, 0, 1.0);
+    show(&mut one, 0, 1.0)
 }
 
 // Two bodies at rest with so many joints that hold.
-fn show_two(joints: usize) {
+fn show_two(joints: usize) -> bool {
     let mut two = [0.0; 52];
     place(&mut two, 0, 2.0, 0.0);
     place(&mut two, 26, 2.0, 0.0);
-    show(&mut two, joints, 1.0);
+    show(&mut two, joints, 1.0)
+}
+
+// All of them, as far as they can be written.
+fn show_all() -> bool {
+    let mut none = [0.0; 0];
+    if !show_one(2.0) {
+        return false;
+    }
+    if !show(&mut none, 0, 1.0) {
+        return false;
+    }
+    if !show_two(16) {
+        return false;
+    }
+    if !show_two(17) {
+        return false;
+    }
+    show_one(0.0009765625)
 }
 
 fn main() {
-    let mut none = [0.0; 0];
-    show_one(2.0);
-    show(&mut none, 0, 1.0);
-    show_two(16);
-    show_two(17);
-    show_one(0.0009765625);
+    if !show_all() {
+        streams::complain(b"worked: a report could not be written whole\n");
+    }
 }

@@ -1,7 +1,6 @@
--- `replay::replay` is safe and ends. The measure is the number of turns that are left.
--- Nothing has to hold from turn to turn, so the invariant is `Unit {0}`, the fact that says nothing, which `tt` shows.
--- Assumes nothing.
+-- `replay` is safe and ends: the measure is the number of turns that are left. Nothing has to hold from turn to turn.
 use native.Mathlib.Omega.{arith}
+use borrow.Author.Needs.{needs}
 use Rattle.replay.proofs.replay.Statement.{statement}
 use Rattle.replay.proofs.replay.Tie as tie
 
@@ -16,6 +15,9 @@ loop-holds c = tt
 
 next-requires : tie.Need-next-requires Inv-loop μ-loop
 next-requires c κs = tt
+
+enum-told : tie.Need-enum-told Inv-loop μ-loop
+enum-told c = search needs
 
 sub-turns : tie.Need-sub-turns Inv-loop μ-loop
 sub-turns c = omega arith
@@ -33,4 +35,16 @@ returns-2 : tie.Need-returns-2 Inv-loop μ-loop
 returns-2 c = tt
 
 pub replay-spec : {M : Type 1} → statement M
-replay-spec = tie.close (tie.spec Inv-loop μ-loop loop-holds next-requires sub-turns loop-less loop-again returns returns-2)
+replay-spec =
+    tie.close
+    (tie.spec
+    Inv-loop
+    μ-loop
+    loop-holds
+    next-requires
+    enum-told
+    sub-turns
+    loop-less
+    loop-again
+    returns
+    returns-2)

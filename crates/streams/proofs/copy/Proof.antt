@@ -1,0 +1,58 @@
+-- `copy`: after i turns i bytes are copied.
+use Prim.Native.Nat.{ℕ, _+_, _-_, _≤_, zero-le}
+use native.Mathlib.Omega.{arith}
+use native.Mathlib.Numerals.{add-one}
+use mathlib.Core.Path.{_≡_, refl, sym, ap, _∙_}
+use mathlib.Core.List.{List}
+use lib.ListN.{length, set, getD, length-set}
+use lib.Seq.{paste, paste-zero, paste-suc}
+use Rattle.streams.proofs.copy.Statement.{statement}
+use Rattle.streams.proofs.copy.Tie as tie
+
+abbrev Inv-loop : tie.InvT-loop
+Inv-loop from n to₀ at i₀ to i = (length to ≡ length to₀) × (i ≤ n) × (to ≡ paste to₀ at from i)
+
+abbrev μ-loop : tie.MeasureT-loop
+μ-loop from n to₀ at i₀ to i = n - i
+
+loop-holds : tie.Need-loop-holds Inv-loop μ-loop
+loop-holds c = let a = c .args in (refl, zero-le, paste-zero (a .to .now) (a .at) (a .from .now))
+
+shared-slice-read-to : tie.Need-shared-slice-read-to Inv-loop μ-loop
+shared-slice-read-to c = omega arith
+
+add-to : tie.Need-add-to Inv-loop μ-loop
+add-to c = omega arith
+
+slice-write-to : tie.Need-slice-write-to Inv-loop μ-loop
+slice-write-to c = omega arith
+
+add-i : tie.Need-add-i Inv-loop μ-loop
+add-i c = omega arith
+
+loop-less : tie.Need-loop-less Inv-loop μ-loop
+loop-less c = omega arith
+
+loop-again : tie.Need-loop-again Inv-loop μ-loop
+loop-again c =
+    let l = c .before .before .loop in
+    let a = c .before .before .before .args in (
+      simp length-set (l .inv .0),
+      omega arith,
+      ap (λ (d : List ℕ). set d (a .at + l .i) (getD (a .from .now) (l .i) 0)) (l .inv .2)
+          ∙ paste-suc (a .to .now) (a .at) (a .from .now) (l .i) 0 (omega arith) (omega arith)
+          ∙ ap (paste (a .to .now) (a .at) (a .from .now)) (sym (add-one (l .i))),
+    )
+
+same-length : tie.Need-same-length Inv-loop μ-loop
+same-length c = omega arith
+
+returns : tie.Need-returns Inv-loop μ-loop
+returns c =
+    let l = c .before .loop in
+    let a = c .before .before .args in
+    let all : l .i ≡ a .n = omega arith in
+    l .inv .2 ∙ ap (paste (a .to .now) (a .at) (a .from .now)) all
+
+pub copy-spec : {M : Type 1} → statement M
+copy-spec = tie.close (tie.spec Inv-loop μ-loop loop-holds shared-slice-read-to add-to slice-write-to add-i loop-less loop-again same-length returns)

@@ -1,0 +1,98 @@
+-- `read_all`: after each turn the bytes behind what came are those of the first buffer, and the last read brought some.
+use Prim.Native.Nat.{_-_, _≤_, _<_, _^_}
+use mathlib.Core.Path.{_≡_, refl, sym, _∙_}
+use native.Mathlib.Omega.{arith}
+use lib.ListN.{length, drop}
+use denote.Ref.{now}
+use borrow.Author.Needs.{needs}
+use Rattle.streams.specs.Receive.{isMore}
+use Rattle.streams.proofs.Readings.{reading-none, reading-more, reading-stops, reading-full, Reading}
+use Rattle.streams.proofs.read_all.Statement.{statement}
+use Rattle.streams.proofs.read_all.Tie as tie
+
+abbrev Inv-loop : tie.InvT-loop
+Inv-loop fd buffer₀ chunk₀ count₀ last₀ buffer chunk count last =
+    (length buffer ≡ length buffer₀) × (length chunk ≡ length chunk₀) × (count ≤ length buffer) ×
+    (length buffer < 2 ^ 64) × Reading buffer₀ buffer count last
+
+abbrev μ-loop : tie.MeasureT-loop
+μ-loop fd buffer₀ chunk₀ count₀ last₀ buffer chunk count last = length buffer - count
+
+buffer-requires : tie.Need-buffer-requires Inv-loop μ-loop
+buffer-requires c κs = search needs
+
+slice-aggregate-chunk : tie.Need-slice-aggregate-chunk Inv-loop μ-loop
+slice-aggregate-chunk c = omega arith
+
+loop-holds : tie.Need-loop-holds Inv-loop μ-loop
+loop-holds c = (refl, refl, omega arith, omega arith, reading-none _)
+
+read-to-requires : tie.Need-read-to-requires Inv-loop μ-loop
+read-to-requires c κs = omega arith
+
+bytes-requires : tie.Need-bytes-requires Inv-loop μ-loop
+bytes-requires c κs = search needs
+
+same-length : tie.Need-same-length Inv-loop μ-loop
+same-length c = omega arith
+
+returns : tie.Need-returns Inv-loop μ-loop
+returns c =
+    let at-bytes = c .before .before in
+    let at-read = at-bytes .before .before .before .before .before in
+    let at-loop = at-read .before .before .before .before in
+    let inv = at-loop .loop .inv in
+    reading-stops _ _ (inv .4) (at-read .read-to .ensures) (at-bytes .bytes .ensures)
+    (omega arith) (omega arith) (inv .0) (omega arith)
+
+add-count : tie.Need-add-count Inv-loop μ-loop
+add-count c =
+    let at-bytes = c .before in
+    let at-read = at-bytes .before .before .before .before .before in
+    omega (arith, at-read .read-to .ensures .within, at-bytes .bytes .ensures)
+
+loop-less : tie.Need-loop-less Inv-loop μ-loop
+loop-less c =
+    let at-bytes = c .before in
+    let at-read = at-bytes .before .before .before .before .before in
+    omega (arith, at-read .read-to .ensures .within, at-bytes .bytes .ensures, at-read .read-to .kept)
+
+loop-again : tie.Need-loop-again Inv-loop μ-loop
+loop-again c =
+    let at-bytes = c .before in
+    let at-read = at-bytes .before .before .before .before .before in
+    let at-loop = at-read .before .before .before .before in (
+      omega arith,
+      omega arith,
+      omega (arith, at-read .read-to .ensures .within, at-bytes .bytes .ensures),
+      omega arith,
+      reading-more _ _ (at-loop .loop .inv .4) (at-read .read-to .ensures) (at-bytes .bytes .ensures) (c .if1 .left),
+    )
+
+same-length-2 : tie.Need-same-length-2 Inv-loop μ-loop
+same-length-2 c = omega arith
+
+returns-2 : tie.Need-returns-2 Inv-loop μ-loop
+returns-2 c =
+    let at-loop = c .before .before in
+    let inv = at-loop .loop .inv in
+    reading-full _ _ (inv .4) (inv .0) (c .before .loop-test .left) (inv .2)
+
+pub read-all-spec : {M : Type 1} → statement M
+read-all-spec =
+    tie.close
+    (tie.spec
+    Inv-loop
+    μ-loop
+    buffer-requires
+    slice-aggregate-chunk
+    loop-holds
+    read-to-requires
+    bytes-requires
+    same-length
+    returns
+    add-count
+    loop-less
+    loop-again
+    same-length-2
+    returns-2)
