@@ -66,12 +66,19 @@ turnedOf q v =
 abbrev pub ifFinite : Vec3 → OptionVec3
 ifFinite v = cond (finiteOf v) (Vector.Some v) Vector.None
 
+abbrev pub rotatedOf : Quat → Vec3 → OptionVec3
+rotatedOf rotation v = ifFinite (turnedOf rotation v)
+
 abbrev pub rotatedBy : Vec3 → OptionQuat → OptionVec3
-rotatedBy v (Some rotation) = ifFinite (turnedOf rotation v)
+rotatedBy v (Some rotation) = rotatedOf rotation v
 rotatedBy v None = Vector.None
 
 unfoldable pub rotateVectorOf : Quat → Vec3 → OptionVec3
 rotateVectorOf q v = cond (not (finiteOf v)) Vector.None (rotatedBy v (quatTryNormalizeOf q))
+
+-- the same of every quaternion that normalizes to u
+unfoldable pub rotateAsUnitOf : Quat → Vec3 → OptionVec3
+rotateAsUnitOf u v = cond (not (finiteOf v)) Vector.None (rotatedOf u v)
 
 -- the columns of the matrix of a rotation
 abbrev pub columnsOf : Quat → Mat3
@@ -121,5 +128,13 @@ abbrev pub integrated : OptionQuat → OptionQuat → OptionQuat
 integrated (Some delta) rotation = turnedBy delta rotation
 integrated None rotation = None
 
+-- the turn by an angular velocity in the time dt
+abbrev pub deltaIn : Vec3 → Float → OptionQuat
+deltaIn velocity dt = cond (not (finiteOf velocity) || not (isFinite dt)) None (deltaOf (scaleOf velocity dt))
+
 unfoldable pub integrateOf : Quat → Vec3 → Float → OptionQuat
-integrateOf q velocity dt = cond (not (finiteOf velocity) || not (isFinite dt)) None (integrated (deltaOf (scaleOf velocity dt)) (quatTryNormalizeOf q))
+integrateOf q velocity dt = integrated (deltaIn velocity dt) (quatTryNormalizeOf q)
+
+-- the same of every quaternion that normalizes to u
+unfoldable pub integrateAsUnitOf : Quat → Vec3 → Float → OptionQuat
+integrateAsUnitOf u velocity dt = integrated (deltaIn velocity dt) (Some u)
