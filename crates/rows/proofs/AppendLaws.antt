@@ -12,15 +12,16 @@ use lib.Seq.{getD-set-same}
 use Rattle.arith.specs.Real.{F, ratio}
 use Rattle.arith.specs.Flow.{go, stop, _>>=_, tab}
 use Rattle.arith.specs.FlowLaws.{then-go, then-stop}
-use Rattle.rows.specs.declared.geometry.Kind.{Kind}
-use Rattle.rows.specs.declared.geometry.Kind.the-variants.{ConeTwist}
+use Rattle.rows.specs.declared.geometry.Cone.{Cone}
+use Rattle.rows.specs.declared.geometry.Turning.{Turning}
+use Rattle.rows.specs.declared.geometry.Turning.the-variants as Turns
 use Rattle.rows.specs.declared.geometry.EqualityRow.{EqualityRow}
 use Rattle.rows.specs.declared.geometry.RowAnswer.{RowAnswer}
 use Rattle.rows.specs.declared.geometry.RowAnswer.the-variants as Row
 use Rattle.rows.specs.declared.geometry.Written.{Written}
 use Rattle.rows.specs.declared.geometry.Written.the-variants as Written
 use Rattle.rows.specs.Fault.{Fault, Result}
-use Rattle.rows.specs.Geometry.{rowIf, oneIf, rowCount}
+use Rattle.rows.specs.Geometry.{rowIf, swingLocked, twistLocked, oneIf, turningCount}
 use Rattle.rows.proofs.Constants.{zero-is}
 use Rattle.rows.specs.View.{at, rowAt, Out, Kept}
 use Rattle.rows.specs.Answer.{writtenAs}
@@ -189,14 +190,10 @@ pub one-no : {b : Bool} → b ≡ false → 0 ≡ oneIf b
 unfolding oneIf
 one-no e = ap oneIf (sym e)
 
-pub one-most : {n : ℕ} (b : Bool) → n ≡ oneIf b → n ≤ 1
-unfolding oneIf
-one-most true e = omega arith
-one-most false e = omega arith
-
-pub count-cone : {kind : Kind} {x y lower upper : Float} {m n o : ℕ} → kind ≡ ConeTwist x y lower upper
-    → m ≡ oneIf (Ieee.eq x (F 0)) → n ≡ oneIf (Ieee.eq y (F 0)) → o ≡ oneIf (Ieee.eq lower upper) → 3 + m + n + o ≡ rowCount kind
-count-cone {x = x} {y = y} {m = m} {n = n} {o = o} e a b d =
-    let u : m ≡ oneIf (Ieee.eq x (ratio 0 1)) = a ∙ ap (λ (z : Float). oneIf (Ieee.eq x z)) zero-is in
-    let v : n ≡ oneIf (Ieee.eq y (ratio 0 1)) = b ∙ ap (λ (z : Float). oneIf (Ieee.eq y z)) zero-is in
-    omega arith ∙ sym (ap rowCount e)
+-- the rows of a cone twist, as the code adds them up
+pub cone-count : {turning : Turning} {cone : Cone} {m n o : ℕ} → turning ≡ Turns.Cone cone
+    → m ≡ oneIf (Ieee.eq (cone .«swing_x») (F 0)) → n ≡ oneIf (Ieee.eq (cone .«swing_y») (F 0)) → o ≡ oneIf (twistLocked cone) → m + n + o ≡ turningCount turning
+cone-count {cone = cone} {m = m} {n = n} {o = o} e a b d =
+    let u : m ≡ oneIf (swingLocked (cone .«swing_x»)) = a ∙ ap (λ (z : Float). oneIf (Ieee.eq (cone .«swing_x») z)) zero-is in
+    let v : n ≡ oneIf (swingLocked (cone .«swing_y»)) = b ∙ ap (λ (z : Float). oneIf (Ieee.eq (cone .«swing_y») z)) zero-is in
+    omega arith ∙ sym (ap turningCount e)
