@@ -6,10 +6,9 @@ use mathlib.Core.List.{List, [], _∷_, _++_, append-assoc, append-nil}
 use native.Mathlib.Numerals.{add-one}
 use native.Mathlib.Omega.{arith}
 use native.Mathlib.Decide.{ℕ-discrete}
-use lib.Ieee as Ieee
 use lib.Ieee.{Float}
 use lib.ListN.{length, length-append}
-use Rattle.arith.specs.Real.{F, ratio, isFinite}
+use Rattle.arith.specs.Real.{F, isFinite}
 use Rattle.arith.specs.Flow.{go, stop, _>>=_, tab, returnIf}
 use Rattle.arith.specs.FlowLaws.{then-go, then-stop, not-yes, not-no}
 use Rattle.vectors.specs.declared.vector.Vec3.{Vec3}
@@ -37,7 +36,6 @@ use Rattle.rows.specs.declared.geometry.Cone.{Cone}
 use Rattle.rows.specs.declared.geometry.Relative.{Relative}
 use Rattle.rows.specs.declared.geometry.Swing.{Swing}
 use Rattle.rows.specs.declared.geometry.RowAnswer.{RowAnswer}
-use Rattle.rows.specs.declared.geometry.RowAnswer.the-variants as Row
 use Rattle.rows.specs.declared.geometry.Written.{Written}
 use Rattle.rows.specs.declared.geometry.Written.the-variants as Written
 use Rattle.rows.specs.Fault.{Fault, nonConvergent, arithmeticOverflow, Result, vectorOr, tryFinite, tryRotate}
@@ -85,12 +83,12 @@ module _ (joint : Joint) where
   twist-mine frameA r lower = mine-then _ _ λ half. mine-then _ _ λ _. gradient-mine frameA (r .rotation) _ _ _
 
 -- ---- the linear rows
-chain-3 : (X Y Z : Rows) → followedBy (followedBy (followedBy (go []) X) Y) Z ≡ (X >>= λ x. Y >>= λ y. Z >>= λ z. go ((x ++ y) ++ z))
+three-in-turn : (X Y Z : Rows) → followedBy (followedBy (followedBy (go []) X) Y) Z ≡ (X >>= λ x. Y >>= λ y. Z >>= λ z. go ((x ++ y) ++ z))
 unfolding _>>=_
-chain-3 (stop f) Y Z = refl
-chain-3 (go x) (stop f) Z = refl
-chain-3 (go x) (go y) (stop f) = refl
-chain-3 (go x) (go y) (go z) = refl
+three-in-turn (stop f) Y Z = refl
+three-in-turn (go x) (stop f) Z = refl
+three-in-turn (go x) (go y) (stop f) = refl
+three-in-turn (go x) (go y) (go z) = refl
 
 module _ (joint : Joint) (e : Ends) where
   abbrev lines : Axes → Rows
@@ -113,7 +111,7 @@ module _ (joint : Joint) (e : Ends) where
       → Appends i w₂ z u v r → rowAs z ≡ rowIf (l .z) (linearRow joint e (vec (F 0) (F 0) (F 0x3ff0_0000_0000_0000)))
       → Adds (joint .«body_a») (joint .«body_b») i 3 s v r (linearRows linear joint e)
   linear-adds {i} {s} linear {l} h p px q qy o oz =
-      adds-as (omega arith) (chain-3 _ _ _ ∙ lines-is linear h)
+      adds-as (omega arith) (three-in-turn _ _ _ ∙ lines-is linear h)
       (adds-more {k = 2} (l .z) (linearRow joint e axisZ) (omega arith)
       (adds-more {k = 1} (l .y) (linearRow joint e axisY) (omega arith)
       (adds-more {k = 0} (l .x) (linearRow joint e axisX) (omega arith)
@@ -123,20 +121,21 @@ module _ (joint : Joint) (e : Ends) where
       o (on-axis (l .z) axis-z-is oz) (linear-mine joint e axisZ))
 
 -- ---- the rows behind them
-chain-2 : (d : Rows) (X Y : Result EqualityRow) → followedBy (followedBy d (rowIf true X)) (rowIf true Y) ≡ followedBy d (X >>= λ x. Y >>= λ y. go (x ∷ y ∷ []))
+two-behind : (d : Rows) (X Y : Result EqualityRow)
+    → followedBy (followedBy d (rowIf true X)) (rowIf true Y) ≡ followedBy d (X >>= λ x. Y >>= λ y. go (x ∷ y ∷ []))
 unfolding _>>=_
-chain-2 (stop f) X Y = refl
-chain-2 (go d) (stop f) Y = refl
-chain-2 (go d) (go x) (stop f) = refl
-chain-2 (go d) (go x) (go y) = ap go (append-assoc d (x ∷ []) (y ∷ []))
+two-behind (stop f) X Y = refl
+two-behind (go d) (stop f) Y = refl
+two-behind (go d) (go x) (stop f) = refl
+two-behind (go d) (go x) (go y) = ap go (append-assoc d (x ∷ []) (y ∷ []))
 
-chain-4 : (d X Y Z : Rows) → followedBy (followedBy (followedBy d X) Y) Z ≡ followedBy d (X >>= λ x. Y >>= λ y. Z >>= λ z. go ((x ++ y) ++ z))
+three-behind : (d X Y Z : Rows) → followedBy (followedBy (followedBy d X) Y) Z ≡ followedBy d (X >>= λ x. Y >>= λ y. Z >>= λ z. go ((x ++ y) ++ z))
 unfolding _>>=_
-chain-4 (stop f) X Y Z = refl
-chain-4 (go d) (stop f) Y Z = refl
-chain-4 (go d) (go x) (stop f) Z = refl
-chain-4 (go d) (go x) (go y) (stop f) = refl
-chain-4 (go d) (go x) (go y) (go z) = ap go (ap (λ (l : List EqualityRow). l ++ z) (append-assoc d x y) ∙ append-assoc d (x ++ y) z)
+three-behind (stop f) X Y Z = refl
+three-behind (go d) (stop f) Y Z = refl
+three-behind (go d) (go x) (stop f) Z = refl
+three-behind (go d) (go x) (go y) (stop f) = refl
+three-behind (go d) (go x) (go y) (go z) = ap go (ap (λ (l : List EqualityRow). l ++ z) (append-assoc d x y) ∙ append-assoc d (x ++ y) z)
 
 behind : (d : Rows) {X Y : Rows} → X ≡ Y → followedBy d X ≡ followedBy d Y
 behind d e = ap (followedBy d) e
@@ -157,7 +156,7 @@ module _ (joint : Joint) (e : Ends) where
       → Follows joint i s u w r (alignRows joint e)
   unfolding alignRows
   align-adds {z = z} h p px q qy start d a =
-      adds-as (omega arith) (chain-2 d _ _ ∙ behind d (then-go _ h))
+      adds-as (omega arith) (two-behind d _ _ ∙ behind d (then-go _ h))
       (adds-more {k = 4} true (alignRow joint fa axisY z) (omega arith)
       (adds-more {k = 3} true (alignRow joint fa axisX z) (omega arith) a p (align-axis z axis-x-is px) (align-mine joint _ _ _))
       q (align-axis z axis-y-is qy) (align-mine joint _ _ _))
@@ -176,7 +175,7 @@ module _ (joint : Joint) (e : Ends) where
         → Follows joint i s v w r (coneRows joint e cone)
     unfolding coneRows
     cone-adds {q = q} h e₁ p px e₂ o oy n nz start d a =
-        adds-as (omega arith) (chain-4 d _ _ _ ∙ behind d (then-go _ h))
+        adds-as (omega arith) (three-behind d _ _ _ ∙ behind d (then-go _ h))
         (adds-more {k = 5} (twistLocked cone) (twistRow joint fa q (cone .«twist_lower»)) (omega arith)
         (adds-more {k = 4} y-locked (swingRow joint fa q (swingY (q .rotation))) (omega arith)
         (adds-more {k = 3} x-locked (swingRow joint fa q (swingX (q .rotation))) (omega arith)
@@ -198,8 +197,8 @@ module _ (joint : Joint) (e : Ends) where
   unfolding alignRows
   align-lost f l h p = lost f (alignRows joint e) l (then-stop _ h) p
 
-  pub cone-lost : {i : ℕ} {s t : List Float} {w r : Written} {answer : RowAnswer} (cone : Cone) (f : Fault) → rowAs answer ≡ stop f → stop f ≡ relativeOf cone fa fb
-      → Appends i w answer s t r → Follows joint i s t w r (coneRows joint e cone)
+  pub cone-lost : {i : ℕ} {s t : List Float} {w r : Written} {answer : RowAnswer} (cone : Cone) (f : Fault) → rowAs answer ≡ stop f
+      → stop f ≡ relativeOf cone fa fb → Appends i w answer s t r → Follows joint i s t w r (coneRows joint e cone)
   unfolding coneRows
   cone-lost cone f l h p = lost f (coneRows joint e cone) l (then-stop _ h) p
 
@@ -253,7 +252,10 @@ module _ (s : List Float) (i : ℕ) where
 
   pub finite-more : (k : ℕ) {t : Bool} → Finite k → t ≡ isFinite (at s (i + 14 * k + 12)) → not t ≡ false → Finite (k + 1)
   unfolding tab
-  finite-more k {t} h e n a b = rw (add-one k) (sym (finite-end (rowsAt s i a b k) (rowAt s (i + 14 * k) a b) ∙ ap (λ (x : Bool). x && isFinite (at s (i + 14 * k + 12))) (sym (h a b)) ∙ sym e ∙ not-no t n))
+  finite-more k {t} h e n a b =
+      let last = isFinite (at s (i + 14 * k + 12)) in
+      rw (add-one k)
+      (sym (finite-end (rowsAt s i a b k) (rowAt s (i + 14 * k) a b) ∙ ap (λ (x : Bool). x && last) (sym (h a b)) ∙ sym e ∙ not-no t n))
 
   pub finite-stop : (n k : ℕ) {t : Bool} → k < n → t ≡ isFinite (at s (i + 14 * k + 12)) → not t ≡ true → (a b : ℕ) → false ≡ finiteValues (rowsAt s i a b n)
   finite-stop n k {t} h e q a b = finite-lost (λ (j : ℕ). rowAt s (i + 14 * j) a b) n k h (sym e ∙ not-yes t q)
@@ -320,17 +322,23 @@ module _ (joint : Joint) (e : Ends) where
     frames-early linear turning s = record { kept = kept-refl _ s; within = omega arith; is = then-stop _ (early linear ∙ lines-is joint e linear refl) }
 
 -- ---- all of them
+-- rows, if the test of their values was passed
+abbrev finiteOr : Bool → List EqualityRow → Rows
+finiteOr finite rows = returnIf (not finite) arithmeticOverflow >>= λ _. go rows
+
+abbrev checked : List EqualityRow → Rows
+checked rows = finiteOr (finiteValues rows) rows
+
 frames-go : (L M : Rows) {rows : List EqualityRow} {t : Bool} → go rows ≡ followedBy L M → t ≡ finiteValues rows
-    → (returnIf (not t) arithmeticOverflow >>= λ _. go rows) ≡ (L >>= λ l. M >>= λ m. returnIf (not (finiteValues (l ++ m))) arithmeticOverflow >>= λ _. go (l ++ m))
+    → finiteOr t rows ≡ (L >>= λ l. M >>= λ m. checked (l ++ m))
 unfolding _>>=_
 frames-go (go l) (go m) {rows} e h =
     let same : rows ≡ l ++ m = cc in
-    ap (λ (b : Bool). returnIf (not b) arithmeticOverflow >>= λ _. go rows) h ∙ ap (λ (xs : List EqualityRow). returnIf (not (finiteValues xs)) arithmeticOverflow >>= λ _. go xs) same
+    ap (λ (b : Bool). finiteOr b rows) h ∙ ap checked same
 frames-go (go l) (stop f) e h = let z : _≡_ {A = ℕ} 0 1 = cc in absurd (omega arith)
 frames-go (stop f) M e h = let z : _≡_ {A = ℕ} 0 1 = cc in absurd (omega arith)
 
-frames-stop : (L M : Rows) {f : Fault} → stop f ≡ followedBy L M
-    → stop f ≡ (L >>= λ l. M >>= λ m. returnIf (not (finiteValues (l ++ m))) arithmeticOverflow >>= λ _. go (l ++ m))
+frames-stop : (L M : Rows) {f : Fault} → stop f ≡ followedBy L M → stop f ≡ (L >>= λ l. M >>= λ m. checked (l ++ m))
 unfolding _>>=_
 frames-stop (go l) (go m) e = let z : _≡_ {A = ℕ} 0 1 = cc in absurd (omega arith)
 frames-stop (go l) (stop g) e = cc
@@ -351,7 +359,7 @@ module _ (linear : Linear) (turning : Turning) (joint : Joint) (e : Ends) where
     held-as w = writtenAs w t i (joint .«body_a») (joint .«body_b»)
 
     module _ {n : ℕ} (h : r ≡ Written.Rows n) where
-      tested : {b : Bool} → b ≡ finiteValues (stand n) → (returnIf (not b) arithmeticOverflow >>= λ _. go (stand n)) ≡ frameRows linear turning joint e
+      tested : {b : Bool} → b ≡ finiteValues (stand n) → finiteOr b (stand n) ≡ frameRows linear turning joint e
       unfolding frameRows
       tested q = frames-go (linearRows linear joint e) (turningRows turning joint e) (ap held-as (sym h) ∙ p .is) q
 
@@ -410,7 +418,8 @@ unfolding oneIf
 sized-if true D = sized-then D _ λ row. sized-go (row ∷ []) refl
 sized-if false D = sized-go [] refl
 
-sized-3 : (p q o : Bool) (X Y Z : Result EqualityRow) → Sized (oneIf p + oneIf q + oneIf o) (rowIf p X >>= λ x. rowIf q Y >>= λ y. rowIf o Z >>= λ z. go ((x ++ y) ++ z))
+sized-3 : (p q o : Bool) (X Y Z : Result EqualityRow)
+    → Sized (oneIf p + oneIf q + oneIf o) (rowIf p X >>= λ x. rowIf q Y >>= λ y. rowIf o Z >>= λ z. go ((x ++ y) ++ z))
 sized-3 p q o X Y Z = sized-rows _ _ (sized-if p X) λ x l. sized-rows _ _ (sized-if q Y) λ y m. sized-rows _ _ (sized-if o Z) λ z n.
     sized-go _ (length-append (x ++ y) z ∙ ap (λ (k : ℕ). k + length z) (length-append x y) ∙ omega arith)
 
@@ -449,7 +458,8 @@ module _ (kind : Kind) {m : Motions} (e : m ≡ motionsOf kind) where
   pub rod-count : {length : Float} → m ≡ Rod length → 1 ≡ rowCount kind
   rod-count h = ap motionCount (sym h ∙ e)
 
-  pub frame-count : {linear : Linear} {turning : Turning} {p q : ℕ} → m ≡ Frame linear turning → p ≡ linearCount linear → q ≡ turningCount turning → p + q ≡ rowCount kind
+  pub frame-count : {linear : Linear} {turning : Turning} {p q : ℕ} → m ≡ Frame linear turning → p ≡ linearCount linear → q ≡ turningCount turning
+      → p + q ≡ rowCount kind
   frame-count {linear} {turning} {p} {q} h x y =
       ap (λ (n : ℕ). p + n) y ∙ ap (λ (n : ℕ). n + turningCount turning) x ∙ ap motionCount (sym h ∙ e)
 
@@ -476,7 +486,7 @@ module _ (joint : Joint) (a b : MomentumBody) {e : Ends} (h : go e ≡ endsOf jo
         → Appends i (Written.Rows 0) answer s t r → rowAs answer ≡ rowIf true (distanceRow joint e length) → AddsAll joint a b i s t r
     kind-rod {length} k p l =
         adds-as (omega arith) (none-before _ ∙ by-motions k)
-        (adds-more {k = 0} true (distanceRow joint e length) (omega arith) (adds-none (joint .«body_a») (joint .«body_b») i 0 s) p l (distance-mine joint e length))
+        (adds-more {k = 0} true (distanceRow joint e length) (omega arith) (adds-none _ _ i 0 s) p l (distance-mine joint e length))
 
 module _ (joint : Joint) (a b : MomentumBody) {i : ℕ} {s t : List Float} where
   rows-of : {n : ℕ} → AddsAll joint a b i s t (Written.Rows n) → n ≡ rowCount (joint .kind)
@@ -505,13 +515,16 @@ kind-lost joint a b s h = record { kept = kept-refl _ s; within = omega arith; i
 
 -- a failed write, cleared
 module _ (joint : Joint) (a b : MomentumBody) {i : ℕ} {s t u : List Float} {r : Written} (p : AddsAll joint a b i s t r) (z : Cleared i 84 t u) where
-  failed : (w : Written) (f : Fault) → r ≡ w → spanOf w ≡ 84 → ((n : ℕ) → w ≡ Written.Rows n → ⊥)
-      → writtenAs w t i (joint .«body_a») (joint .«body_b») ≡ stop f → writtenAs w u i (joint .«body_a») (joint .«body_b») ≡ stop f → Writes joint a b i s u w
+  abbrev in-list : List Float → Written → Rows
+  in-list l w = writtenAs w l i (joint .«body_a») (joint .«body_b»)
+
+  failed : (w : Written) (f : Fault) → r ≡ w → spanOf w ≡ 84 → ((n : ℕ) → w ≡ Written.Rows n → ⊥) → in-list t w ≡ stop f → in-list u w ≡ stop f
+      → Writes joint a b i s u w
   failed w f h l n v x = record {
     kept = kept-then (kept-more (p .kept) (λ k y. omega (arith, ap spanOf h))) (z .kept) (λ k y. y);
     count = λ m e. absurd (n m e);
-    is = x ∙ sym v ∙ sym (ap (λ (y : Written). writtenAs y t i (joint .«body_a») (joint .«body_b»)) h) ∙ p .is;
-    numbered = written-number w t i (joint .«body_a») (joint .«body_b») ∙ ap refusalNumber (sym (ap (λ (y : Written). writtenAs y t i (joint .«body_a») (joint .«body_b»)) h) ∙ p .is);
+    is = x ∙ sym v ∙ sym (ap (in-list t) h) ∙ p .is;
+    numbered = written-number w t i (joint .«body_a») (joint .«body_b») ∙ ap refusalNumber (sym (ap (in-list t) h) ∙ p .is);
     behind = λ m e. absurd (n m e);
     cleared = λ g e. z .zero;
   }

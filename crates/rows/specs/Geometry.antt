@@ -174,7 +174,7 @@ swingRow joint frameA r swing =
     let scalar = ratio 2 1 ⊗ swing .scalar ⊘ r .norm ⊖ ratio 2 1 ⊗ swing .numerator ⊗ q .w ⊘ cubed in
     gradientRow joint frameA q gradient scalar value
 
--- atan2, whose refusal is document 01's 11
+-- atan2, whose refusal is 11
 abbrev pub angleOr : Fault → Angle → Result Float
 angleOr fault (Angles.Value angle) = go angle
 angleOr fault Angles.Refused = stop fault

@@ -1,18 +1,15 @@
 -- Laws of places, for this crate and those above: lists by index, and the views that a write keeps.
-use Prim.Native.Nat.{ℕ, zero, suc, _+_, _*_, _-_, _≤_, _<_, min}
+use Prim.Native.Nat.{ℕ, zero, suc, _+_, _*_, _≤_, _<_}
 use mathlib.Core.Path.{_≡_, refl, sym, _∙_, ap}
 use mathlib.Core.Bool.{Bool, true, false}
 use mathlib.Core.List.{List, [], _∷_, _++_}
 use native.Mathlib.Numerals.{add-one}
 use native.Mathlib.Omega.{arith}
 use native.Mathlib.Decide.{ℕ-discrete}
-use lib.Ieee as Ieee
 use lib.Ieee.{Float, nan}
 use lib.ListN.{length, getD, set, length-set, length-append, List·getD-append}
 use lib.Seq.{ext-getD, getD-set-same, getD-set-other, getD-at}
-use Rattle.arith.specs.Real.{ratio}
 use Rattle.arith.specs.Flow.{tab}
-use Rattle.vectors.specs.declared.vector.Vec3.{Vec3}
 use Rattle.rows.specs.declared.geometry.Kind.{Kind}
 use Rattle.rows.specs.declared.geometry.Linear.{Linear}
 use Rattle.rows.specs.declared.geometry.Linear.the-variants.{Point, Line, Plane}

@@ -50,7 +50,8 @@ pub record Each (r : Result (List EqualityRow)) : Type 0 where
   pub is : r ≡ go rows
   pub within : RowsIn rows
 
-pub rows-each : (f : ℕ → Result (List EqualityRow)) (n : ℕ) (rows : List EqualityRow) → loop n (λ k before. f k >>= λ local. go (before ++ local)) [] ≡ go rows → RowsIn rows → (k : ℕ) → k < n → Each (f k)
+pub rows-each : (f : ℕ → Result (List EqualityRow)) (n : ℕ) (rows : List EqualityRow)
+    → loop n (λ k before. f k >>= λ local. go (before ++ local)) [] ≡ go rows → RowsIn rows → (k : ℕ) → k < n → Each (f k)
 unfolding loop
 rows-each f zero rows h w k l = absurd (omega arith)
 rows-each f (suc n) rows h w k l =
@@ -71,7 +72,9 @@ pub record Found (r : Result EqualityRow) : Type 0 where
 
 found-if : (locked : Bool) (r : Result EqualityRow) (l : List EqualityRow) → rowIf locked r ≡ go l → RowsIn l → T locked → Found r
 found-if false r l h w t = absurd t
-found-if true r l h w t = let s = step r (λ (row : EqualityRow). go (row ∷ [])) l h in record { row = s .0; is = s .1; within = subst RowsIn (sym (go-same (s .0 ∷ []) l (s .2))) w .0 }
+found-if true r l h w t =
+    let s = step r (λ (row : EqualityRow). go (row ∷ [])) l h in
+    record { row = s .0; is = s .1; within = subst RowsIn (sym (go-same (s .0 ∷ []) l (s .2))) w .0 }
 
 pub record OnAxes (linear : Linear) (joint : Joint) (e : Ends) : Type 0 where
   pub on-x : T (axesOf linear .x) → Found (linearRow joint e axisX)

@@ -52,13 +52,17 @@ enum-told : tie.Need-enum-told
 enum-told c = search needs
 
 append-requires-4 : tie.Need-append-requires-4
-append-requires-4 c κs = room-here (c .before .before .before .before .before .pre .0) (omega arith)
+append-requires-4 c κs =
+    let at-told = c .before in
+    room-here (at-told .before .before .before .before .pre .0) (omega arith)
 
 enum-told-2 : tie.Need-enum-told-2
 enum-told-2 c = search needs
 
 append-requires-5 : tie.Need-append-requires-5
-append-requires-5 c κs = room-here (c .before .before .before .before .before .pre .0) (omega arith)
+append-requires-5 c κs =
+    let at-told = c .before in
+    room-here (at-told .before .before .before .before .pre .0) (omega arith)
 
 same-length : tie.Need-same-length
 same-length c = search needs
