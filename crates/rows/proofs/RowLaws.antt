@@ -23,7 +23,6 @@ use Rattle.vectors.specs.declared.quaternion.OptionQuat.the-variants as Rotatio
 use Rattle.vectors.specs.Vector.{vec, axisZ, addOf, subOf, scaleOf, negOf, dotOf, crossOf, tryNormalizeOf}
 use Rattle.vectors.specs.VectorLaws.{zero-vec-is, axis-z-is}
 use Rattle.vectors.specs.Quaternion.{conjugateOf, productOf, quatTryNormalizeOf, rotateAsUnitOf}
-use Rattle.vectors.specs.Laws.AsUnit.{rotates-as-unit}
 use Rattle.rows.specs.declared.body.MomentumBody.{MomentumBody}
 use Rattle.rows.specs.declared.geometry.Joint.{Joint}
 use Rattle.rows.specs.declared.geometry.EqualityRow.{EqualityRow}
@@ -39,8 +38,10 @@ use Rattle.rows.specs.Fault.{Fault, nonConvergent, arithmeticOverflow, R
 use Rattle.rows.specs.Body.{anchorOf}
 use Rattle.rows.specs.Geometry.{epsilon, turning, endsOf, toleranceOf, distanceRow, linearRow, rowIf, anyLocked, halfTurned, relativeOf, swingX, swingY}
 use Rattle.rows.specs.Geometry.{localOf, gradientRow, swingRow, angleOr, twistLocked, twistRow, alignedOf, alignRow}
-use Rattle.rows.specs.Append.{UnitOf, endsAs, axisAs, relativeAs}
+use Rattle.rows.specs.Unit.{UnitOf}
+use Rattle.rows.specs.Append.{endsAs, axisAs, relativeAs}
 use Rattle.rows.specs.AnswerLaws.{some-go, none-stop}
+use Rattle.rows.proofs.UnitLaws.{rotate-is}
 use Rattle.rows.proofs.Constants.{zero-is, half-is, two-is, thirty-two-is, sixty-four-is, epsilon-is, ten-is, thirteen-is}
 
 abbrev over : {A : Type 0} → Result A
@@ -106,15 +107,12 @@ pub tolerance-stop : {o : OptionF64} {d : Result Float} → numberOr arithmeticO
 tolerance-stop e h = sym (ap (numberOr arithmeticOverflow) h) ∙ e
 
 -- ---- a frame turns a vector as its normalized form does
-pub unit-of : {q unit : Quat} {o : OptionQuat} → o ≡ quatTryNormalizeOf q → o ≡ Rotation.Some unit → UnitOf q unit
-unit-of e h = record { is = sym e ∙ h }
-
 module _ {q unit : Quat} (u : UnitOf q unit) (v : Vec3) {o : OptionVec3} (e : o ≡ rotateAsUnitOf unit v) where
   pub turned-go : {r : Vec3} → o ≡ Vector.Some r → go r ≡ tryRotate q v
-  turned-go h = some-go arithmeticOverflow (e ∙ sym (rotates-as-unit q (u .is) v)) h
+  turned-go h = some-go arithmeticOverflow e h ∙ rotate-is u v
 
   pub turned-stop : o ≡ Vector.None → over ≡ tryRotate q v
-  turned-stop h = none-stop arithmeticOverflow (e ∙ sym (rotates-as-unit q (u .is) v)) h
+  turned-stop h = none-stop arithmeticOverflow e h ∙ rotate-is u v
 
 -- ---- the ends
 module _ (joint : Joint) (a b : MomentumBody) where

@@ -19,7 +19,6 @@ use Rattle.vectors.specs.Vector.{vec, axisX, axisY, axisZ, finiteOf}
 use Rattle.vectors.specs.VectorLaws.{axis-x-is, axis-y-is, axis-z-is}
 use Rattle.vectors.specs.declared.quaternion.OptionQuat.the-variants.{None}
 use Rattle.vectors.specs.Quaternion.{quatTryNormalizeOf, rotateVectorOf}
-use Rattle.vectors.specs.Laws.AsUnit.{no-unit-no-rotation}
 use Rattle.rows.specs.declared.body.MomentumBody.{MomentumBody}
 use Rattle.rows.specs.declared.geometry.Joint.{Joint}
 use Rattle.rows.specs.declared.geometry.Kind.{Kind}
@@ -48,6 +47,7 @@ use Rattle.rows.specs.Answer.{refusalNumber, writtenAs, Writes}
 use Rattle.rows.specs.AnswerLaws.{written-number}
 use Rattle.rows.specs.Append.{rowAs, countOf, spanOf, Appends, Adds, Follows, Cleared, followedBy}
 use Rattle.rows.specs.Region.{kept-refl, kept-then, kept-more, tab-length}
+use Rattle.rows.proofs.UnitLaws.{no-turn}
 use Rattle.rows.proofs.AppendLaws.{Mine, mine-go, mine-stop, mine-then, adds-none, adds-more, adds-as}
 
 abbrev Rows : Type 0
@@ -304,7 +304,7 @@ module _ (joint : Joint) (e : Ends) where
 
   pub unturned-row : quatTryNormalizeOf (e .«frame_a») ≡ None → (axis : Vec3) → stop arithmeticOverflow ≡ linearRow joint e axis
   unfolding linearRow
-  unturned-row h axis = then-stop _ (sym (ap (vectorOr arithmeticOverflow) (no-unit-no-rotation (e .«frame_a») h axis)))
+  unturned-row h axis = then-stop _ (no-turn (e .«frame_a») h axis)
 
   module _ (h : (axis : Vec3) → stop arithmeticOverflow ≡ linearRow joint e axis) where
     first : (l : Axes) → l .x ≡ true → stop arithmeticOverflow ≡ lines joint e l

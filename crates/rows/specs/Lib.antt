@@ -2,6 +2,7 @@
 -- demand 3. View says where a slice holds a row, Answer how the code's answers are read. The others are laws.
 pub mod Fault
 pub mod Body
+pub mod Unit
 pub mod Motions
 pub mod Geometry
 pub mod View
