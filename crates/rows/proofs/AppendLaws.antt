@@ -1,28 +1,23 @@
 -- Rows appended one behind the other: what stands in the slice then is the definitions' list.
-use Prim.Native.Nat.{ℕ, _+_, _*_, _-_, _≤_, _<_}
+use Prim.Native.Nat.{ℕ, _+_, _*_, _≤_, _<_}
 use mathlib.Core.Path.{_≡_, refl, sym, _∙_, ap, subst}
 use mathlib.Core.Bool.{Bool, true, false}
 use mathlib.Core.List.{List, [], _∷_, append-nil}
 use native.Mathlib.Omega.{arith}
 use native.Mathlib.Decide.{ℕ-discrete}
-use lib.Ieee as Ieee
 use lib.Ieee.{Float, nan}
 use lib.ListN.{length, set}
 use lib.Seq.{getD-set-same}
-use Rattle.arith.specs.Real.{F, ratio}
+use Rattle.arith.specs.Real.{ratio}
 use Rattle.arith.specs.Flow.{go, stop, _>>=_, tab}
 use Rattle.arith.specs.FlowLaws.{then-go, then-stop}
-use Rattle.rows.specs.declared.geometry.Cone.{Cone}
-use Rattle.rows.specs.declared.geometry.Turning.{Turning}
-use Rattle.rows.specs.declared.geometry.Turning.the-variants as Turns
 use Rattle.rows.specs.declared.geometry.EqualityRow.{EqualityRow}
 use Rattle.rows.specs.declared.geometry.RowAnswer.{RowAnswer}
 use Rattle.rows.specs.declared.geometry.RowAnswer.the-variants as Row
 use Rattle.rows.specs.declared.geometry.Written.{Written}
 use Rattle.rows.specs.declared.geometry.Written.the-variants as Written
 use Rattle.rows.specs.Fault.{Fault, Result}
-use Rattle.rows.specs.Geometry.{rowIf, swingLocked, twistLocked, oneIf, turningCount}
-use Rattle.rows.proofs.Constants.{zero-is}
+use Rattle.rows.specs.Geometry.{rowIf}
 use Rattle.rows.specs.View.{at, rowAt, Out, Kept}
 use Rattle.rows.specs.Answer.{writtenAs}
 use Rattle.rows.specs.Append.{rowAs, countOf, appended, added, spanOf, There, Room, Appends, Adds, Cleared, followedBy}
@@ -186,21 +181,3 @@ pub cleared-all : {i n m : ℕ} {s t : List Float} → m ≤ n → n ≤ m → C
 cleared-all {i} {n} {m} {s} {t} h g p =
     let same : m ≡ n = omega arith in
     subst (λ (k : ℕ). Cleared i k s t) same p
-
--- ---- counts
-pub one-yes : {b : Bool} → b ≡ true → 1 ≡ oneIf b
-unfolding oneIf
-one-yes e = ap oneIf (sym e)
-
-pub one-no : {b : Bool} → b ≡ false → 0 ≡ oneIf b
-unfolding oneIf
-one-no e = ap oneIf (sym e)
-
--- the rows of a cone twist, as the code adds them up
-pub cone-count : {turning : Turning} {cone : Cone} {m n o : ℕ} → turning ≡ Turns.Cone cone
-    → m ≡ oneIf (Ieee.eq (cone .«swing_x») (F 0)) → n ≡ oneIf (Ieee.eq (cone .«swing_y») (F 0)) → o ≡ oneIf (twistLocked cone)
-    → m + n + o ≡ turningCount turning
-cone-count {cone = cone} {m = m} {n = n} {o = o} e a b d =
-    let u : m ≡ oneIf (swingLocked (cone .«swing_x»)) = a ∙ ap (λ (z : Float). oneIf (Ieee.eq (cone .«swing_x») z)) zero-is in
-    let v : n ≡ oneIf (swingLocked (cone .«swing_y»)) = b ∙ ap (λ (z : Float). oneIf (Ieee.eq (cone .«swing_y») z)) zero-is in
-    omega arith ∙ sym (ap turningCount e)

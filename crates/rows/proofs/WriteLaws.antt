@@ -1,16 +1,14 @@
--- The rows of a joint, written part by part, are the definition's list; and how many they are.
-use Prim.Native.Nat.{ℕ, zero, suc, _+_, _*_, _-_, _≤_, _<_}
+-- The rows of a joint, written part by part, are the definition's list.
+use Prim.Native.Nat.{ℕ, zero, _+_}
 use mathlib.Core.Path.{_≡_, refl, sym, _∙_, ap, subst}
-use mathlib.Core.Bool.{Bool, true, false, cond, not, _&&_}
+use mathlib.Core.Bool.{Bool, true, false, cond, not}
 use mathlib.Core.List.{List, [], _∷_, _++_, append-assoc, append-nil}
-use native.Mathlib.Numerals.{add-one}
 use native.Mathlib.Omega.{arith}
-use native.Mathlib.Decide.{ℕ-discrete}
 use lib.Ieee.{Float}
-use lib.ListN.{length, length-append}
-use Rattle.arith.specs.Real.{F, isFinite}
-use Rattle.arith.specs.Flow.{go, stop, _>>=_, tab, returnIf}
-use Rattle.arith.specs.FlowLaws.{then-go, then-stop, not-yes, not-no}
+use lib.ListN.{length}
+use Rattle.arith.specs.Real.{F}
+use Rattle.arith.specs.Flow.{go, stop, _>>=_, returnIf}
+use Rattle.arith.specs.FlowLaws.{then-go, then-stop}
 use Rattle.vectors.specs.declared.vector.Vec3.{Vec3}
 use Rattle.vectors.specs.declared.vector.OptionVec3.{OptionVec3}
 use Rattle.vectors.specs.declared.vector.OptionVec3.the-variants as Vector
@@ -21,7 +19,6 @@ use Rattle.vectors.specs.declared.quaternion.OptionQuat.the-variants.{None}
 use Rattle.vectors.specs.Quaternion.{quatTryNormalizeOf, rotateVectorOf}
 use Rattle.rows.specs.declared.body.MomentumBody.{MomentumBody}
 use Rattle.rows.specs.declared.geometry.Joint.{Joint}
-use Rattle.rows.specs.declared.geometry.Kind.{Kind}
 use Rattle.rows.specs.declared.geometry.Linear.{Linear}
 use Rattle.rows.specs.declared.geometry.Linear.the-variants.{Point, Line, Plane}
 use Rattle.rows.specs.declared.geometry.Turning.{Turning}
@@ -41,13 +38,14 @@ use Rattle.rows.specs.Fault.{Fault, nonConvergent, arithmeticOverflow, R
 use Rattle.rows.specs.Motions.{motionsOf}
 use Rattle.rows.specs.Geometry.{endsOf, toleranceOf, distanceRow, linearRow, rowIf, axesOf, linearRows, relativeOf, swingX, swingY, gradientRow}
 use Rattle.rows.specs.Geometry.{swingLocked, swingRow, twistLocked, twistRow, coneRows, alignedOf, alignRow, alignRows, turningRows, finiteValues}
-use Rattle.rows.specs.Geometry.{frameRows, motionRows, writeEqualityRows, oneIf, linearCount, turningCount, motionCount, rowCount}
-use Rattle.rows.specs.View.{at, rowAt, rowsAt, Out, Kept}
+use Rattle.rows.specs.Geometry.{frameRows, motionRows, writeEqualityRows, rowCount}
+use Rattle.rows.specs.View.{rowsAt, Out, Kept}
 use Rattle.rows.specs.Answer.{refusalNumber, writtenAs, Writes}
 use Rattle.rows.specs.AnswerLaws.{written-number}
 use Rattle.rows.specs.Append.{rowAs, countOf, spanOf, Appends, Adds, Follows, Cleared, followedBy}
 use Rattle.rows.specs.Region.{kept-refl, kept-then, kept-more, tab-length}
 use Rattle.rows.proofs.UnitLaws.{no-turn}
+use Rattle.rows.proofs.CountLaws.{rows-sized}
 use Rattle.rows.proofs.AppendLaws.{Mine, mine-go, mine-stop, mine-then, adds-none, adds-more, adds-as}
 
 abbrev Rows : Type 0
@@ -215,56 +213,6 @@ module _ (joint : Joint) (e : Ends) where
   pub turns-free : {i : ℕ} {s : List Float} {w : Written} {turning : Turning} → turning ≡ Turns.Free → Follows joint i s s w w (turningRows turning joint e)
   turns-free h = turns-as Turns.Free h (λ start d a. adds-as (omega arith) (none-behind d) a)
 
--- ---- all values finite
-and-true : (b : Bool) → (b && true) ≡ b
-and-true true = refl
-and-true false = refl
-
-and-assoc : (a b c : Bool) → (a && (b && c)) ≡ (a && b && c)
-and-assoc true b c = refl
-and-assoc false b c = refl
-
-and-false : (a : Bool) → false ≡ (a && false)
-and-false true = refl
-and-false false = refl
-
-finite-end : (xs : List EqualityRow) (x : EqualityRow) → finiteValues (xs ++ (x ∷ [])) ≡ (finiteValues xs && isFinite (x .value))
-unfolding finiteValues
-finite-end [] x = and-true (isFinite (x .value))
-finite-end (r ∷ rs) x = ap (λ (b : Bool). isFinite (r .value) && b) (finite-end rs x) ∙ and-assoc (isFinite (r .value)) (finiteValues rs) (isFinite (x .value))
-
-finite-lost : (f : ℕ → EqualityRow) (n k : ℕ) → k < n → isFinite (f k .value) ≡ false → false ≡ finiteValues (tab n f)
-unfolding tab
-finite-lost f zero k h e = absurd (omega arith)
-finite-lost f (suc n) k h e = at-last (ℕ-discrete k n) (finite-lost f n k) ∙ sym (finite-end (tab n f) (f n))
-  where
-    at-last : Dec (k ≡ n) → (k < n → isFinite (f k .value) ≡ false → false ≡ finiteValues (tab n f)) → false ≡ (finiteValues (tab n f) && isFinite (f n .value))
-    at-last (yes q) ih = and-false (finiteValues (tab n f)) ∙ ap (λ (b : Bool). finiteValues (tab n f) && b) (sym e ∙ ap (λ (j : ℕ). isFinite (f j .value)) q)
-    at-last (no q) ih = ap (λ (b : Bool). b && isFinite (f n .value)) (ih (omega arith) e)
-
-module _ (s : List Float) (i : ℕ) where
-  abbrev Finite : ℕ → Type 0
-  Finite k = (a b : ℕ) → true ≡ finiteValues (rowsAt s i a b k)
-
-  pub finite-none : Finite 0
-  unfolding tab finiteValues
-  finite-none a b = refl
-
-  pub finite-more : (k : ℕ) {t : Bool} → Finite k → t ≡ isFinite (at s (i + 14 * k + 12)) → not t ≡ false → Finite (k + 1)
-  unfolding tab
-  finite-more k {t} h e n a b =
-      let last = isFinite (at s (i + 14 * k + 12)) in
-      rw (add-one k)
-      (sym (finite-end (rowsAt s i a b k) (rowAt s (i + 14 * k) a b) ∙ ap (λ (x : Bool). x && last) (sym (h a b)) ∙ sym e ∙ not-no t n))
-
-  pub finite-stop : (n k : ℕ) {t : Bool} → k < n → t ≡ isFinite (at s (i + 14 * k + 12)) → not t ≡ true → (a b : ℕ) → false ≡ finiteValues (rowsAt s i a b n)
-  finite-stop n k {t} h e q a b = finite-lost (λ (j : ℕ). rowAt s (i + 14 * j) a b) n k h (sym e ∙ not-yes t q)
-
-  pub finite-all : {n k : ℕ} → k ≤ n → n ≤ k → Finite k → Finite n
-  finite-all {n} {k} h g f =
-      let same : k ≡ n = omega arith in
-      subst (λ (j : ℕ). Finite j) same f
-
 -- ---- where there is no tolerance, or frame a has no normalized form, the first row fails already: whatever is held, there is a linear row
 -- no fault but arithmeticOverflow
 pub record Over {A : Type 0} (m : Result A) : Type 0 where
@@ -386,82 +334,6 @@ module _ (linear : Linear) (turning : Turning) (joint : Joint) (e : Ends) where
       within = omega arith;
       is = l ∙ frames-stop (linearRows linear joint e) (turningRows turning joint e) (sym l ∙ ap held-as (sym h) ∙ p .is);
     }
-
--- ---- how many
-pub record Sized (n : ℕ) (d : Rows) : Type 0 where
-  pub long : (rows : List EqualityRow) → go rows ≡ d → length rows ≡ n
-
-abbrev listed : List EqualityRow → Rows
-listed rows = go rows
-
-listed-is : {x y : List EqualityRow} → listed x ≡ listed y → x ≡ y
-listed-is e = cc
-
-sized-go : {n : ℕ} (rows : List EqualityRow) → length rows ≡ n → Sized n (go rows)
-sized-go rows e = record { long = λ x h. ap length (listed-is h) ∙ e }
-
-sized-stop : {n : ℕ} (f : Fault) → Sized n (stop f)
-sized-stop f = record { long = λ x e. let z : _≡_ {A = ℕ} 0 1 = cc in absurd (omega arith) }
-
-sized-then : {A : Type 0} {n : ℕ} (m : Result A) (f : A → Rows) → ((x : A) → Sized n (f x)) → Sized n (m >>= f)
-unfolding _>>=_
-sized-then (go x) f h = h x
-sized-then (stop e) f h = sized-stop e
-
-sized-rows : {k n : ℕ} (m : Rows) (f : List EqualityRow → Rows) → Sized k m → ((x : List EqualityRow) → length x ≡ k → Sized n (f x)) → Sized n (m >>= f)
-unfolding _>>=_
-sized-rows (go x) f s h = h x (s .long x refl)
-sized-rows (stop e) f s h = sized-stop e
-
-sized-if : (locked : Bool) (D : Result EqualityRow) → Sized (oneIf locked) (rowIf locked D)
-unfolding oneIf
-sized-if true D = sized-then D _ λ row. sized-go (row ∷ []) refl
-sized-if false D = sized-go [] refl
-
-sized-3 : (p q o : Bool) (X Y Z : Result EqualityRow)
-    → Sized (oneIf p + oneIf q + oneIf o) (rowIf p X >>= λ x. rowIf q Y >>= λ y. rowIf o Z >>= λ z. go ((x ++ y) ++ z))
-sized-3 p q o X Y Z = sized-rows _ _ (sized-if p X) λ x l. sized-rows _ _ (sized-if q Y) λ y m. sized-rows _ _ (sized-if o Z) λ z n.
-    sized-go _ (length-append (x ++ y) z ∙ ap (λ (k : ℕ). k + length z) (length-append x y) ∙ omega arith)
-
-module _ (joint : Joint) (e : Ends) where
-  linear-sized : (linear : Linear) → Sized (linearCount linear) (linearRows linear joint e)
-  unfolding linearRows oneIf
-  linear-sized Point = sized-3 true true true (linearRow joint e axisX) (linearRow joint e axisY) (linearRow joint e axisZ)
-  linear-sized Line = sized-3 true true false (linearRow joint e axisX) (linearRow joint e axisY) (linearRow joint e axisZ)
-  linear-sized Plane = sized-3 false false true (linearRow joint e axisX) (linearRow joint e axisY) (linearRow joint e axisZ)
-
-  align-sized : Sized 2 (alignRows joint e)
-  unfolding alignRows
-  align-sized = sized-then _ _ λ z. sized-then _ _ λ x. sized-then _ _ λ y. sized-go _ refl
-
-  turning-sized : (turning : Turning) → Sized (turningCount turning) (turningRows turning joint e)
-  unfolding coneRows
-  turning-sized Turns.Free = sized-go [] refl
-  turning-sized Turns.Align = align-sized
-  turning-sized (Turns.Cone cone) = sized-then _ _ λ r. sized-3 _ _ _ _ _ _
-
-  frame-sized : (linear : Linear) (turning : Turning) → Sized (linearCount linear + turningCount turning) (frameRows linear turning joint e)
-  unfolding frameRows
-  frame-sized linear turning = sized-rows _ _ (linear-sized linear) λ l p. sized-rows _ _ (turning-sized turning) λ m q. sized-then _ _ λ _.
-      sized-go _ (length-append l m ∙ omega arith)
-
-  motion-sized : (motions : Motions) → Sized (motionCount motions) (motionRows motions joint e)
-  motion-sized (Rod length) = sized-then _ _ λ row. sized-go (row ∷ []) refl
-  motion-sized (Frame linear turning) = frame-sized linear turning
-
-pub rows-sized : (joint : Joint) (a b : MomentumBody) → Sized (rowCount (joint .kind)) (writeEqualityRows joint a b)
-unfolding writeEqualityRows
-rows-sized joint a b = sized-then _ _ λ e. motion-sized joint e (motionsOf (joint .kind))
-
--- as the code counts them
-module _ (kind : Kind) {m : Motions} (e : m ≡ motionsOf kind) where
-  pub rod-count : {length : Float} → m ≡ Rod length → 1 ≡ rowCount kind
-  rod-count h = ap motionCount (sym h ∙ e)
-
-  pub frame-count : {linear : Linear} {turning : Turning} {p q : ℕ} → m ≡ Frame linear turning → p ≡ linearCount linear → q ≡ turningCount turning
-      → p + q ≡ rowCount kind
-  frame-count {linear} {turning} {p} {q} h x y =
-      ap (λ (n : ℕ). p + n) y ∙ ap (λ (n : ℕ). n + turningCount turning) x ∙ ap motionCount (sym h ∙ e)
 
 -- ---- write_kind and write_equality_rows
 none-before : (d : Rows) → followedBy (go []) d ≡ d

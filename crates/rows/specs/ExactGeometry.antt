@@ -130,13 +130,14 @@ pub record Aligned (a : Quaternion) (z : Vector) : Type 0 where
   pub on-y : (negq across ≤q z · Y a) × (z · Y a ≤q across)
   pub on-z : qn 0 <q z · Z a
 
--- d is anchor b less anchor a, a is frame a, and t is d · Z a: the square of how far d leads off the point, the line or the plane
+-- d is anchor b less anchor a, and t is d · Z a, for frame a: the square of how far anchor b stands off anchor a, off the line through
+-- it along Z a, or off the plane through it across Z a
 abbrev pub off : Linear → Vector → Quaternion → ℚ
 off Point d a = d · d
 off Line d a = d · d -q squared (d · Z a)
 off Plane d a = squared (d · Z a)
 
--- z is frame b's Z
+-- z is frame b's Z. Of a cone and a twist nothing more is promised
 abbrev pub Turned : Turning → Quaternion → Vector → Type 0
 Turned Free a z = Unit {0}
 Turned Align a z = Aligned a z

@@ -1,5 +1,5 @@
 -- `geometry::one_if_equal` meets its contract, by both ways of its test.
-use Rattle.rows.proofs.AppendLaws.{one-no, one-yes}
+use Rattle.rows.proofs.CountLaws.{one-no, one-yes}
 use native.Mathlib.Omega.{arith}
 use Rattle.rows.proofs.geometry.one_if_equal.Statement.{statement}
 use Rattle.rows.proofs.geometry.one_if_equal.Tie as tie

@@ -1,5 +1,5 @@
 -- `geometry::row_count` meets its contract: what a kind holds has so many linear rows, and so many that turn.
-use Rattle.rows.proofs.WriteLaws.{frame-count, rod-count}
+use Rattle.rows.proofs.CountLaws.{frame-count, rod-count}
 use borrow.Author.Needs.{needs}
 use Rattle.rows.proofs.geometry.row_count.Statement.{statement}
 use Rattle.rows.proofs.geometry.row_count.Tie as tie

@@ -1,5 +1,5 @@
 -- `geometry::turning_count` meets its contract: of a cone twist, one for each locked row, by `cone-count`.
-use Rattle.rows.proofs.AppendLaws.{cone-count}
+use Rattle.rows.proofs.CountLaws.{cone-count}
 use borrow.Author.Needs.{needs}
 use native.Mathlib.Omega.{arith}
 use Rattle.rows.proofs.geometry.turning_count.Statement.{statement}

@@ -1,6 +1,6 @@
 -- `geometry::values_finite` meets its contract: the values so far are finite, turn by turn.
 use Prim.Native.Nat.{_-_, _≤_, ℕ}
-use Rattle.rows.proofs.WriteLaws.{finite-all, finite-more, finite-none, finite-stop}
+use Rattle.rows.proofs.FiniteLaws.{finite-all, finite-more, finite-none, finite-stop}
 use Rattle.rows.specs.Geometry.{finiteValues}
 use Rattle.rows.specs.View.{rowsAt}
 use denote.Ref.{now}
