@@ -32,7 +32,9 @@ loop-less : tie.Need-loop-less Inv-loop μ-loop
 loop-less c = omega arith
 
 loop-again : tie.Need-loop-again Inv-loop μ-loop
-loop-again c = (omega arith, omega arith, omega arith, simp length-set (omega arith), spread-more (omega arith) (omega arith) (c .before .loop .inv .4))
+loop-again c =
+    (omega arith, omega arith, omega arith, simp length-set (omega arith),
+    spread-more (omega arith) (omega arith) (c .before .loop .inv .4))
 
 same-length : tie.Need-same-length Inv-loop μ-loop
 same-length c = omega arith
