@@ -30,11 +30,11 @@ use Rattle.solves.specs.declared.Outcome.the-variants as Outcomes
 use Rattle.solves.specs.declared.End.the-variants as Solved
 use Rattle.solves.specs.declared.Ended.{Ended}
 use Rattle.solves.specs.Solver.{rowIn, generalizedIn, transpose}
-use Rattle.solves.specs.Path.{ended, linearSolve}
-use Rattle.solves.specs.Answer.{ranAs, solveAs, Solves}
+use Rattle.solves.specs.Path.{linearSolve}
+use Rattle.solves.specs.Answer.{ranAs, Solves}
 use Rattle.solves.specs.Region.{vecAt, Does}
 use Rattle.solves.specs.RegionLaws.{vec-at}
-use Rattle.solves.specs.View.{ROWS, MASSES, RHS, SOLUTION, GENERALIZED, CANDIDATE, Rows, Shares, Work, rowOn, rowsOn, generalizedAt, generalizedsAt, massesAt}
+use Rattle.solves.specs.View.{ROWS, MASSES, RHS, SOLUTION, GENERALIZED, CANDIDATE, Rows, Shares, rowOn, rowsOn, generalizedAt, generalizedsAt, massesAt}
 use Rattle.solves.specs.ViewLaws.{kept-rows, kept-masses, row-in, share-in}
 use Rattle.solves.specs.DoesLaws.{number-yes, number-no, goes-on, returns-if, ran-done, ran-over, does-stop, does-then}
 use Rattle.step.specs.declared.passes.PassEnd.the-variants as Passes

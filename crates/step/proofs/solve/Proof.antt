@@ -1,15 +1,13 @@
 use Rattle.step.specs.Records.{recordsOf}
 use Rattle.step.specs.Step.{runOf}
-use lib.ListN.{length, length-set}
+use lib.ListN.{length}
 use denote.Ref.{now}
 use Rattle.step.specs.CheckLaws.{ready-joined}
 use Rattle.step.proofs.AnsweredLaws.{run-ready, answered-refused, answered-run}
 use Rattle.step.proofs.FinishLaws.{solved-scratch}
 use Rattle.step.proofs.StepLaws.{take-long}
-use native.Mathlib.Omega.{arith}
-use mathlib.Core.Path.{_≡_, refl, sym, ap, _∙_}
-use Prim.Native.Nat.{ℕ, _+_, _*_, _≤_, _<_, _-_}
-use borrow.Author.Needs.{counted-is}
+use mathlib.Core.Path.{sym}
+use Prim.Native.Nat.{_-_}
 use borrow.Author.Needs.{needs}
 use Rattle.step.proofs.solve.Statement.{statement}
 use Rattle.step.proofs.solve.Tie as tie

@@ -1,10 +1,9 @@
 use lib.ListN.{length, length-set}
-use denote.Ref.{now}
 use Rattle.arith.specs.FlowLaws.{not-yes, not-no}
 use Rattle.step.proofs.TableLaws.{Summed, sum-none, sum-again, sum-stops, sum-ends}
 use native.Mathlib.Omega.{arith}
-use mathlib.Core.Path.{_≡_, refl, sym, ap, _∙_}
-use Prim.Native.Nat.{ℕ, _+_, _*_, _≤_, _<_, _-_}
+use mathlib.Core.Path.{_≡_, refl}
+use Prim.Native.Nat.{_≤_, _-_}
 use Rattle.step.proofs.integrator.add_impulses.Statement.{statement}
 use Rattle.step.proofs.integrator.add_impulses.Tie as tie
 

@@ -1,9 +1,9 @@
 use native.Mathlib.Omega.{arith}
-use mathlib.Core.Path.{_≡_, refl, sym, ap, _∙_}
-use Prim.Native.Nat.{ℕ, _+_, _*_, _≤_, _<_, _-_}
-use lib.ListN.{length, getD, length-set}
-use Rattle.step.specs.Ready.{Spread, Joined}
-use Rattle.step.proofs.StepLaws.{spread-none, spread-more, spread-end, spread-less}
+use mathlib.Core.Path.{_≡_, refl}
+use Prim.Native.Nat.{_+_, _≤_, _-_}
+use lib.ListN.{length, length-set}
+use Rattle.step.specs.Ready.{Spread}
+use Rattle.step.proofs.StepLaws.{spread-none, spread-more, spread-end}
 use Rattle.step.proofs.integrator.fill.Statement.{statement}
 use Rattle.step.proofs.integrator.fill.Tie as tie
 

@@ -1,5 +1,4 @@
 use lib.ListN.{length, length-set}
-use denote.Ref.{now}
 use lib.Ieee as Ieee
 use Rattle.arith.specs.Real.{_⊘_}
 use Rattle.rows.specs.View.{at}
@@ -8,8 +7,8 @@ use Rattle.solves.specs.RegionLaws.{filled-none, filled-all}
 use Rattle.solves.specs.View.{ROWS, RHS}
 use Rattle.step.proofs.TableLaws.{rhs-more, rhs-is}
 use native.Mathlib.Omega.{arith}
-use mathlib.Core.Path.{_≡_, refl, sym, ap, _∙_}
-use Prim.Native.Nat.{ℕ, _+_, _*_, _≤_, _<_, _-_}
+use mathlib.Core.Path.{_≡_, refl}
+use Prim.Native.Nat.{_+_, _*_, _≤_, _-_}
 use Rattle.step.proofs.integrator.fill_rhs.Statement.{statement}
 use Rattle.step.proofs.integrator.fill_rhs.Tie as tie
 

@@ -1,11 +1,11 @@
-use lib.ListN.{length, length-set}
+use lib.ListN.{length}
 use denote.Ref.{now}
 use Rattle.rows.specs.Body.{stateOf}
 use Rattle.rows.specs.AnswerLaws.{state-go, state-stop}
 use Rattle.step.proofs.TableLaws.{Stated, state-none, state-again, state-stops, state-ends}
 use native.Mathlib.Omega.{arith}
-use mathlib.Core.Path.{_≡_, refl, sym, ap, _∙_}
-use Prim.Native.Nat.{ℕ, _+_, _*_, _≤_, _<_, _-_}
+use mathlib.Core.Path.{_≡_, refl, ap, _∙_}
+use Prim.Native.Nat.{_≤_, _-_}
 use borrow.Author.Needs.{needs}
 use Rattle.step.proofs.integrator.make_states.Statement.{statement}
 use Rattle.step.proofs.integrator.make_states.Tie as tie

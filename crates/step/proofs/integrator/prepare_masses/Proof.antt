@@ -1,9 +1,8 @@
-use lib.ListN.{length, length-set}
-use denote.Ref.{now}
+use lib.ListN.{length}
 use Rattle.step.proofs.TableLaws.{Weighed, weigh-none, weigh-again, weigh-stops, weigh-ends}
 use native.Mathlib.Omega.{arith}
-use mathlib.Core.Path.{_≡_, refl, sym, ap, _∙_}
-use Prim.Native.Nat.{ℕ, _+_, _*_, _≤_, _<_, _-_}
+use mathlib.Core.Path.{_≡_, refl}
+use Prim.Native.Nat.{_≤_, _-_}
 use borrow.Author.Needs.{needs}
 use Rattle.step.proofs.integrator.prepare_masses.Statement.{statement}
 use Rattle.step.proofs.integrator.prepare_masses.Tie as tie

@@ -3,13 +3,13 @@ use Rattle.rows.specs.Geometry.{rowCount}
 use Rattle.step.specs.RunView.{rowsBefore, Sides}
 use Rattle.step.proofs.RowLaws.{before-none, before-more, sides-none, sides-more, sides-end}
 use native.Mathlib.Omega.{arith}
-use mathlib.Core.Path.{_≡_, refl, sym, ap, _∙_}
+use mathlib.Core.Path.{_≡_, refl}
 use Prim.Native.Nat.{ℕ, _+_, _*_, _≤_, _<_, _-_}
-use lib.ListN.{length, getD, length-set}
+use lib.ListN.{length, getD}
 use Rattle.rows.specs.Region.{count-most}
 use Rattle.step.specs.Checks.{jointIn}
-use Rattle.step.specs.Ready.{Spread, Joined}
-use Rattle.step.proofs.StepLaws.{spread-none, spread-more, spread-end, spread-less}
+use Rattle.step.specs.Ready.{Joined}
+use Rattle.step.proofs.StepLaws.{spread-less}
 use Rattle.step.proofs.integrator.row_bodies.Statement.{statement}
 use Rattle.step.proofs.integrator.row_bodies.Tie as tie
 

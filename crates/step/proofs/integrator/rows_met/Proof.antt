@@ -1,4 +1,3 @@
-use lib.ListN.{length, length-set}
 use denote.Ref.{now}
 use mathlib.Core.Bool.{true}
 use mathlib.Core.List.{List}
@@ -10,8 +9,8 @@ use Rattle.rows.specs.View.{at}
 use Rattle.solves.specs.View.{ROWS}
 use Rattle.step.proofs.TableLaws.{rowTest, row-test, met-fails, met-ends}
 use native.Mathlib.Omega.{arith}
-use mathlib.Core.Path.{_≡_, refl, sym, ap, _∙_}
-use Prim.Native.Nat.{ℕ, _+_, _*_, _≤_, _<_, _-_}
+use mathlib.Core.Path.{_≡_, sym, ap, _∙_}
+use Prim.Native.Nat.{ℕ, _+_, _*_, _≤_, _-_}
 use Rattle.step.proofs.integrator.rows_met.Statement.{statement}
 use Rattle.step.proofs.integrator.rows_met.Tie as tie
 

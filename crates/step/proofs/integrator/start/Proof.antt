@@ -1,8 +1,8 @@
 use Rattle.step.specs.RunView.{rowsBefore}
 use native.Mathlib.Omega.{arith}
-use mathlib.Core.Path.{_≡_, refl, sym, ap, _∙_}
-use Prim.Native.Nat.{ℕ, _+_, _*_, _≤_, _<_, _-_}
-use lib.ListN.{length, length-set}
+use mathlib.Core.Path.{refl}
+use Prim.Native.Nat.{_-_}
+use lib.ListN.{length}
 use denote.Ref.{now}
 use Rattle.step.proofs.StepLaws.{joined-sixteen}
 use Rattle.step.proofs.RowLaws.{before-most}

@@ -1,10 +1,10 @@
-use lib.ListN.{length, length-set}
+use lib.ListN.{length}
 use denote.Ref.{now}
 use Rattle.rows.specs.AnswerLaws.{answer-done, answer-nonconvergent, answer-overflow}
 use Rattle.step.proofs.TableLaws.{Begun, begin-none, begin-again, begin-stops, begin-ends}
 use native.Mathlib.Omega.{arith}
-use mathlib.Core.Path.{_≡_, refl, sym, ap, _∙_}
-use Prim.Native.Nat.{ℕ, _+_, _*_, _≤_, _<_, _-_}
+use mathlib.Core.Path.{_≡_, refl}
+use Prim.Native.Nat.{_≤_, _-_}
 use borrow.Author.Needs.{needs}
 use Rattle.step.proofs.integrator.start_bodies.Statement.{statement}
 use Rattle.step.proofs.integrator.start_bodies.Tie as tie

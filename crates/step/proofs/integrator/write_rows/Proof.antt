@@ -1,14 +1,12 @@
-use lib.ListN.{length, length-set}
-use denote.Ref.{now}
+use lib.ListN.{length}
 use mathlib.Core.List.{List}
 use Rattle.step.specs.Ready.{Joined}
 use Rattle.step.specs.RunView.{rowsBefore, Sides}
 use Rattle.step.proofs.RowLaws.{before-none, Wrote, wrote-none, wrote-rows, wrote-again, wrote-nonconvergent, wrote-overflow, wrote-ends}
 use Rattle.step.proofs.StepLaws.{written-most}
-use Rattle.rows.specs.Region.{count-most}
 use native.Mathlib.Omega.{arith}
-use mathlib.Core.Path.{_≡_, refl, sym, ap, _∙_}
-use Prim.Native.Nat.{ℕ, _+_, _*_, _≤_, _<_, _-_}
+use mathlib.Core.Path.{_≡_, refl}
+use Prim.Native.Nat.{ℕ, _*_, _≤_, _-_}
 use borrow.Author.Needs.{needs}
 use Rattle.step.proofs.integrator.write_rows.Statement.{statement}
 use Rattle.step.proofs.integrator.write_rows.Tie as tie
