@@ -21,7 +21,7 @@ use Rattle.rows.specs.declared.geometry.EqualityRow.{EqualityRow}
 use Rattle.rows.specs.Fault.{Fault, nonConvergent, arithmeticOverflow, Result, vectorOr}
 use Rattle.rows.specs.Body.{omegaOf, kickOf}
 use Rattle.rows.specs.View.{at, Out, Kept}
-use Rattle.rows.specs.Region.{tab-length, kept-refl, kept-then, kept-more}
+use Rattle.rows.specs.Region.{tab-length, kept-refl, kept-set, kept-then, kept-more}
 use Rattle.rows.specs.Answer.{finishAs}
 use Rattle.rows.specs.AnswerLaws.{vector-go, vector-stop}
 use Rattle.solves.specs.declared.places.Generalized.{Generalized}
@@ -30,11 +30,11 @@ use Rattle.solves.specs.declared.Outcome.the-variants as Outcomes
 use Rattle.solves.specs.declared.End.the-variants as Solved
 use Rattle.solves.specs.declared.Ended.{Ended}
 use Rattle.solves.specs.Solver.{rowIn, generalizedIn, transpose}
-use Rattle.solves.specs.Path.{ended, linearSolve}
-use Rattle.solves.specs.Answer.{ranAs, solveAs, Solves}
+use Rattle.solves.specs.Path.{linearSolve}
+use Rattle.solves.specs.Answer.{ranAs, Solves}
 use Rattle.solves.specs.Region.{vecAt, Does}
 use Rattle.solves.specs.RegionLaws.{vec-at}
-use Rattle.solves.specs.View.{ROWS, MASSES, RHS, SOLUTION, GENERALIZED, CANDIDATE, Rows, Shares, Work, rowOn, rowsOn, generalizedAt, generalizedsAt, massesAt}
+use Rattle.solves.specs.View.{ROWS, MASSES, RHS, SOLUTION, GENERALIZED, CANDIDATE, Rows, Shares, rowOn, rowsOn, generalizedAt, generalizedsAt, massesAt}
 use Rattle.solves.specs.ViewLaws.{kept-rows, kept-masses, row-in, share-in}
 use Rattle.solves.specs.DoesLaws.{number-yes, number-no, goes-on, returns-if, ran-done, ran-over, does-stop, does-then}
 use Rattle.step.specs.declared.passes.PassEnd.the-variants as Passes
@@ -42,36 +42,63 @@ use Rattle.step.specs.declared.passes.Passed.{Passed}
 use Rattle.step.specs.View.{startBodyAt, candidateAt, candidatesAt, movedTo}
 use Rattle.step.specs.ViewLaws.{kept-candidate, kept-candidates}
 use Rattle.step.specs.Step.{bodyIn, Took, taking, velocityOf, velocityRhs, compatibleOf, kickBodies, reactionOf, velocitiesBy, velocityPass, velocityLoop}
-use Rattle.step.specs.RunView.{Correcting, passAs, loopedAs}
+use Rattle.step.specs.declared.velocity.Motion.{Motion}
+use Rattle.step.specs.RunView.{Moves, MotionAt, Remembers, Correcting, passAs, loopedAs}
 use Rattle.step.proofs.FrameLaws.{candidate-in}
 use Rattle.step.proofs.EachLaws.{so-none, so-more, so-put, so-stop, so-end}
 use Rattle.step.proofs.MotionLaws.{kick-moved}
 use Rattle.step.proofs.PassLaws.{Reached, reached-none, reached-next, left-met, left-nonconvergent, left-overflow, left-spent}
 use Rattle.step.proofs.SolveLaws.{finish-case, turn-nonconvergent, turn-overflow, turn-next, turn-stops, not-declined}
 
--- velocity
-module _ (row : EqualityRow) (a b : MomentumBody) {o : OptionVec3} (ea : vectorOr arithmeticOverflow o ≡ omegaOf a) where
-  pub velocity-1 : o ≡ None → stop arithmeticOverflow ≡ velocityOf row a b
+-- velocity: the rate of a row from the motions of its bodies
+module _ (row : EqualityRow) (x y : MomentumBody) {a b : Motion} (ma : Moves x a) (mb : Moves y b) where
+  pub rate-without-a : a .angular ≡ None → stop arithmeticOverflow ≡ velocityOf row x y
   unfolding velocityOf
-  velocity-1 h = then-stop _ (vector-stop ea h)
+  rate-without-a h = then-stop _ (vector-stop (ma .angular-is) h)
 
-  module _ {wa : Vec3} (ha : o ≡ Some wa) {p : OptionVec3} (eb : vectorOr arithmeticOverflow p ≡ omegaOf b) where
-    pub velocity-2 : p ≡ None → stop arithmeticOverflow ≡ velocityOf row a b
+  module _ {wa : Vec3} (ha : a .angular ≡ Some wa) where
+    pub rate-without-b : b .angular ≡ None → stop arithmeticOverflow ≡ velocityOf row x y
     unfolding velocityOf
-    velocity-2 h = then-stop _ (vector-stop eb h) ∙ then-go _ (vector-go ea ha)
+    rate-without-b h = then-stop _ (vector-stop (mb .angular-is) h) ∙ then-go _ (vector-go (ma .angular-is) ha)
 
-    module _ {wb : Vec3} (hb : p ≡ Some wb) {va vb : Vec3} {x y z w : Float} {t : Bool} (eva : va ≡ divOf (a .momentum) (a .mass)) (ex : x ≡ dotOf (row .«linear_a») va) (ey : y ≡ dotOf (row .«angular_a») wa)
-        (evb : vb ≡ divOf (b .momentum) (b .mass)) (ez : z ≡ dotOf (row .«linear_b») vb) (ew : w ≡ dotOf (row .«angular_b») wb) (et : t ≡ isFinite (x ⊕ y ⊕ z ⊕ w)) where
-      total : x ⊕ y ⊕ z ⊕ w ≡ dotOf (row .«linear_a») (divOf (a .momentum) (a .mass)) ⊕ dotOf (row .«angular_a») wa ⊕ dotOf (row .«linear_b») (divOf (b .momentum) (b .mass)) ⊕ dotOf (row .«angular_b») wb
-      total = cc
+    module _ {wb : Vec3} (hb : b .angular ≡ Some wb) {p q r s : Float} {t : Bool} (ep : p ≡ dotOf (row .«linear_a») (a .linear)) (eq : q ≡ dotOf (row .«angular_a») wa)
+        (er : r ≡ dotOf (row .«linear_b») (b .linear)) (es : s ≡ dotOf (row .«angular_b») wb) (et : t ≡ isFinite (p ⊕ q ⊕ r ⊕ s)) where
+      total : p ⊕ q ⊕ r ⊕ s ≡ dotOf (row .«linear_a») (divOf (x .momentum) (x .mass)) ⊕ dotOf (row .«angular_a») wa
+          ⊕ dotOf (row .«linear_b») (divOf (y .momentum) (y .mass)) ⊕ dotOf (row .«angular_b») wb
+      total =
+          let va = ma .linear-is in
+          let vb = mb .linear-is in
+          cc
 
-      pub velocity-3 : t ≡ true → go (x ⊕ y ⊕ z ⊕ w) ≡ velocityOf row a b
+      pub rate-finite : t ≡ true → go (p ⊕ q ⊕ r ⊕ s) ≡ velocityOf row x y
       unfolding velocityOf
-      velocity-3 h = number-yes total et h ∙ then-go _ (vector-go eb hb) ∙ then-go _ (vector-go ea ha)
+      rate-finite h = number-yes total et h ∙ then-go _ (vector-go (mb .angular-is) hb) ∙ then-go _ (vector-go (ma .angular-is) ha)
 
-      pub velocity-4 : t ≡ false → stop arithmeticOverflow ≡ velocityOf row a b
+      pub rate-not-finite : t ≡ false → stop arithmeticOverflow ≡ velocityOf row x y
       unfolding velocityOf
-      velocity-4 h = number-no total et h ∙ then-go _ (vector-go eb hb) ∙ then-go _ (vector-go ea ha)
+      rate-not-finite h = number-no total et h ∙ then-go _ (vector-go (mb .angular-is) hb) ∙ then-go _ (vector-go (ma .angular-is) ha)
+
+-- motion_of
+pub motion-made : (s : List Float) (k : ℕ) {body : MomentumBody} {linear : Vec3} {angular : OptionVec3} → body ≡ candidateAt s k → linear ≡ divOf (body .momentum) (body .mass)
+    → vectorOr arithmeticOverflow angular ≡ omegaOf body → MotionAt s k (record { body = k; linear = linear; angular = angular })
+motion-made s k e l w = record { body-is = refl; moves = record { linear-is = l ∙ ap (λ (b : MomentumBody). divOf (b .momentum) (b .mass)) e; angular-is = w ∙ ap omegaOf e } }
+
+-- motion_again
+pub motion-known : {s : List Float} {k : ℕ} {m : Motion} → Remembers s m → m .body ≡ k → k < 16 → MotionAt s k m
+motion-known {s} {k} {m} known e h = record { body-is = e; moves = subst (λ (j : ℕ). Moves (candidateAt s j) m) e (known .moves (let l : m .body < 16 = omega arith in l)) }
+
+pub no-body-remembered : (s : List Float) {m : Motion} → m .body ≡ 16 → Remembers s m
+no-body-remembered s {m} e = record { moves = λ h. absurd (let no : ⊥ = omega arith in no) }
+
+-- it stays so when a rate is put into its place
+pub motion-remembered : {s : List Float} {j : ℕ} {m : Motion} (k : ℕ) (v : Float) → k < 96 → MotionAt s j m → Remembers (set s (RHS + k) v) m
+motion-remembered {s} {j} {m} k v l known = record { moves = λ h. subst (λ (body : MomentumBody). Moves body m) (sym (same h ∙ here)) (known .moves) }
+  where
+    here : candidateAt s (m .body) ≡ candidateAt s j
+    here = ap (candidateAt s) (known .body-is)
+
+    same : m .body < 16 → candidateAt (set s (RHS + k) v) (m .body) ≡ candidateAt s (m .body)
+    same h = kept-candidate (kept-set s (RHS + k) v) (m .body) (λ i p q. omega arith) (λ i p q. omega arith)
 
 -- velocity_rhs
 module _ (ia ib : List ℕ) (n bodies : ℕ) (s₀ : List Float) where
@@ -99,24 +126,27 @@ module _ {s₀ : List Float} {ia ib : List ℕ} {n bodies : ℕ} (pre : Rows s�
     pub row-b : row .b < bodies
     row-b = subst (λ (q : EqualityRow). q .b < bodies) (sym er) (pre .b-there k h)
 
-  module _ {k : ℕ} {s : List Float} {row : EqualityRow} {a b : MomentumBody} (so : Opposed ia ib n bodies s₀ k s) (h : k < n) (er : row ≡ rowOn ia ib s ROWS k) (ea : a ≡ candidateAt s (row .a)) (eb : b ≡ candidateAt s (row .b)) where
-    rhs-turn : velocityOf row a b ≡ velocityOf (rowIn R k) (bodyIn C (rowIn R k .a)) (bodyIn C (rowIn R k .b))
+  module _ {k : ℕ} {s : List Float} {row : EqualityRow} (so : Opposed ia ib n bodies s₀ k s) (h : k < n) (er : row ≡ rowOn ia ib s ROWS k) where
+    rhs-turn : velocityOf row (candidateAt s (row .a)) (candidateAt s (row .b)) ≡ velocityOf (rowIn R k) (bodyIn C (rowIn R k .a)) (bodyIn C (rowIn R k .b))
     rhs-turn =
         let x : row ≡ rowIn R k = row-in (so .kept) ia ib ROWS n k (λ i p q. omega (arith, pre .most)) h er in
         let la : row .a < bodies = row-a h s er in
         let lb : row .b < bodies = row-b h s er in
         let most : bodies ≤ 16 = pre .bodies in
-        let y : a ≡ bodyIn C (row .a) = candidate-in (so .kept) bodies (row .a) (λ i p q. omega arith) (λ i p q. omega arith) la ea in
-        let z : b ≡ bodyIn C (row .b) = candidate-in (so .kept) bodies (row .b) (λ i p q. omega arith) (λ i p q. omega arith) lb eb in
+        let y : candidateAt s (row .a) ≡ bodyIn C (row .a) = candidate-in (so .kept) bodies (row .a) (λ i p q. omega arith) (λ i p q. omega arith) la refl in
+        let z : candidateAt s (row .b) ≡ bodyIn C (row .b) = candidate-in (so .kept) bodies (row .b) (λ i p q. omega arith) (λ i p q. omega arith) lb refl in
         cc
 
-    pub rhs-again : {v : Float} → go v ≡ velocityOf row a b → Opposed ia ib n bodies s₀ (k + 1) (set s (RHS + k) (Ieee.neg v))
-    rhs-again {v} e = so-put RHS (oppose ia ib n bodies s₀) s₀ k s so (λ i. Out RHS 96 i) (λ i x. x) (Ieee.neg v) (λ i x. omega (arith, pre .most)) (omega (arith, pre .most, pre .whole, so .kept .size)) (then-go _ (e ∙ rhs-turn))
+    pub rhs-again : {v : Float} → go v ≡ velocityOf row (candidateAt s (row .a)) (candidateAt s (row .b)) → Opposed ia ib n bodies s₀ (k + 1) (set s (RHS + k) (Ieee.neg v))
+    rhs-again {v} e =
+        so-put RHS (oppose ia ib n bodies s₀) s₀ k s so (λ i. Out RHS 96 i) (λ i x. x) (Ieee.neg v) (λ i x. omega (arith, pre .most))
+        (omega (arith, pre .most, pre .whole, so .kept .size)) (then-go _ (e ∙ rhs-turn))
 
-    pub rhs-stops : stop arithmeticOverflow ≡ velocityOf row a b → Does (λ i. Out RHS 96 i) s₀ s (stop arithmeticOverflow) (velocityRhs R C)
+    pub rhs-stops : stop arithmeticOverflow ≡ velocityOf row (candidateAt s (row .a)) (candidateAt s (row .b)) → Does (λ i. Out RHS 96 i) s₀ s (stop arithmeticOverflow) (velocityRhs R C)
     unfolding velocityRhs
     rhs-stops e =
-        so-stop (λ s k. at s (RHS + k)) (oppose ia ib n bodies s₀) s₀ k s so (λ i. Out RHS 96 i) (λ i x. x) (sym (tab-length n (rowOn ia ib s₀ ROWS))) h (kept-refl (λ i. Out RHS 96 i) s) (λ i x. x) (then-stop _ (e ∙ rhs-turn))
+        so-stop (λ s k. at s (RHS + k)) (oppose ia ib n bodies s₀) s₀ k s so (λ i. Out RHS 96 i) (λ i x. x) (sym (tab-length n (rowOn ia ib s₀ ROWS))) h
+        (kept-refl (λ i. Out RHS 96 i) s) (λ i x. x) (then-stop _ (e ∙ rhs-turn))
 
   pub rhs-ends : {k : ℕ} {s : List Float} → Opposed ia ib n bodies s₀ k s → k ≤ n → n ≤ k → Does (λ i. Out RHS 96 i) s₀ s (go (vecAt s RHS n)) (velocityRhs R C)
   unfolding velocityRhs

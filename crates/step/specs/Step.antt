@@ -1,8 +1,8 @@
 -- ConstrainedIntegrator::solve of solver.rs over plain values, pass by pass, with document 01's refusals and the ground of test 12.
 -- `Result A` is the Rust's Result, and in a `do` block `x ← e` is `let x = e?`. The linear solves are in solves/specs, bodies and rows in rows/specs.
-use Prim.Native.Nat.{ℕ, _+_, _*_, _/_, _%_, _^_}
+use Prim.Native.Nat.{ℕ, _+_, _/_, _%_, _^_}
 use mathlib.Core.List.{List, [], _∷_, _++_}
-use mathlib.Core.Bool.{Bool, cond, not, _&&_}
+use mathlib.Core.Bool.{Bool, cond, _&&_}
 use lib.Dec.{ltb, leb}
 use lib.ListN.{length, getD, drop, replicate}
 use lib.Ieee as Ieee

@@ -1,9 +1,9 @@
 use native.Mathlib.Omega.{arith}
-use mathlib.Core.Path.{_≡_, refl, sym, ap, _∙_}
-use Prim.Native.Nat.{ℕ, _+_, _*_, _≤_, _<_, _-_}
-use lib.ListN.{length, getD, length-set}
-use Rattle.step.specs.Ready.{Spread, Joined}
-use Rattle.step.proofs.StepLaws.{spread-none, spread-more, spread-end, spread-less}
+use mathlib.Core.Path.{_≡_, refl}
+use Prim.Native.Nat.{_+_, _≤_, _-_}
+use lib.ListN.{length, length-set}
+use Rattle.step.specs.Ready.{Spread}
+use Rattle.step.proofs.StepLaws.{spread-none, spread-more, spread-end}
 use Rattle.step.proofs.integrator.fill.Statement.{statement}
 use Rattle.step.proofs.integrator.fill.Tie as tie
 
@@ -32,7 +32,9 @@ loop-less : tie.Need-loop-less Inv-loop μ-loop
 loop-less c = omega arith
 
 loop-again : tie.Need-loop-again Inv-loop μ-loop
-loop-again c = (omega arith, omega arith, omega arith, simp length-set (omega arith), spread-more (omega arith) (omega arith) (c .before .loop .inv .4))
+loop-again c =
+    (omega arith, omega arith, omega arith, simp length-set (omega arith),
+    spread-more (omega arith) (omega arith) (c .before .loop .inv .4))
 
 same-length : tie.Need-same-length Inv-loop μ-loop
 same-length c = omega arith
