@@ -24,7 +24,7 @@ use Rattle.rows.specs.Geometry.{rowIf, oneIf, rowCount}
 use Rattle.rows.proofs.Constants.{zero-is}
 use Rattle.rows.specs.View.{at, rowAt, Out, Kept}
 use Rattle.rows.specs.Answer.{writtenAs}
-use Rattle.rows.specs.Append.{rowAs, countOf, appended, added, spanOf, There, Appends, Adds, Cleared, followedBy}
+use Rattle.rows.specs.Append.{rowAs, countOf, appended, added, spanOf, There, Room, Appends, Adds, Cleared, followedBy}
 use Rattle.rows.specs.Region.{kept-refl, kept-then, kept-more, kept-set, kept-row, tab-ext, tab-more}
 
 -- ---- one answer
@@ -65,6 +65,16 @@ appended-most Written.ArithmeticOverflow answer = omega arith
 
 pub appends-most : {i : ℕ} {s t : List Float} {w r : Written} {answer : RowAnswer} → Appends i w answer s t r → countOf r ≤ countOf w + 1
 appends-most {w = w} {r = r} {answer = answer} e = subst (λ (x : Written). countOf x ≤ countOf w + 1) (sym (e .is)) (appended-most w answer)
+
+-- ---- room for one row more, and for the next
+pub room-here : {i k : ℕ} {s : List Float} {w : Written} → Room i k s w → k ≤ 5 → i + 14 * countOf w + 14 ≤ length s
+room-here r h = omega (arith, r .six, r .few)
+
+pub room-none : (i : ℕ) (s : List Float) → i + 84 ≤ length s → Room i 0 s (Written.Rows 0)
+room-none i s h = record { six = h; few = omega arith }
+
+pub room-after : {i k : ℕ} {s t : List Float} {w r : Written} {answer : RowAnswer} → Room i k s w → Appends i w answer s t r → Room i (k + 1) t r
+room-after r p = record { six = omega (arith, r .six, p .kept .size); few = omega (arith, r .few, appends-most p) }
 
 -- ---- the bodies of a row
 -- a row that d gives is between a and b

@@ -13,12 +13,17 @@ use Rattle.arith.specs.declared.angle.Angle.the-variants as Angles
 use Rattle.arith.specs.Flow.{go, stop, _>>=_, returnIf}
 use Rattle.arith.specs.FlowLaws.{then-go, then-stop}
 use Rattle.vectors.specs.declared.vector.Vec3.{Vec3}
+use Rattle.vectors.specs.declared.vector.OptionVec3.{OptionVec3}
+use Rattle.vectors.specs.declared.vector.OptionVec3.the-variants as Vector
 use Rattle.vectors.specs.declared.vector.OptionF64.{OptionF64}
 use Rattle.vectors.specs.declared.vector.OptionF64.the-variants as Number
 use Rattle.vectors.specs.declared.quaternion.Quat.{Quat}
+use Rattle.vectors.specs.declared.quaternion.OptionQuat.{OptionQuat}
+use Rattle.vectors.specs.declared.quaternion.OptionQuat.the-variants as Rotation
 use Rattle.vectors.specs.Vector.{vec, zeroVec, axisX, axisY, axisZ, addOf, subOf, scaleOf, negOf, dotOf, crossOf, tryNormalizeOf}
 use Rattle.vectors.specs.VectorLaws.{zero-vec-is, axis-x-is, axis-y-is, axis-z-is}
-use Rattle.vectors.specs.Quaternion.{conjugateOf, productOf, quatTryNormalizeOf}
+use Rattle.vectors.specs.Quaternion.{conjugateOf, productOf, quatTryNormalizeOf, rotateAsUnitOf}
+use Rattle.vectors.specs.Laws.AsUnit.{rotates-as-unit}
 use Rattle.rows.specs.declared.body.MomentumBody.{MomentumBody}
 use Rattle.rows.specs.declared.geometry.Joint.{Joint}
 use Rattle.rows.specs.declared.geometry.EqualityRow.{EqualityRow}
@@ -33,7 +38,8 @@ use Rattle.rows.specs.declared.geometry.Swing.{Swing}
 use Rattle.rows.specs.Fault.{Fault, nonConvergent, arithmeticOverflow, Result, vectorOr, numberOr, quatOr, tryFinite, tryLength, tryRotate}
 use Rattle.rows.specs.Body.{anchorOf}
 use Rattle.rows.specs.Geometry.{epsilon, turning, endsOf, toleranceOf, distanceRow, linearRow, rowIf, anyLocked, halfTurned, relativeOf, swingX, swingY, localOf, gradientRow, swingRow, angleOr, twistRow, alignedOf, alignRow}
-use Rattle.rows.specs.Append.{endsAs, axisAs, relativeAs, rowAs}
+use Rattle.rows.specs.Append.{UnitOf, endsAs, axisAs, relativeAs, rowAs}
+use Rattle.rows.specs.AnswerLaws.{some-go, none-stop}
 use Rattle.rows.proofs.Constants.{zero-is, half-is, one-is, two-is, thirty-two-is, sixty-four-is, epsilon-is, ten-is, thirteen-is}
 
 abbrev over : {A : Type 0} → Result A
@@ -75,6 +81,17 @@ tolerance-go e h = sym (ap (numberOr arithmeticOverflow) h) ∙ e
 
 pub tolerance-stop : {o : OptionF64} {d : Result Float} → numberOr arithmeticOverflow o ≡ d → o ≡ Number.None → over ≡ d
 tolerance-stop e h = sym (ap (numberOr arithmeticOverflow) h) ∙ e
+
+-- ---- a frame turns a vector as its normalized form does
+pub unit-of : {q unit : Quat} {o : OptionQuat} → o ≡ quatTryNormalizeOf q → o ≡ Rotation.Some unit → UnitOf q unit
+unit-of e h = record { is = sym e ∙ h }
+
+module _ {q unit : Quat} (u : UnitOf q unit) (v : Vec3) {o : OptionVec3} (e : o ≡ rotateAsUnitOf unit v) where
+  pub turned-go : {r : Vec3} → o ≡ Vector.Some r → go r ≡ tryRotate q v
+  turned-go h = some-go arithmeticOverflow (e ∙ sym (rotates-as-unit q (u .is) v)) h
+
+  pub turned-stop : o ≡ Vector.None → over ≡ tryRotate q v
+  turned-stop h = none-stop arithmeticOverflow (e ∙ sym (rotates-as-unit q (u .is) v)) h
 
 -- ---- the ends
 module _ (joint : Joint) (a b : MomentumBody) where

@@ -18,7 +18,9 @@ use Rattle.vectors.specs.declared.vector.OptionVec3.the-variants as Vector
 use Rattle.vectors.specs.declared.quaternion.Quat.{Quat}
 use Rattle.vectors.specs.Vector.{vec, axisX, axisY, axisZ, finiteOf}
 use Rattle.vectors.specs.VectorLaws.{axis-x-is, axis-y-is, axis-z-is}
-use Rattle.vectors.specs.Quaternion.{rotateVectorOf}
+use Rattle.vectors.specs.declared.quaternion.OptionQuat.the-variants.{None}
+use Rattle.vectors.specs.Quaternion.{quatTryNormalizeOf, rotateVectorOf}
+use Rattle.vectors.specs.Laws.AsUnit.{no-unit-no-rotation}
 use Rattle.rows.specs.declared.body.MomentumBody.{MomentumBody}
 use Rattle.rows.specs.declared.geometry.Joint.{Joint}
 use Rattle.rows.specs.declared.geometry.Kind.{Kind}
@@ -248,7 +250,7 @@ module _ (s : List Float) (i : ℕ) where
       let same : k ≡ n = omega arith in
       subst (λ (j : ℕ). Finite j) same f
 
--- ---- a length that is not finite fails the first row already
+-- ---- where there is no tolerance, or frame a has no normalized form, the first row fails already: every kind has a linear row
 -- no fault but arithmeticOverflow
 pub record Over {A : Type 0} (m : Result A) : Type 0 where
   pub only : (f : Fault) → stop f ≡ m → f ≡ arithmeticOverflow
@@ -279,26 +281,32 @@ unfolding _>>=_
 over-then (go x) o h = h x
 over-then (stop f) o h = ap stop (sym (o .only f refl))
 
-module _ (joint : Joint) (e : Ends) (h : stop arithmeticOverflow ≡ toleranceOf (e .pa) (e .pb)) where
-  long-row : (axis : Vec3) → stop arithmeticOverflow ≡ linearRow joint e axis
+module _ (joint : Joint) (e : Ends) where
+  -- no tolerance, or no axis
+  pub long-row : stop arithmeticOverflow ≡ toleranceOf (e .pa) (e .pb) → (axis : Vec3) → stop arithmeticOverflow ≡ linearRow joint e axis
   unfolding linearRow
-  long-row axis = over-then _ (over-rotate _ _) λ x. over-then _ (over-finite _) λ a. over-then _ (over-finite _) λ b. then-stop _ h
+  long-row h axis = over-then _ (over-rotate _ _) λ x. over-then _ (over-finite _) λ a. over-then _ (over-finite _) λ b. then-stop _ h
 
-  first : (l : Linear) → l .x ≡ true → stop arithmeticOverflow ≡ lines joint e l
-  first l t = then-stop _ (then-stop (λ (r : EqualityRow). go (r ∷ [])) (long-row axisX) ∙ ap (λ (b : Bool). rowIf b (linearRow joint e axisX)) (sym t))
+  pub unturned-row : quatTryNormalizeOf (e .«frame_a») ≡ None → (axis : Vec3) → stop arithmeticOverflow ≡ linearRow joint e axis
+  unfolding linearRow
+  unturned-row h axis = then-stop _ (sym (ap (vectorOr arithmeticOverflow) (no-unit-no-rotation (e .«frame_a») h axis)))
 
-  long : (kind : Kind) → stop arithmeticOverflow ≡ lines joint e (linearAxes kind)
-  unfolding _>>=_
-  long Ball = first (linearAxes Ball) refl
-  long Hinge = first (linearAxes Hinge) refl
-  long Cylindrical = first (linearAxes Cylindrical) refl
-  long Planar = then-stop _ (then-stop (λ (r : EqualityRow). go (r ∷ [])) (long-row axisZ))
-  long (Distance length) = first (linearAxes (Distance length)) refl
-  long (ConeTwist x y lower upper) = first (linearAxes (ConeTwist x y lower upper)) refl
+  module _ (h : (axis : Vec3) → stop arithmeticOverflow ≡ linearRow joint e axis) where
+    first : (l : Linear) → l .x ≡ true → stop arithmeticOverflow ≡ lines joint e l
+    first l t = then-stop _ (then-stop (λ (r : EqualityRow). go (r ∷ [])) (h axisX) ∙ ap (λ (b : Bool). rowIf b (linearRow joint e axisX)) (sym t))
 
-  pub frames-long : {i : ℕ} (s : List Float) → Adds (joint .«body_a») (joint .«body_b») i 6 s s Written.ArithmeticOverflow (frameRows joint e)
-  unfolding frameRows
-  frames-long s = record { kept = kept-refl _ s; within = omega arith; is = then-stop _ (long (joint .kind) ∙ lines-is joint e refl) }
+    early : (kind : Kind) → stop arithmeticOverflow ≡ lines joint e (linearAxes kind)
+    unfolding _>>=_
+    early Ball = first (linearAxes Ball) refl
+    early Hinge = first (linearAxes Hinge) refl
+    early Cylindrical = first (linearAxes Cylindrical) refl
+    early Planar = then-stop _ (then-stop (λ (r : EqualityRow). go (r ∷ [])) (h axisZ))
+    early (Distance length) = first (linearAxes (Distance length)) refl
+    early (ConeTwist x y lower upper) = first (linearAxes (ConeTwist x y lower upper)) refl
+
+    pub frames-early : {i : ℕ} (s : List Float) → Adds (joint .«body_a») (joint .«body_b») i 6 s s Written.ArithmeticOverflow (frameRows joint e)
+    unfolding frameRows
+    frames-early s = record { kept = kept-refl _ s; within = omega arith; is = then-stop _ (early (joint .kind) ∙ lines-is joint e refl) }
 
 -- ---- all of them
 frames-go : (L M : Rows) {rows : List EqualityRow} {t : Bool} → go rows ≡ followedBy L M → t ≡ finiteValues rows

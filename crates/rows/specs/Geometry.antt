@@ -122,9 +122,16 @@ linearRows joint e = do
   z ← rowIf (linearAxes (joint .kind) .z) (linearRow joint e axisZ)
   go ((x ++ y) ++ z)
 
+-- limit == 0.0, and cone.twist_limit.lower == cone.twist_limit.upper
+abbrev pub swingLocked : Float → Bool
+swingLocked limit = Ieee.eq limit (ratio 0 1)
+
+abbrev pub twistLocked : Cone → Bool
+twistLocked cone = Ieee.eq (cone .«twist_lower») (cone .«twist_upper»)
+
 -- if let Some(cone): the relative rotation, norm_squared and norm
 abbrev pub anyLocked : Cone → Bool
-anyLocked cone = Ieee.eq (cone .«swing_x») (ratio 0 1) || Ieee.eq (cone .«swing_y») (ratio 0 1) || Ieee.eq (cone .«twist_lower») (cone .«twist_upper»)
+anyLocked cone = swingLocked (cone .«swing_x») || swingLocked (cone .«swing_y») || twistLocked cone
 
 abbrev pub halfTurned : Cone → Float → Bool
 halfTurned cone normSquared = Ieee.le normSquared (ratio 64 1 ⊗ epsilon ⊗ (ratio 64 1 ⊗ epsilon)) && anyLocked cone
@@ -183,9 +190,9 @@ twistRow joint frameA r lower =
 unfoldable pub coneRows : Joint → Ends → Cone → Result (List EqualityRow)
 coneRows joint e cone = do
   r ← relativeOf cone (e .«frame_a») (e .«frame_b»)
-  x ← rowIf (Ieee.eq (cone .«swing_x») (ratio 0 1)) (swingRow joint (e .«frame_a») r (swingX (r .rotation)))
-  y ← rowIf (Ieee.eq (cone .«swing_y») (ratio 0 1)) (swingRow joint (e .«frame_a») r (swingY (r .rotation)))
-  twist ← rowIf (Ieee.eq (cone .«twist_lower») (cone .«twist_upper»)) (twistRow joint (e .«frame_a») r (cone .«twist_lower»))
+  x ← rowIf (swingLocked (cone .«swing_x»)) (swingRow joint (e .«frame_a») r (swingX (r .rotation)))
+  y ← rowIf (swingLocked (cone .«swing_y»)) (swingRow joint (e .«frame_a») r (swingY (r .rotation)))
+  twist ← rowIf (twistLocked cone) (twistRow joint (e .«frame_a») r (cone .«twist_lower»))
   go ((x ++ y) ++ twist)
 
 -- else if align: b's Z axis, which must not lead away from a's

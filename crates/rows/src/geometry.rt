@@ -25,10 +25,13 @@ ghost use lib.Ieee.{Float};
 ghost use Rattle.arith.specs.Real.{ratio};
 ghost use Rattle.arith.specs.Flow.{go};
 ghost use Rattle.rows.specs.Fault.{Result, arithmeticOverflow, numberOr};
-ghost use Rattle.rows.specs.Geometry.{turning, endsOf, toleranceOf, distanceRow, linearRow, rowIf, linearAxes, linearRows, anyLocked, halfTurned, relativeOf, swingX, swingY, localOf, gradientRow, swingRow, twistRow, coneRows, alignedOf, alignRow, alignRows, angularRows, finiteValues, frameRows, writeEqualityRows, rowCount, oneIf};
+ghost use Rattle.rows.specs.Geometry.{turning, endsOf, toleranceOf, distanceRow, linearRow, rowIf, linearAxes, linearRows};
+ghost use Rattle.rows.specs.Geometry.{anyLocked, halfTurned, relativeOf, swingX, swingY, localOf, gradientRow, swingLocked, swingRow};
+ghost use Rattle.rows.specs.Geometry.{twistLocked, twistRow, coneRows, alignedOf, alignRow, alignRows, angularRows, finiteValues};
+ghost use Rattle.rows.specs.Geometry.{frameRows, writeEqualityRows, rowCount, oneIf};
 ghost use Rattle.rows.specs.View.{vec3At, rowAt, rowsAt, Out, Kept};
 ghost use Rattle.rows.specs.Answer.{Writes};
-ghost use Rattle.rows.specs.Append.{endsAs, axisAs, relativeAs, rowAs, Stored2, countOf, Appends, Adds, Cleared, followedBy};
+ghost use Rattle.rows.specs.Append.{UnitOf, endsAs, axisAs, relativeAs, rowAs, Stored2, countOf, Room, Appends, Adds, Follows, Cleared};
 
 // The doubles of a row.
 pub const ROW: usize = 14;
@@ -287,11 +290,11 @@ fn distance_row(joint: Joint, e: Ends, length: f64) -> RowAnswer
 }
 
 // The anchors' difference along an axis of frame a.
-fn linear_row(joint: Joint, e: Ends, local_axis: Vec3, tolerance: f64) -> RowAnswer
-    requires { ⌜ go tolerance ≡ toleranceOf (e .pa) (e .pb) ⌝ }
+fn linear_row(joint: Joint, e: Ends, unit: Quat, local_axis: Vec3, tolerance: f64) -> RowAnswer
+    requires { ⌜ (UnitOf (e .«frame_a») unit) × (go tolerance ≡ toleranceOf (e .pa) (e .pb)) ⌝ }
     ensures { λ r. ⌜ rowAs r ≡ rowIf true (linearRow joint e «local_axis») ⌝ }
 {
-    let OptionVec3::Some(axis) = e.frame_a.rotate_vector(local_axis) else {
+    let OptionVec3::Some(axis) = unit.rotate_as_unit(local_axis) else {
         return RowAnswer::ArithmeticOverflow;
     };
     let OptionVec3::Some(angular_a) = finite(axis.cross(e.delta).sub(e.arm_a.cross(axis))) else {
@@ -312,24 +315,31 @@ fn linear_row(joint: Joint, e: Ends, local_axis: Vec3, tolerance: f64) -> RowAns
     })
 }
 
-fn linear_row_if(locked: bool, joint: Joint, e: Ends, local_axis: Vec3, tolerance: f64) -> RowAnswer
-    requires { ⌜ go tolerance ≡ toleranceOf (e .pa) (e .pb) ⌝ }
+fn linear_row_if(
+    locked: bool,
+    joint: Joint,
+    e: Ends,
+    unit: Quat,
+    local_axis: Vec3,
+    tolerance: f64,
+) -> RowAnswer
+    requires { ⌜ (UnitOf (e .«frame_a») unit) × (go tolerance ≡ toleranceOf (e .pa) (e .pb)) ⌝ }
     ensures { λ r. ⌜ rowAs r ≡ rowIf locked (linearRow joint e «local_axis») ⌝ }
 {
     if locked {
-        return linear_row(joint, e, local_axis, tolerance);
+        return linear_row(joint, e, unit, local_axis, tolerance);
     }
     RowAnswer::Free
 }
 
 // The Z axis of frame b. The aligning kinds refuse where the Z axes lead apart.
-fn aligned(frame_a: Quat, frame_b: Quat) -> AxisAnswer
-    ensures { λ r. ⌜ axisAs r ≡ alignedOf «frame_a» «frame_b» ⌝ }
+fn aligned(unit: Quat, frame_b: Quat) -> AxisAnswer
+    ensures { λ r. ⌜ ((q : Quat) → UnitOf q unit → axisAs r ≡ alignedOf q «frame_b») ⌝ }
 {
     let OptionVec3::Some(z) = frame_b.rotate_vector(Vec3::Z) else {
         return AxisAnswer::ArithmeticOverflow;
     };
-    let OptionVec3::Some(za) = frame_a.rotate_vector(Vec3::Z) else {
+    let OptionVec3::Some(za) = unit.rotate_as_unit(Vec3::Z) else {
         return AxisAnswer::ArithmeticOverflow;
     };
     if za.dot(z) <= 1.0e-10 {
@@ -339,10 +349,10 @@ fn aligned(frame_a: Quat, frame_b: Quat) -> AxisAnswer
 }
 
 // The Z axis of frame b across an axis of frame a.
-fn align_row(joint: Joint, frame_a: Quat, local_axis: Vec3, z: Vec3) -> RowAnswer
-    ensures { λ r. ⌜ rowAs r ≡ rowIf true (alignRow joint «frame_a» «local_axis» z) ⌝ }
+fn align_row(joint: Joint, unit: Quat, local_axis: Vec3, z: Vec3) -> RowAnswer
+    ensures { λ r. ⌜ ((q : Quat) → UnitOf q unit → rowAs r ≡ rowIf true (alignRow joint q «local_axis» z)) ⌝ }
 {
-    let OptionVec3::Some(axis) = frame_a.rotate_vector(local_axis) else {
+    let OptionVec3::Some(axis) = unit.rotate_as_unit(local_axis) else {
         return RowAnswer::ArithmeticOverflow;
     };
     let OptionVec3::Some(gradient) = finite(axis.cross(z)) else {
@@ -387,15 +397,15 @@ fn local_gradient(q: Quat, gradient: Vec3, scalar: f64) -> Vec3
 // A row along a gradient in the relative rotation.
 fn gradient_row(
     joint: Joint,
-    frame_a: Quat,
-    q: Quat,
+    unit: Quat,
+    relative: Quat,
     gradient: Vec3,
     scalar: f64,
     value: f64,
 ) -> RowAnswer
-    ensures { λ r. ⌜ rowAs r ≡ rowIf true (gradientRow joint «frame_a» q gradient scalar value) ⌝ }
+    ensures { λ r. ⌜ ((q : Quat) → UnitOf q unit → rowAs r ≡ rowIf true (gradientRow joint q relative gradient scalar value)) ⌝ }
 {
-    match frame_a.rotate_vector(local_gradient(q, gradient, scalar)) {
+    match unit.rotate_as_unit(local_gradient(relative, gradient, scalar)) {
         OptionVec3::Some(angular) => {
             RowAnswer::Value(EqualityRow::turning(joint, angular.neg(), angular, value))
         }
@@ -403,8 +413,8 @@ fn gradient_row(
     }
 }
 
-fn swing_row(joint: Joint, frame_a: Quat, r: Relative, swing: Swing) -> RowAnswer
-    ensures { λ out. ⌜ rowAs out ≡ rowIf true (swingRow joint «frame_a» r swing) ⌝ }
+fn swing_row(joint: Joint, unit: Quat, r: Relative, swing: Swing) -> RowAnswer
+    ensures { λ out. ⌜ ((q : Quat) → UnitOf q unit → rowAs out ≡ rowIf true (swingRow joint q r swing)) ⌝ }
 {
     let q = r.rotation;
     let value = 2.0 * swing.numerator / r.norm;
@@ -414,20 +424,20 @@ fn swing_row(joint: Joint, frame_a: Quat, r: Relative, swing: Swing) -> RowAnswe
         .scale(2.0 / r.norm)
         .sub(Vec3::Z.scale(2.0 * swing.numerator * q.z / cubed));
     let scalar = 2.0 * swing.scalar / r.norm - 2.0 * swing.numerator * q.w / cubed;
-    gradient_row(joint, frame_a, q, gradient, scalar, value)
+    gradient_row(joint, unit, q, gradient, scalar, value)
 }
 
-fn swing_row_if(limit: f64, joint: Joint, frame_a: Quat, r: Relative, swing: Swing) -> RowAnswer
-    ensures { λ out. ⌜ rowAs out ≡ rowIf (Ieee.eq limit (ratio 0 1)) (swingRow joint «frame_a» r swing) ⌝ }
+fn swing_row_if(limit: f64, joint: Joint, unit: Quat, r: Relative, swing: Swing) -> RowAnswer
+    ensures { λ out. ⌜ ((q : Quat) → UnitOf q unit → rowAs out ≡ rowIf (swingLocked limit) (swingRow joint q r swing)) ⌝ }
 {
     if limit == 0.0 {
-        return swing_row(joint, frame_a, r, swing);
+        return swing_row(joint, unit, r, swing);
     }
     RowAnswer::Free
 }
 
-fn twist_row(joint: Joint, frame_a: Quat, r: Relative, lower: f64) -> RowAnswer
-    ensures { λ out. ⌜ rowAs out ≡ rowIf true (twistRow joint «frame_a» r lower) ⌝ }
+fn twist_row(joint: Joint, unit: Quat, r: Relative, lower: f64) -> RowAnswer
+    ensures { λ out. ⌜ ((q : Quat) → UnitOf q unit → rowAs out ≡ rowIf true (twistRow joint q r lower)) ⌝ }
 {
     let q = r.rotation;
     let Angle::Value(half) = atan2(q.z, q.w) else {
@@ -439,14 +449,14 @@ fn twist_row(joint: Joint, frame_a: Quat, r: Relative, lower: f64) -> RowAnswer
     }
     let gradient = Vec3::Z.scale(2.0 * q.w / r.norm_squared);
     let scalar = -2.0 * q.z / r.norm_squared;
-    gradient_row(joint, frame_a, q, gradient, scalar, value)
+    gradient_row(joint, unit, q, gradient, scalar, value)
 }
 
-fn twist_row_if(joint: Joint, frame_a: Quat, r: Relative, cone: Cone) -> RowAnswer
-    ensures { λ out. ⌜ rowAs out ≡ rowIf (Ieee.eq (cone .«twist_lower») (cone .«twist_upper»)) (twistRow joint «frame_a» r (cone .«twist_lower»)) ⌝ }
+fn twist_row_if(joint: Joint, unit: Quat, r: Relative, cone: Cone) -> RowAnswer
+    ensures { λ out. ⌜ ((q : Quat) → UnitOf q unit → rowAs out ≡ rowIf (twistLocked cone) (twistRow joint q r (cone .«twist_lower»))) ⌝ }
 {
     if cone.twist_lower == cone.twist_upper {
-        return twist_row(joint, frame_a, r, cone.twist_lower);
+        return twist_row(joint, unit, r, cone.twist_lower);
     }
     RowAnswer::Free
 }
@@ -548,29 +558,43 @@ fn append(s: &mut [f64], at: usize, written: Written, answer: RowAnswer) -> Writ
     }
 }
 
-fn write_linear(s: &mut [f64], at: usize, joint: Joint, e: Ends, tolerance: f64) -> Written
-    requires { ⌜ (at + 84 ≤ length (now s)) × (go tolerance ≡ toleranceOf (e .pa) (e .pb)) ⌝ }
+fn write_linear(
+    s: &mut [f64],
+    at: usize,
+    joint: Joint,
+    e: Ends,
+    unit: Quat,
+    tolerance: f64,
+) -> Written
+    requires { ⌜ (at + 84 ≤ length (now s)) × (UnitOf (e .«frame_a») unit) × (go tolerance ≡ toleranceOf (e .pa) (e .pb)) ⌝ }
     ensures { λ r. ⌜ Adds (joint .«body_a») (joint .«body_b») at 3 (now (s .entry)) (now (s .exit)) r (linearRows joint e) ⌝ }
 {
     let kind = joint.kind;
     let locked = linear_axes(kind);
-    let x = linear_row_if(locked.x, joint, e, Vec3::X, tolerance);
+    let x = linear_row_if(locked.x, joint, e, unit, Vec3::X, tolerance);
     let one = append(s, at, Written::Rows(0), x);
-    let y = linear_row_if(locked.y, joint, e, Vec3::Y, tolerance);
+    let y = linear_row_if(locked.y, joint, e, unit, Vec3::Y, tolerance);
     let two = append(s, at, one, y);
-    let z = linear_row_if(locked.z, joint, e, Vec3::Z, tolerance);
+    let z = linear_row_if(locked.z, joint, e, unit, Vec3::Z, tolerance);
     append(s, at, two, z)
 }
 
-fn write_align(s: &mut [f64], at: usize, written: Written, joint: Joint, e: Ends) -> Written
-    requires { ⌜ (at + 84 ≤ length (now s)) × (countOf written ≤ 3) ⌝ }
-    ensures { λ r. ⌜ ((start : List Float) (d : Result (List EqualityRow)) → Adds (joint .«body_a») (joint .«body_b») at 3 start (now (s .entry)) written d → Adds (joint .«body_a») (joint .«body_b») at 6 start (now (s .exit)) r (followedBy d (alignRows joint e))) ⌝ }
+fn write_align(
+    s: &mut [f64],
+    at: usize,
+    written: Written,
+    joint: Joint,
+    e: Ends,
+    unit: Quat,
+) -> Written
+    requires { ⌜ (Room at 3 (now s) written) × (UnitOf (e .«frame_a») unit) ⌝ }
+    ensures { λ r. ⌜ Follows joint at (now (s .entry)) (now (s .exit)) written r (alignRows joint e) ⌝ }
 {
-    match aligned(e.frame_a, e.frame_b) {
+    match aligned(unit, e.frame_b) {
         AxisAnswer::Value(z) => {
-            let x = align_row(joint, e.frame_a, Vec3::X, z);
+            let x = align_row(joint, unit, Vec3::X, z);
             let one = append(s, at, written, x);
-            let y = align_row(joint, e.frame_a, Vec3::Y, z);
+            let y = align_row(joint, unit, Vec3::Y, z);
             append(s, at, one, y)
         }
         AxisAnswer::NonConvergent => append(s, at, written, RowAnswer::NonConvergent),
@@ -584,18 +608,19 @@ fn write_cone(
     written: Written,
     joint: Joint,
     e: Ends,
+    unit: Quat,
     cone: Cone,
 ) -> Written
-    requires { ⌜ (at + 84 ≤ length (now s)) × (countOf written ≤ 3) ⌝ }
-    ensures { λ r. ⌜ ((start : List Float) (d : Result (List EqualityRow)) → Adds (joint .«body_a») (joint .«body_b») at 3 start (now (s .entry)) written d → Adds (joint .«body_a») (joint .«body_b») at 6 start (now (s .exit)) r (followedBy d (coneRows joint e cone))) ⌝ }
+    requires { ⌜ (Room at 3 (now s) written) × (UnitOf (e .«frame_a») unit) ⌝ }
+    ensures { λ r. ⌜ Follows joint at (now (s .entry)) (now (s .exit)) written r (coneRows joint e cone) ⌝ }
 {
     match relative_of(cone, e.frame_a, e.frame_b) {
         RelativeAnswer::Value(r) => {
-            let x = swing_row_if(cone.swing_x, joint, e.frame_a, r, swing_x(r.rotation));
+            let x = swing_row_if(cone.swing_x, joint, unit, r, swing_x(r.rotation));
             let one = append(s, at, written, x);
-            let y = swing_row_if(cone.swing_y, joint, e.frame_a, r, swing_y(r.rotation));
+            let y = swing_row_if(cone.swing_y, joint, unit, r, swing_y(r.rotation));
             let two = append(s, at, one, y);
-            let twist = twist_row_if(joint, e.frame_a, r, cone);
+            let twist = twist_row_if(joint, unit, r, cone);
             append(s, at, two, twist)
         }
         RelativeAnswer::NonConvergent => append(s, at, written, RowAnswer::NonConvergent),
@@ -604,9 +629,16 @@ fn write_cone(
 }
 
 // The rows on rotations that a kind adds to its linear ones.
-fn write_angular(s: &mut [f64], at: usize, written: Written, joint: Joint, e: Ends) -> Written
-    requires { ⌜ (at + 84 ≤ length (now s)) × (countOf written ≤ 3) ⌝ }
-    ensures { λ r. ⌜ ((start : List Float) (d : Result (List EqualityRow)) → Adds (joint .«body_a») (joint .«body_b») at 3 start (now (s .entry)) written d → Adds (joint .«body_a») (joint .«body_b») at 6 start (now (s .exit)) r (followedBy d (angularRows (joint .kind) joint e))) ⌝ }
+fn write_angular(
+    s: &mut [f64],
+    at: usize,
+    written: Written,
+    joint: Joint,
+    e: Ends,
+    unit: Quat,
+) -> Written
+    requires { ⌜ (Room at 3 (now s) written) × (UnitOf (e .«frame_a») unit) ⌝ }
+    ensures { λ r. ⌜ Follows joint at (now (s .entry)) (now (s .exit)) written r (angularRows (joint .kind) joint e) ⌝ }
 {
     let kind = joint.kind;
     match kind {
@@ -623,6 +655,7 @@ fn write_angular(s: &mut [f64], at: usize, written: Written, joint: Joint, e: En
             written,
             joint,
             e,
+            unit,
             Cone {
                 swing_x,
                 swing_y,
@@ -630,9 +663,9 @@ fn write_angular(s: &mut [f64], at: usize, written: Written, joint: Joint, e: En
                 twist_upper,
             },
         ),
-        Kind::Hinge => write_align(s, at, written, joint, e),
-        Kind::Cylindrical => write_align(s, at, written, joint, e),
-        Kind::Planar => write_align(s, at, written, joint, e),
+        Kind::Hinge => write_align(s, at, written, joint, e, unit),
+        Kind::Cylindrical => write_align(s, at, written, joint, e, unit),
+        Kind::Planar => write_align(s, at, written, joint, e, unit),
     }
 }
 
@@ -648,7 +681,8 @@ fn values_finite(s: &[f64], at: usize, count: usize) -> bool
     true
 }
 
-// All rows but a rod's: the linear ones, then those on rotations.
+// All rows but a rod's: the linear ones, then those on rotations. What every row wants is taken once: the tolerance, and frame a
+// normalized. A failure of either is the first row's, since every kind has a linear row.
 fn write_frames(s: &mut [f64], at: usize, joint: Joint, e: Ends) -> Written
     requires { ⌜ at + 84 ≤ length (now s) ⌝ }
     ensures { λ r. ⌜ Adds (joint .«body_a») (joint .«body_b») at 6 (now (s .entry)) (now (s .exit)) r (frameRows joint e) ⌝ }
@@ -656,8 +690,11 @@ fn write_frames(s: &mut [f64], at: usize, joint: Joint, e: Ends) -> Written
     let OptionF64::Some(tolerance) = tolerance(e.pa, e.pb) else {
         return Written::ArithmeticOverflow;
     };
-    let linear = write_linear(s, at, joint, e, tolerance);
-    let written = write_angular(s, at, linear, joint, e);
+    let OptionQuat::Some(unit) = e.frame_a.try_normalize() else {
+        return Written::ArithmeticOverflow;
+    };
+    let linear = write_linear(s, at, joint, e, unit, tolerance);
+    let written = write_angular(s, at, linear, joint, e, unit);
     match written {
         Written::Rows(count) => {
             if values_finite(s, at, count) {

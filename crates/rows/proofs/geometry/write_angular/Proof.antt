@@ -18,25 +18,25 @@ enum-known-kind : tie.Need-enum-known-kind
 enum-known-kind c = search needs
 
 write-cone-requires : tie.Need-write-cone-requires
-write-cone-requires c κs = (c .before .before .before .before .before .pre .0, c .before .before .before .before .before .pre .1)
+write-cone-requires c κs = c .before .before .before .before .before .pre
 
 enum-told-3 : tie.Need-enum-told-3
 enum-told-3 c = search needs
 
 write-align-requires : tie.Need-write-align-requires
-write-align-requires c κs = (c .before .before .before .before .pre .0, c .before .before .before .before .pre .1)
+write-align-requires c κs = c .before .before .before .before .pre
 
 enum-told-4 : tie.Need-enum-told-4
 enum-told-4 c = search needs
 
 write-align-requires-2 : tie.Need-write-align-requires-2
-write-align-requires-2 c κs = (c .before .before .before .before .pre .0, c .before .before .before .before .pre .1)
+write-align-requires-2 c κs = c .before .before .before .before .pre
 
 enum-told-5 : tie.Need-enum-told-5
 enum-told-5 c = search needs
 
 write-align-requires-3 : tie.Need-write-align-requires-3
-write-align-requires-3 c κs = (c .before .before .before .before .pre .0, c .before .before .before .before .pre .1)
+write-align-requires-3 c κs = c .before .before .before .before .pre
 
 returns : tie.Need-returns
 returns c =
