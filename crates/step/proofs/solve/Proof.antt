@@ -47,7 +47,8 @@ solve-in-requires c κs =
     let at-if1 = c .before .before in let at-accepted = at-if1 .before in let at-refusal = at-accepted .before in
     let at-entry = at-refusal .before .before .before .before in
     (take-long 6144 (at-entry .args .scratch .now)
-    (run-ready (now (at-entry .args .bodies)) (at-entry .args .joints) (at-entry .args .count) (at-entry .args .dt) (now (at-entry .args .scratch)) (at-refusal .refusal .ensures) (at-accepted .accepted .ensures) (at-if1 .if1 .left) .room),
+    (run-ready (now (at-entry .args .bodies)) (at-entry .args .joints) (at-entry .args .count) (at-entry .args .dt) (now (at-entry .args .scratch))
+    (at-refusal .refusal .ensures) (at-accepted .accepted .ensures) (at-if1 .if1 .left) .room),
     run-ready (now (at-entry .args .bodies)) (at-entry .args .joints) (at-entry .args .count) (at-entry .args .dt) (now (at-entry .args .scratch))
     (at-refusal .refusal .ensures) (at-accepted .accepted .ensures) (at-if1 .if1 .left) .whole,
     ready-joined

@@ -8,7 +8,8 @@ use Rattle.step.proofs.integrator.fill.Statement.{statement}
 use Rattle.step.proofs.integrator.fill.Tie as tie
 
 abbrev Inv-loop : tie.InvT-loop
-Inv-loop index₀ from n body k₀ k-end index k = (from ≤ k) × (k ≤ k-end) × (k-end ≡ from + n) × (length index ≡ length index₀) × (Spread from (k - from) body index₀ index)
+Inv-loop index₀ from n body k₀ k-end index k =
+    (from ≤ k) × (k ≤ k-end) × (k-end ≡ from + n) × (length index ≡ length index₀) × (Spread from (k - from) body index₀ index)
 
 abbrev μ-loop : tie.MeasureT-loop
 μ-loop index₀ from n body k₀ k-end index k = k-end - k

@@ -73,7 +73,8 @@ loop-again c =
     let at-test = at-row-count .before .before in let at-loop = at-test .before in let at-entry = at-loop .before .before .before in
     (omega arith,
     omega
-    (arith, at-loop .loop .inv, at-test .loop-test .taken, at-entry .pre, at-row-count .row-count .ensures, count-most (jointIn (at-entry .args .t3) (at-loop .loop .k) .kind)),
+    (arith, at-loop .loop .inv, at-test .loop-test .taken, at-entry .pre, at-row-count .row-count .ensures,
+    count-most (jointIn (at-entry .args .t3) (at-loop .loop .k) .kind)),
     omega arith, omega arith,
     (λ size q. spread-less (at-fill .fill .ensures) (at-loop .loop .inv .4 size q) (q .a-there _ (at-test .loop-test .taken))),
     (λ size q. spread-less (at-fill2 .fill2 .ensures) (at-loop .loop .inv .5 size q) (q .b-there _ (at-test .loop-test .taken))),

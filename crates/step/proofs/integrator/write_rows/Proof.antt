@@ -112,7 +112,8 @@ loop-again c =
     let at-entry = at-loop .before .before in
     (omega arith,
     omega
-    (arith, at-loop .loop .inv .1, at-test .loop-test .taken, at-entry .pre .2 .few, written-most (at-write-equality-rows .write-equality-rows .ensures) _ (c .before .m .given .1)),
+    (arith, at-loop .loop .inv .1, at-test .loop-test .taken, at-entry .pre .2 .few,
+    written-most (at-write-equality-rows .write-equality-rows .ensures) _ (c .before .m .given .1)),
     omega arith,
     wrote-rows (at-entry .args .t2) (at-loop .loop .k) _ (at-loop .loop .inv .3) (at-write-equality-rows .write-equality-rows .ensures) _
     (c .before .m .given .1),
