@@ -38,8 +38,14 @@ module _ (bodies : List Float) (joints : List Joint) (count : ℕ) (dt : Float) 
   answered-refused h = answered bodies bodies joints count dt scratch scratch (record { outcome = o; nonlinear = 0; linear = 0 }) (solve-refused h)
 
   pub answered-run : (after left : List Float) (r : Report) → not b ≡ false
-      → record { outcome =
-          r .outcome; nonlinear = r .nonlinear; linear = r .linear; bodies = after; scratch = left } ≡ settled bodies (cleared scratch) (runOf
-          (recordsOf bodies) joints count dt)
+      → record {
+        outcome =
+            r .outcome;
+        nonlinear = r .nonlinear;
+        linear = r .linear;
+        bodies = after;
+        scratch = left;
+      } ≡ settled bodies (cleared scratch) (runOf
+      (recordsOf bodies) joints count dt)
       → Answered bodies after joints count dt scratch left r
   answered-run after left r h q = answered bodies after joints count dt scratch left r (solve-run h q)

@@ -35,8 +35,16 @@ state-loaded s i a b c d = λ j. record { origin = a j; rotation = b j; «linear
 
 pub record-loaded : (s : List Float) (i : ℕ) {o v w p : Vec3} {q : Quat} {m : Mat3} → o ≡ vec3At s i → q ≡ quatAt s (i + 3) → v ≡ vec3At s (i + 7)
     → w ≡ vec3At s (i + 10) → p ≡ vec3At s (i + 14) → m ≡ matAt s (i + 17)
-    → record { origin =
-        o; rotation = q; «linear_velocity» = v; «angular_velocity» = w; mass = at s (i + 13); «center_of_mass» = p; inertia = m } ≡ recordFrom s i
+    → record {
+      origin =
+          o;
+      rotation = q;
+      «linear_velocity» = v;
+      «angular_velocity» = w;
+      mass = at s (i + 13);
+      «center_of_mass» = p;
+      inertia = m;
+    } ≡ recordFrom s i
 record-loaded s i a b c d e f =
     λ j.
     record { origin = a j; rotation = b j; «linear_velocity» = c j; «angular_velocity» = d j; mass = at s (i + 13); «center_of_mass» = e j; inertia = f j }

@@ -129,8 +129,8 @@ module _ (bodies : List RigidBody) (cyclic : Bool) (nonlinear linear : ℕ) (ia 
 -- ---- run
 module _ (bodies : List Float) (joints : List Joint) (count : ℕ) (dt : Float) {ia ib : List ℕ} (S : Sides joints count ia ib) (m : ℕ) (em : m ≡ rowsBefore joints count) (s s₁ : List Float) (r₁ : Finish)
     (f₁ : (ja jb : List ℕ) → Sides joints count ja jb
-        → Does (λ i. Out 0 END i) s s₁ (finishAs r₁ (startedAt ja jb s₁ (rowsBefore joints count) (bodyCount bodies)))
-            (startOf (recordsOf bodies) joints count)) where
+    → Does (λ i. Out 0 END i) s s₁ (finishAs r₁ (startedAt ja jb s₁ (rowsBefore joints count) (bodyCount bodies)))
+    (startOf (recordsOf bodies) joints count)) where
   d₁ : Does (λ i. Out 0 END i) s s₁ (finishAs r₁ (startedAt ia ib s₁ m (bodyCount bodies))) (startOf (recordsOf bodies) joints count)
   d₁ = record { kept = f₁ ia ib S .kept; is = ap (λ (k : ℕ). finishAs r₁ (startedAt ia ib s₁ k (bodyCount bodies))) em ∙ f₁ ia ib S .is }
 
@@ -175,7 +175,7 @@ module _ (bodies : List Float) (joints : List Joint) (count : ℕ) (dt : Float) 
 
     abbrev told : {q : Finish} → r₂ .finish ≡ q
         → counted (r₂ .begun) (r₂ .passes) (finishAs q (foundAt ia ib s₂ m (bodyCount bodies))) ≡ counted (r₂ .begun) (r₂ .passes)
-            (finishAs (r₂ .finish) (foundAt ia ib s₂ m (bodyCount bodies)))
+        (finishAs (r₂ .finish) (foundAt ia ib s₂ m (bodyCount bodies)))
     told h = ap (λ (q : Finish). counted (r₂ .begun) (r₂ .passes) (finishAs q (foundAt ia ib s₂ m (bodyCount bodies)))) (sym h)
 
     pub run-3 : r₂ .finish ≡ Ends.NonConvergent → Runs s₂ (stop (record { answer = nonConvergent; nonlinear = r₂ .begun; linear = r₂ .passes }))
@@ -217,9 +217,15 @@ module _ (n : ℕ) (s bodies : List Float) where
 
   module _ {b : Bool} (e : b ≡ every n (λ k. withinOf (vec3At s (CANDIDATE + 13 * k)) (ratio 8192 1))) (nonlinear linear : ℕ) (scratch : List Float) where
     pub settle-accepts : b ≡ true → n ≡ bodyCount bodies → length bodies % 26 ≡ 0 → {after : List Float} → Handed n s bodies after
-        → record { outcome =
-            Answers.Accepted; nonlinear = nonlinear; linear = linear; bodies = after; scratch = scratch } ≡ settled bodies scratch (endedAs Ends.Done
-            nonlinear linear states)
+        → record {
+          outcome =
+              Answers.Accepted;
+          nonlinear = nonlinear;
+          linear = linear;
+          bodies = after;
+          scratch = scratch;
+        } ≡ settled bodies scratch (endedAs Ends.Done
+        nonlinear linear states)
     settle-accepts q c w h =
         ap (λ (a : List Float). record { outcome = Answers.Accepted; nonlinear = nonlinear; linear = linear; bodies = a; scratch = scratch })
         (handed-back n s c w h)
@@ -227,18 +233,30 @@ module _ (n : ℕ) (s bodies : List Float) where
 
     pub settle-grounds : b ≡ false
         → record { outcome = Answers.Ground; nonlinear = nonlinear; linear = linear; bodies = bodies; scratch = scratch } ≡ settled bodies scratch
-            (endedAs Ends.Done nonlinear linear states)
+        (endedAs Ends.Done nonlinear linear states)
     settle-grounds q = cond-no {b = grounded states} _ _ (sym (sym q ∙ e ∙ ground-is))
 
 -- in the case of the run's end
 pub settle-as : (bodies scratch : List Float) {after : List Float} {outcome : Answer} (states : List BodyState) (r : Finish) {q : Finish} → r ≡ q
     → (nonlinear linear : ℕ)
-    → record { outcome =
-        outcome; nonlinear = nonlinear; linear = linear; bodies = after; scratch = scratch } ≡ settled bodies scratch (endedAs q nonlinear linear
-        states)
-    → record { outcome =
-        outcome; nonlinear = nonlinear; linear = linear; bodies = after; scratch = scratch } ≡ settled bodies scratch (endedAs r nonlinear linear
-        states)
+    → record {
+      outcome =
+          outcome;
+      nonlinear = nonlinear;
+      linear = linear;
+      bodies = after;
+      scratch = scratch;
+    } ≡ settled bodies scratch (endedAs q nonlinear linear
+    states)
+    → record {
+      outcome =
+          outcome;
+      nonlinear = nonlinear;
+      linear = linear;
+      bodies = after;
+      scratch = scratch;
+    } ≡ settled bodies scratch (endedAs r nonlinear linear
+    states)
 settle-as bodies scratch {after} {outcome} states r h nonlinear linear e =
     e ∙ ap (λ (x : Finish). settled bodies scratch (endedAs x nonlinear linear states)) (sym h)
 
@@ -255,22 +273,40 @@ all-zero {s} {t} e f =
 module _ (bodies : List Float) (joints : List Joint) (count : ℕ) (dt : Float) (n : ℕ) {P : ℕ → Type 0} (s t u : List Float) (r : Progress)
     (d : Does P s t (progressAs r (statesAt t n)) (runOf (recordsOf bodies) joints count dt)) {outcome : Answer} {after : List Float}
     (e : (nonlinear linear : ℕ) (scratch : List Float)
-        → record { outcome = outcome; nonlinear = nonlinear; linear = linear; bodies = after; scratch = scratch } ≡ settled bodies scratch
-            (endedAs (r .finish) nonlinear linear (statesAt t n))) where
+    → record { outcome = outcome; nonlinear = nonlinear; linear = linear; bodies = after; scratch = scratch } ≡ settled bodies scratch
+    (endedAs (r .finish) nonlinear linear (statesAt t n))) where
   pub solved-in : u ≡ replicate 6144 (ratio 0 1)
-      → record { outcome =
-          outcome; nonlinear = r .nonlinear; linear = r .linear; bodies = after; scratch = u } ≡ settled bodies (replicate 6144 (ratio 0 1)) (runOf
-          (recordsOf bodies) joints count dt)
+      → record {
+        outcome =
+            outcome;
+        nonlinear = r .nonlinear;
+        linear = r .linear;
+        bodies = after;
+        scratch = u;
+      } ≡ settled bodies (replicate 6144 (ratio 0 1)) (runOf
+      (recordsOf bodies) joints count dt)
   solved-in z =
       ap (λ (x : List Float). record { outcome = outcome; nonlinear = r .nonlinear; linear = r .linear; bodies = after; scratch = x }) z
       ∙ e (r .nonlinear) (r .linear) (replicate 6144 (ratio 0 1)) ∙ ap (settled bodies (replicate 6144 (ratio 0 1))) (d .is)
 
 -- the step's scratch is the run's, with what stands behind it
 pub solved-scratch : (bodies scratch : List Float) (end : RunEnd) {outcome : Answer} {nonlinear linear : ℕ} {after work : List Float}
-    → record { outcome =
-        outcome; nonlinear = nonlinear; linear = linear; bodies = after; scratch = work } ≡ settled bodies (replicate 6144 (ratio 0 1)) end
-    → record { outcome =
-        outcome; nonlinear = nonlinear; linear = linear; bodies = after; scratch = work ++ drop 6144 scratch } ≡ settled bodies (cleared scratch) end
+    → record {
+      outcome =
+          outcome;
+      nonlinear = nonlinear;
+      linear = linear;
+      bodies = after;
+      scratch = work;
+    } ≡ settled bodies (replicate 6144 (ratio 0 1)) end
+    → record {
+      outcome =
+          outcome;
+      nonlinear = nonlinear;
+      linear = linear;
+      bodies = after;
+      scratch = work ++ drop 6144 scratch;
+    } ≡ settled bodies (cleared scratch) end
 unfolding cleared
 solved-scratch bodies scratch end e = ap behind e ∙ moved end
   where

@@ -117,9 +117,12 @@ module _ (bodies : List Float) (joints : List Joint) (count : ℕ) (ia ib : List
         is =
             (λ j. go
             (record { start = starts₃ j; rows = kept-rows (d₃ .kept) ia ib START-ROWS m (λ i a b. omega arith) j; masses = massesAt s₃ MASSES size }))
-            ∙ rest (then-go (λ masses. go (record { start =
-                startBodiesAt s₁ size; rows = rowsOn ia ib s₂ START-ROWS m; masses = masses
-                })) (ran-done (massesAt s₃ MASSES size) d₃ h ∙ ap prepareMasses starts₂));
+            ∙ rest (then-go (λ masses. go (record {
+              start =
+                  startBodiesAt s₁ size;
+              rows = rowsOn ia ib s₂ START-ROWS m;
+              masses = masses;
+            })) (ran-done (massesAt s₃ MASSES size) d₃ h ∙ ap prepareMasses starts₂));
       }
 
 -- ---- candidate
@@ -141,9 +144,11 @@ module _ (joints : List Joint) (count : ℕ) (dt : Float) (ia ib : List ℕ) (n 
   pub candidate-1 : r₁ ≡ Outcomes.ArithmeticOverflow → Tried s₁ (stop arithmeticOverflow)
   unfolding candidateOf
   candidate-1 h = (
-    record { kept =
-        kept-more (d₁ .kept) (λ i x. omega (arith, x .1)); is = then-stop onShares (ran-over (generalizedsAt s₁ GENERALIZED size) d₁ h ∙ shares-are)
-        },
+    record {
+      kept =
+          kept-more (d₁ .kept) (λ i x. omega (arith, x .1));
+      is = then-stop onShares (ran-over (generalizedsAt s₁ GENERALIZED size) d₁ h ∙ shares-are);
+    },
     kept-vec (d₁ .kept) IMPULSES n (λ i a b. omega arith),
   )
 
@@ -313,8 +318,8 @@ module _ (joints : List Joint) (count : ℕ) (dt : Float) (cyclic : Bool) (ia ib
   turned-none f = (
     kept-refl Trying s,
     subst (λ (v : List Float). Reached (pass joints count dt cyclic ia ib n size s) (none joints count dt cyclic ia ib n size s) 0 v 0)
-    (sym (filled-vec f ∙ zeros n (ratio 0 1) ∙ ap (λ (m : ℕ). replicate m (ratio 0 1)) (sym (tab-length n (rowOn ia ib s START-ROWS)))))
-    (reached-none (pass joints count dt cyclic ia ib n size s) (none joints count dt cyclic ia ib n size s)),
+        (sym (filled-vec f ∙ zeros n (ratio 0 1) ∙ ap (λ (m : ℕ). replicate m (ratio 0 1)) (sym (tab-length n (rowOn ia ib s START-ROWS)))))
+        (reached-none (pass joints count dt cyclic ia ib n size s) (none joints count dt cyclic ia ib n size s)),
   )
 
   module _ (k : ℕ) {t u : List Float} {passes : ℕ} (so : Turned joints count dt cyclic ia ib n size s k t passes) (r : Passed)
@@ -327,10 +332,11 @@ module _ (joints : List Joint) (count : ℕ) (dt : Float) (cyclic : Bool) (ia ib
     kept = kept-then (so .0) (d .kept) (λ i x. x)
 
     pub turned-next : r .end ≡ Passes.Next → Turned joints count dt cyclic ia ib n size s (k + 1) u (passes + r .passes)
-    turned-next h =
-        (kept,
-        reached-next (pass joints count dt cyclic ia ib n size s) (none joints count dt cyclic ia ib n size s) k (so .1) r (vecAt u IMPULSES n)
-        (foundAt ia ib u n size) turn h)
+    turned-next h = (
+      kept,
+      reached-next (pass joints count dt cyclic ia ib n size s) (none joints count dt cyclic ia ib n size s) k (so .1) r (vecAt u IMPULSES n)
+          (foundAt ia ib u n size) turn h,
+    )
 
     abbrev Leaves : Finish → Type 0
     Leaves end =
@@ -353,9 +359,12 @@ module _ (joints : List Joint) (count : ℕ) (dt : Float) (cyclic : Bool) (ia ib
         record { kept = kept; is = left-overflow (pass joints count dt cyclic ia ib n size s) (none joints count dt cyclic ia ib n size s) k (so .1) r (vecAt u IMPULSES n) (foundAt ia ib u n size) turn 32 w h }
 
   pub turned-spent : (k : ℕ) {t : List Float} {passes : ℕ} → Turned joints count dt cyclic ia ib n size s k t passes → k ≤ 32 → 32 ≤ k
-      → Does Trying s t (loopedAs (record { finish =
-          Ends.NonConvergent; begun = 32; passes = passes
-          }) (foundAt ia ib t n size)) (nonlinearLoop joints count dt cyclic (startedAt ia ib s n size))
+      → Does Trying s t (loopedAs (record {
+        finish =
+            Ends.NonConvergent;
+        begun = 32;
+        passes = passes;
+      }) (foundAt ia ib t n size)) (nonlinearLoop joints count dt cyclic (startedAt ia ib s n size))
   unfolding nonlinearLoop
   turned-spent k {t} so a b =
       record { kept = so .0; is = left-spent (pass joints count dt cyclic ia ib n size s) (none joints count dt cyclic ia ib n size s) 32 k (foundAt ia ib t n size) (so .1) a b }

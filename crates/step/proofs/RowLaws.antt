@@ -173,5 +173,8 @@ module _ (joints : List Joint) (count : ℕ) (moved : Bool) (rows : ℕ) (s₀ :
   unfolding writeRows
   wrote-ends k n s so p a b =
       let same : k ≡ count = omega arith in
-      record { kept =
-          so .kept; is = ap (λ (m : ℕ). go (rowsOn ia ib s rows m)) (sym (p ∙ ap (rowsBefore joints) same)) ∙ loop-end writing [] a b (so .is) }
+      record {
+        kept =
+            so .kept;
+        is = ap (λ (m : ℕ). go (rowsOn ia ib s rows m)) (sym (p ∙ ap (rowsBefore joints) same)) ∙ loop-end writing [] a b (so .is);
+      }

@@ -104,8 +104,11 @@ unfolding massResponse matProductOf
 mass-cols body m h =
     let rotation : OptionMat3 = toMat3Of (body .rotation) in
     let angular : Mat3 = matProductOf (matProductOf (rotation .matrix) (body .«inverse_inertia»)) (transposeOf (rotation .matrix)) in
-    walk (rotation .some && finiteMat angular && isFinite (ratio 1 1 ⊘ body .mass)) (record { linear =
-        ratio 1 1 ⊘ body .mass; angular = angular }) refl h
+    walk (rotation .some && finiteMat angular && isFinite (ratio 1 1 ⊘ body .mass)) (record {
+      linear =
+          ratio 1 1 ⊘ body .mass;
+      angular = angular;
+    }) refl h
   where
     walk : (b : Bool) (r : MassResponse) → colsOf (r .angular) ≡ r .angular → go m ≡ cond b (go r) (stop arithmeticOverflow)
         → colsOf (m .angular) ≡ m .angular
@@ -127,8 +130,9 @@ module _ (body : MomentumBody) (k : ℕ) (s : List Float) (r : MassAnswer) (e : 
 
       whole : massOf (r .mass .linear) x y z ≡ r .mass
       whole =
-          let a : massOf (r .mass .linear) x y z ≡ record { linear = r .mass .linear; angular = colsOf (r .mass .angular) } = λ j. massOf (r .mass .linear) (ex j) (ey j) (ez j) in
-          let b : record { linear = r .mass .linear; angular = colsOf (r .mass .angular) } ≡ r .mass = λ j. record { linear = r .mass .linear; angular = mass-cols body (r .mass) there j } in
+          let held : MassResponse = record { linear = r .mass .linear; angular = colsOf (r .mass .angular) } in
+          let a : massOf (r .mass .linear) x y z ≡ held = λ j. massOf (r .mass .linear) (ex j) (ey j) (ez j) in
+          let b : held ≡ r .mass = λ j. record { linear = r .mass .linear; angular = mass-cols body (r .mass) there j } in
           a ∙ b
 
 -- ---- prepare_masses
@@ -298,7 +302,7 @@ module _ (n : ℕ) (s₀ : List Float) where
 
     pub sum-stops : b ≡ false
         → Does (λ i. Out IMPULSES 96 i) s₀ (set s (IMPULSES + k) (at s (IMPULSES + k) ⊕ at s (SOLUTION + k))) (stop arithmeticOverflow)
-            (addImpulses (vecAt s₀ IMPULSES n) (vecAt s₀ SOLUTION n))
+        (addImpulses (vecAt s₀ IMPULSES n) (vecAt s₀ SOLUTION n))
     unfolding addImpulses
     sum-stops q =
         so-stop (λ s k. at s (IMPULSES + k)) sum s₀ k s so (λ i. Out IMPULSES 96 i) (λ i x. omega arith)

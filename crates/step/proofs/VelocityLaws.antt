@@ -408,8 +408,11 @@ module _ {s₀ : List Float} {ia ib : List ℕ} {n bodies : ℕ} (pre : Rows s�
           record { kept = keeps; is = left-overflow P (candidatesAt s₀ bodies) k (inv .reached) r (candidatesAt t bodies) (candidatesAt t bodies) turn 3 l h }
 
   pub loop-spent : {k : ℕ} {s : List Float} {passes : ℕ} → Looping P s₀ s bodies k passes → k ≤ 3 → 3 ≤ k
-      → Does Correcting s₀ s (loopedAs (record { finish =
-          Ends.NonConvergent; begun = 3; passes = passes
-          }) (candidatesAt s bodies)) (velocityLoop cyclic (rowsOn ia ib s₀ ROWS n) (massesAt s₀ MASSES bodies) (candidatesAt s₀ bodies))
+      → Does Correcting s₀ s (loopedAs (record {
+        finish =
+            Ends.NonConvergent;
+        begun = 3;
+        passes = passes;
+      }) (candidatesAt s bodies)) (velocityLoop cyclic (rowsOn ia ib s₀ ROWS n) (massesAt s₀ MASSES bodies) (candidatesAt s₀ bodies))
   unfolding velocityLoop
   loop-spent {k} {s} inv a b = record { kept = inv .kept; is = left-spent P (candidatesAt s₀ bodies) 3 k (candidatesAt s bodies) (inv .reached) a b }

@@ -31,14 +31,27 @@ module _ (s : List Float) (i : ℕ) (state : BodyState) (e : (j : ℕ) → j < 1
 
   pub state-is : stateAt s i ≡ state
   state-is = λ t. record {
-    origin =
-        record { x = double i 0 (omega arith) (omega arith) t; y = double (i + 1) 1 (omega arith) (omega arith) t; z = double (i + 2) 2 (omega arith) (omega arith) t };
-    rotation =
-        record { x = double (i + 3) 3 (omega arith) (omega arith) t; y = double (i + 3 + 1) 4 (omega arith) (omega arith) t; z = double (i + 3 + 2) 5 (omega arith) (omega arith) t; w = double (i + 3 + 3) 6 (omega arith) (omega arith) t };
-    «linear_velocity» =
-        record { x = double (i + 7) 7 (omega arith) (omega arith) t; y = double (i + 7 + 1) 8 (omega arith) (omega arith) t; z = double (i + 7 + 2) 9 (omega arith) (omega arith) t };
-    «angular_velocity» =
-        record { x = double (i + 10) 10 (omega arith) (omega arith) t; y = double (i + 10 + 1) 11 (omega arith) (omega arith) t; z = double (i + 10 + 2) 12 (omega arith) (omega arith) t };
+    origin = record {
+      x = double i 0 (omega arith) (omega arith) t;
+      y = double (i + 1) 1 (omega arith) (omega arith) t;
+      z = double (i + 2) 2 (omega arith) (omega arith) t;
+    };
+    rotation = record {
+      x = double (i + 3) 3 (omega arith) (omega arith) t;
+      y = double (i + 3 + 1) 4 (omega arith) (omega arith) t;
+      z = double (i + 3 + 2) 5 (omega arith) (omega arith) t;
+      w = double (i + 3 + 3) 6 (omega arith) (omega arith) t;
+    };
+    «linear_velocity» = record {
+      x = double (i + 7) 7 (omega arith) (omega arith) t;
+      y = double (i + 7 + 1) 8 (omega arith) (omega arith) t;
+      z = double (i + 7 + 2) 9 (omega arith) (omega arith) t;
+    };
+    «angular_velocity» = record {
+      x = double (i + 10) 10 (omega arith) (omega arith) t;
+      y = double (i + 10 + 1) 11 (omega arith) (omega arith) t;
+      z = double (i + 10 + 2) 12 (omega arith) (omega arith) t;
+    };
   }
 
 module _ (bodies : List Float) (states : List BodyState) where

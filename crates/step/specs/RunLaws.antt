@@ -164,9 +164,11 @@ candidate-of joints count dt s impulses found h =
     let r₁ = step _ _ found h in
     let r₂ = step _ _ found (r₁ .2) in
     let r₃ = step _ _ found (r₂ .2) in
-    let e = go-same _ found (r₃ .2) in
-    (r₁ .0, subst (λ (f : Found). moveBodies dt (s .start) (r₁ .0) ≡ go (f .candidate)) e (r₂ .1),
-    subst (λ (f : Found). writeRows joints count (f .candidate) ≡ go (f .rows)) e (r₃ .1))
+    let e = go-same _ found (r₃ .2) in (
+      r₁ .0,
+      subst (λ (f : Found). moveBodies dt (s .start) (r₁ .0) ≡ go (f .candidate)) e (r₂ .1),
+      subst (λ (f : Found). writeRows joints count (f .candidate) ≡ go (f .rows)) e (r₃ .1),
+    )
 
 finished : (bodies : List RigidBody) (cyclic : Bool) (nonlinear linear : ℕ) (found : Found) (c : Counted (List BodyState))
     → finishOf bodies cyclic nonlinear linear found ≡ go c
@@ -175,9 +177,11 @@ unfolding finishOf
 finished bodies cyclic nonlinear linear found c h =
     let r₁ = step _ _ c h in
     let r₂ = step _ _ c (r₁ .2) in
-    let r₃ = step _ _ c (r₂ .2) in
-    (r₂ .0, loop-stays cyclic (found .rows) (r₁ .0) (found .candidate) (r₂ .0) (counted-go _ _ _ (r₂ .0) (r₂ .1)),
-    counted-go _ _ _ (r₃ .0) (r₃ .1) ∙ ap (λ (c : Counted (List BodyState)). go (c .answer)) (go-same _ c (r₃ .2)))
+    let r₃ = step _ _ c (r₂ .2) in (
+      r₂ .0,
+      loop-stays cyclic (found .rows) (r₁ .0) (found .candidate) (r₂ .0) (counted-go _ _ _ (r₂ .0) (r₂ .1)),
+      counted-go _ _ _ (r₃ .0) (r₃ .1) ∙ ap (λ (c : Counted (List BodyState)). go (c .answer)) (go-same _ c (r₃ .2)),
+    )
 
 pub record Ran (bodies : List RigidBody) (joints : List Joint) (count : ℕ) (states : List BodyState) : Type 0 where
   -- the candidate that met its rows

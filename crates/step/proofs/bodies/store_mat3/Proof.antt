@@ -1,3 +1,4 @@
+-- `store_mat3` writes the three columns: three stores, one behind the other (BodyLaws `stored-mat`).
 use mathlib.Core.Path.{_≡_, _∙_}
 use Rattle.step.proofs.BodyLaws.{stored-mat}
 use Rattle.vectors.specs.Matrix.{columnOf}
