@@ -197,7 +197,8 @@ unfoldable pub velocityOf : EqualityRow → MomentumBody → MomentumBody → Re
 velocityOf row a b = do
   wa ← omegaOf a
   wb ← omegaOf b
-  tryNumber (dotOf (row .«linear_a») (divOf (a .momentum) (a .mass)) ⊕ dotOf (row .«angular_a») wa ⊕ dotOf (row .«linear_b») (divOf (b .momentum) (b .mass)) ⊕ dotOf (row .«angular_b») wb)
+  tryNumber (dotOf (row .«linear_a») (divOf (a .momentum) (a .mass)) ⊕ dotOf (row .«angular_a») wa
+      ⊕ dotOf (row .«linear_b») (divOf (b .momentum) (b .mass)) ⊕ dotOf (row .«angular_b») wb)
 
 -- *rhs = -velocity(*row, &scratch.candidate)?
 unfoldable pub velocityRhs : List EqualityRow → List MomentumBody → Result (List Float)

@@ -1,3 +1,4 @@
+-- `settle` is `settled` for each end of the run: the states are written where all stand on the ground.
 use Rattle.step.specs.View.{statesAt}
 use native.Mathlib.Omega.{arith}
 use mathlib.Core.Path.{refl}

@@ -1,3 +1,4 @@
+-- `solve` meets `Answered`: an early refusal by the checks' contract, else by `solve_in` and the laws of the definition (AnsweredLaws).
 use Rattle.step.specs.Records.{recordsOf}
 use Rattle.step.specs.Step.{runOf}
 use lib.ListN.{length}
@@ -45,14 +46,16 @@ slice-aggregate-solve-in c =
 solve-in-requires : tie.Need-solve-in-requires
 solve-in-requires c κs =
     let at-if1 = c .before .before in let at-accepted = at-if1 .before in let at-refusal = at-accepted .before in
-    let at-entry = at-refusal .before .before .before .before in
-    (take-long 6144 (at-entry .args .scratch .now)
-    (run-ready (now (at-entry .args .bodies)) (at-entry .args .joints) (at-entry .args .count) (at-entry .args .dt) (now (at-entry .args .scratch)) (at-refusal .refusal .ensures) (at-accepted .accepted .ensures) (at-if1 .if1 .left) .room),
-    run-ready (now (at-entry .args .bodies)) (at-entry .args .joints) (at-entry .args .count) (at-entry .args .dt) (now (at-entry .args .scratch))
-    (at-refusal .refusal .ensures) (at-accepted .accepted .ensures) (at-if1 .if1 .left) .whole,
-    ready-joined
-    (run-ready (now (at-entry .args .bodies)) (at-entry .args .joints) (at-entry .args .count) (at-entry .args .dt) (now (at-entry .args .scratch))
-    (at-refusal .refusal .ensures) (at-accepted .accepted .ensures) (at-if1 .if1 .left)))
+    let at-entry = at-refusal .before .before .before .before in (
+      take-long 6144 (at-entry .args .scratch .now)
+          (run-ready (now (at-entry .args .bodies)) (at-entry .args .joints) (at-entry .args .count) (at-entry .args .dt) (now (at-entry .args .scratch))
+          (at-refusal .refusal .ensures) (at-accepted .accepted .ensures) (at-if1 .if1 .left) .room),
+      run-ready (now (at-entry .args .bodies)) (at-entry .args .joints) (at-entry .args .count) (at-entry .args .dt) (now (at-entry .args .scratch))
+          (at-refusal .refusal .ensures) (at-accepted .accepted .ensures) (at-if1 .if1 .left) .whole,
+      ready-joined
+          (run-ready (now (at-entry .args .bodies)) (at-entry .args .joints) (at-entry .args .count) (at-entry .args .dt) (now (at-entry .args .scratch))
+          (at-refusal .refusal .ensures) (at-accepted .accepted .ensures) (at-if1 .if1 .left)),
+    )
 
 same-length-2 : tie.Need-same-length-2
 same-length-2 c = search needs

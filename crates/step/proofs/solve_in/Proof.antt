@@ -1,3 +1,4 @@
+-- `solve_in` is the run, settled, with the scratch cleared.
 use native.Mathlib.Omega.{arith}
 use mathlib.Core.Path.{refl, _∙_}
 use Prim.Native.Nat.{_-_}

@@ -1,3 +1,4 @@
+-- `in_ground` tests every origin: before turn k the first k passed (`every`, turn by turn).
 use mathlib.Core.Path.{_≡_, sym, _∙_}
 use Rattle.step.proofs.CheckWays.{ground-is, within-at}
 use native.Mathlib.Omega.{arith}
@@ -48,10 +49,11 @@ loop-less c = omega arith
 
 loop-again : tie.Need-loop-again Inv-loop μ-loop
 loop-again c =
-    let at-loop = c .before .before .before .before in let at-entry = at-loop .before .before in
-    (omega arith,
-    every-more (λ (j : ℕ). withinOf (vec3At (now (at-entry .args .s)) (CANDIDATE + 13 * j)) (ratio 8192 1)) (at-loop .loop .inv .1)
-    (sym (within-at (c .before .within .ensures) (c .before .before .load3 .ensures) ground-is) ∙ not-no _ (c .if1 .left)))
+    let at-loop = c .before .before .before .before in let at-entry = at-loop .before .before in (
+      omega arith,
+      every-more (λ (j : ℕ). withinOf (vec3At (now (at-entry .args .s)) (CANDIDATE + 13 * j)) (ratio 8192 1)) (at-loop .loop .inv .1)
+          (sym (within-at (c .before .within .ensures) (c .before .before .load3 .ensures) ground-is) ∙ not-no _ (c .if1 .left)),
+    )
 
 returns-2 : tie.Need-returns-2 Inv-loop μ-loop
 returns-2 c =

@@ -1,3 +1,4 @@
+-- `load_body` is `bodyFrom`: each field by the contract of its load.
 use Rattle.step.proofs.BodyLaws.{body-loaded}
 use Prim.Native.Nat.{_+_, _*_}
 use denote.Ref.{now}

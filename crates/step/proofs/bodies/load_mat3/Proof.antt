@@ -1,3 +1,4 @@
+-- `load_mat3` is `matAt`: three loaded columns, put together by `from_cols`.
 use Rattle.step.proofs.BodyLaws.{mat-loaded}
 use denote.Ref.{now}
 use borrow.Author.Needs.{needs}

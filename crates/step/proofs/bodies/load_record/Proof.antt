@@ -1,3 +1,4 @@
+-- `load_record` is `recordAt`: each field by the contract of its load.
 use Rattle.step.proofs.BodyLaws.{record-loaded}
 use Prim.Native.Nat.{_*_}
 use denote.Ref.{now}

@@ -1,3 +1,4 @@
+-- `load_state` is `stateAt`: each field by the contract of its load.
 use Rattle.step.proofs.BodyLaws.{state-loaded}
 use denote.Ref.{now}
 use borrow.Author.Needs.{needs}

@@ -1,3 +1,4 @@
+-- `store_candidate` is `store_moving` at the candidate's place; what does not move is read at the start's.
 use Rattle.step.proofs.BodyLaws.{stored-candidate}
 use native.Mathlib.Omega.{arith}
 use borrow.Author.Needs.{needs}

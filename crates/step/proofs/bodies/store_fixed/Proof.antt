@@ -1,3 +1,4 @@
+-- `store_fixed` writes mass, local centre and inverse inertia: three stores, one behind the other (BodyLaws).
 use Rattle.step.proofs.BodyLaws.{stored-fixed}
 use native.Mathlib.Omega.{arith}
 use lib.ListN.{length-set}

@@ -1,3 +1,4 @@
+-- `store_moving` writes the 13 doubles that move: four stores, one behind the other (BodyLaws).
 use Rattle.step.proofs.BodyLaws.{stored-moving}
 use borrow.Author.Needs.{needs}
 use Rattle.step.proofs.bodies.store_moving.Statement.{statement}

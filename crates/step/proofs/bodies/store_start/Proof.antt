@@ -1,3 +1,4 @@
+-- `store_start` writes what moves and then what does not: two stores, one behind the other (BodyLaws).
 use Rattle.step.proofs.BodyLaws.{stored-start}
 use borrow.Author.Needs.{needs}
 use Rattle.step.proofs.bodies.store_start.Statement.{statement}

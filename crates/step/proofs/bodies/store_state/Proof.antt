@@ -1,3 +1,4 @@
+-- `store_state` writes the 13 doubles of a state: four stores, one behind the other (BodyLaws).
 use Rattle.step.proofs.BodyLaws.{stored-state}
 use borrow.Author.Needs.{needs}
 use Rattle.step.proofs.bodies.store_state.Statement.{statement}

@@ -1,3 +1,4 @@
+-- `write_states` hands the states back record by record: before turn k the first k are handed (`Handed`).
 use mathlib.Core.Path.{_≡_, refl}
 use Rattle.step.proofs.BodyLaws.{handed-none, handed-more, handed-end}
 use native.Mathlib.Omega.{arith}

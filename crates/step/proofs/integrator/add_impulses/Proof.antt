@@ -1,3 +1,4 @@
+-- `add_impulses` is `addImpulses`: before turn k the first k sums stand in their places (TableLaws).
 use lib.ListN.{length, length-set}
 use Rattle.arith.specs.FlowLaws.{not-yes, not-no}
 use Rattle.step.proofs.TableLaws.{Summed, sum-none, sum-again, sum-stops, sum-ends}
@@ -63,10 +64,12 @@ loop-less c = omega arith
 
 loop-again : tie.Need-loop-again Inv-loop μ-loop
 loop-again c =
-    let at-test = c .before .before .before .before in let at-loop = at-test .before in let at-entry = at-loop .before .before in
-    (omega arith, simp length-set (omega arith),
-    sum-again (at-entry .args .n) _ _ _ (at-loop .loop .inv .2) (at-test .loop-test .taken) (at-entry .pre .1) (omega arith)
-    (c .before .is-finite .ensures) (not-no _ (c .if1 .left)))
+    let at-test = c .before .before .before .before in let at-loop = at-test .before in let at-entry = at-loop .before .before in (
+      omega arith,
+      simp length-set (omega arith),
+      sum-again (at-entry .args .n) _ _ _ (at-loop .loop .inv .2) (at-test .loop-test .taken) (at-entry .pre .1) (omega arith)
+          (c .before .is-finite .ensures) (not-no _ (c .if1 .left)),
+    )
 
 same-length-2 : tie.Need-same-length-2 Inv-loop μ-loop
 same-length-2 c = omega arith

@@ -1,3 +1,4 @@
+-- `candidate` is `candidateOf`: shares, candidates and rows, each by its function's contract (LoopLaws).
 use native.Mathlib.Omega.{arith}
 use Prim.Native.Nat.{_-_}
 use lib.ListN.{length}

@@ -1,3 +1,4 @@
+-- `fill_rhs` is `rhsOf`: before turn k the first k right sides stand in their places.
 use lib.ListN.{length, length-set}
 use lib.Ieee as Ieee
 use Rattle.arith.specs.Real.{_⊘_}

@@ -1,3 +1,4 @@
+-- `kick_and_drift` is `kickAndDrift`: the kick's contract, and where it is done the drift's.
 use Rattle.step.proofs.TableLaws.{kick-drifts, kick-nonconvergent, kick-overflow}
 use borrow.Author.Needs.{needs}
 use Rattle.step.proofs.integrator.kick_and_drift.Statement.{statement}

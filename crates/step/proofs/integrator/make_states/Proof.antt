@@ -1,3 +1,4 @@
+-- `make_states` is `statesOf`: before turn k the first k states stand where the candidates were (TableLaws).
 use lib.ListN.{length}
 use denote.Ref.{now}
 use Rattle.rows.specs.Body.{stateOf}
@@ -81,12 +82,14 @@ loop-again : tie.Need-loop-again Inv-loop μ-loop
 loop-again c =
     let at-state2 = c .before .before .before .before .before in let at-state = at-state2 .before .before in let at-load-state = at-state .before in
     let at-load-candidate = at-load-state .before in let at-test = at-load-candidate .before .before in let at-loop = at-test .before in
-    let at-entry = at-loop .before .before .before in
-    (omega arith, omega arith,
-    state-again (now (at-entry .args .bodies)) (at-entry .args .n) _ _ _ (at-loop .loop .inv .2) (at-test .loop-test .taken) (at-entry .pre .2)
-    (at-entry .pre .1) (at-load-candidate .load-candidate .ensures) refl
-    (state-go (at-state .state .ensures) (at-state2 .state2 .given .1) ∙ ap (stateOf _) (at-load-state .load-state .ensures))
-    (c .before .before .store-state .ensures))
+    let at-entry = at-loop .before .before .before in (
+      omega arith,
+      omega arith,
+      state-again (now (at-entry .args .bodies)) (at-entry .args .n) _ _ _ (at-loop .loop .inv .2) (at-test .loop-test .taken) (at-entry .pre .2)
+          (at-entry .pre .1) (at-load-candidate .load-candidate .ensures) refl
+          (state-go (at-state .state .ensures) (at-state2 .state2 .given .1) ∙ ap (stateOf _) (at-load-state .load-state .ensures))
+          (c .before .before .store-state .ensures),
+    )
 
 same-length-2 : tie.Need-same-length-2 Inv-loop μ-loop
 same-length-2 c = omega arith

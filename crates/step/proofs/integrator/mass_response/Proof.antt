@@ -1,3 +1,4 @@
+-- `mass_response` is `massResponse`: the contracts of the products, one after the other.
 use lib.Ieee.{round, ofBits}
 use mathlib.Core.Path.{ap, _∙_}
 use Rattle.vectors.specs.Matrix.{matProductOf}

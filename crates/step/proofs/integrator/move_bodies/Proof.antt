@@ -1,3 +1,4 @@
+-- `move_bodies` is `moveBodies`: before turn k the first k candidates stand in the table (TableLaws `Moved`).
 use lib.ListN.{length}
 use Rattle.step.proofs.SolveLaws.{finish-case}
 use Rattle.step.proofs.TableLaws.{Moved, move-none, move-again, move-stops, move-ends}
@@ -74,12 +75,14 @@ loop-again : tie.Need-loop-again Inv-loop μ-loop
 loop-again c =
     let at-enum-told = c .before .before .before .before in let at-kick-and-drift = at-enum-told .before .before in
     let at-load-start = at-kick-and-drift .before in let at-load-generalized = at-load-start .before .before in
-    let at-test = at-load-generalized .before .before in let at-loop = at-test .before in let at-entry = at-loop .before .before in
-    (omega arith, omega arith,
-    move-again (at-entry .args .dt) (at-entry .args .n) _ _ _ (at-loop .loop .inv .2) (at-test .loop-test .taken) (at-entry .pre .1)
-    (at-load-generalized .load-generalized .ensures) (at-load-start .load-start .ensures) refl
-    (finish-case (at-kick-and-drift .kick-and-drift .result .body) (at-kick-and-drift .kick-and-drift .result .outcome)
-    (at-kick-and-drift .kick-and-drift .ensures) (at-enum-told .enum-told .given .1)) (c .before .before .store-candidate .ensures))
+    let at-test = at-load-generalized .before .before in let at-loop = at-test .before in let at-entry = at-loop .before .before in (
+      omega arith,
+      omega arith,
+      move-again (at-entry .args .dt) (at-entry .args .n) _ _ _ (at-loop .loop .inv .2) (at-test .loop-test .taken) (at-entry .pre .1)
+          (at-load-generalized .load-generalized .ensures) (at-load-start .load-start .ensures) refl
+          (finish-case (at-kick-and-drift .kick-and-drift .result .body) (at-kick-and-drift .kick-and-drift .result .outcome)
+          (at-kick-and-drift .kick-and-drift .ensures) (at-enum-told .enum-told .given .1)) (c .before .before .store-candidate .ensures),
+    )
 
 same-length-3 : tie.Need-same-length-3 Inv-loop μ-loop
 same-length-3 c = omega arith

@@ -1,3 +1,4 @@
+-- `prepare_mass` stores a body's mass response, if it is finite (TableLaws `weigh-there`).
 use native.Mathlib.Omega.{arith}
 use Rattle.step.proofs.TableLaws.{weigh-over, weigh-there}
 use borrow.Author.Needs.{needs}

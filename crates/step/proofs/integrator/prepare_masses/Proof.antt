@@ -1,3 +1,4 @@
+-- `prepare_masses` is `prepareMasses`: before turn k the first k masses stand in the table (TableLaws `Weighed`).
 use lib.ListN.{length}
 use Rattle.step.proofs.TableLaws.{Weighed, weigh-none, weigh-again, weigh-stops, weigh-ends}
 use native.Mathlib.Omega.{arith}
@@ -47,10 +48,12 @@ loop-less c = omega arith
 loop-again : tie.Need-loop-again Inv-loop μ-loop
 loop-again c =
     let at-prepare-mass = c .before .before .before .before in let at-load-moved = at-prepare-mass .before .before in
-    let at-test = at-load-moved .before .before in let at-loop = at-test .before in let at-entry = at-loop .before .before in
-    (omega arith, omega arith,
-    weigh-again (at-entry .args .moved) (at-entry .args .n) _ _ _ (at-loop .loop .inv .2) (at-test .loop-test .taken) (at-entry .pre .1)
-    (at-load-moved .load-moved .ensures) _ (c .enum-told2 .given .1) (at-prepare-mass .prepare-mass .ensures))
+    let at-test = at-load-moved .before .before in let at-loop = at-test .before in let at-entry = at-loop .before .before in (
+      omega arith,
+      omega arith,
+      weigh-again (at-entry .args .moved) (at-entry .args .n) _ _ _ (at-loop .loop .inv .2) (at-test .loop-test .taken) (at-entry .pre .1)
+          (at-load-moved .load-moved .ensures) _ (c .enum-told2 .given .1) (at-prepare-mass .prepare-mass .ensures),
+    )
 
 same-length-2 : tie.Need-same-length-2 Inv-loop μ-loop
 same-length-2 c = omega arith

@@ -1,3 +1,4 @@
+-- `row_bodies` says of each row which bodies it joins: before turn k the rows of the first k joints are named (`RowBodies`, `Sides`).
 use Rattle.arith.specs.FlowLaws.{turns-end}
 use Rattle.rows.specs.Geometry.{rowCount}
 use Rattle.step.specs.RunView.{rowsBefore, Sides}
@@ -25,9 +26,16 @@ abbrev μ-loop : tie.MeasureT-loop
 
 loop-holds : tie.Need-loop-holds Inv-loop μ-loop
 loop-holds c =
-    let at-entry = c .before .before in
-    (omega arith, omega arith, refl, refl, (λ size q j h. absurd (omega arith)), (λ size q j h. absurd (omega arith)),
-    before-none (at-entry .args .t3), sides-none (at-entry .args .t3) _ _)
+    let at-entry = c .before .before in (
+      omega arith,
+      omega arith,
+      refl,
+      refl,
+      (λ size q j h. absurd (omega arith)),
+      (λ size q j h. absurd (omega arith)),
+      before-none (at-entry .args .t3),
+      sides-none (at-entry .args .t3) _ _,
+    )
 
 mul-joint : tie.Need-mul-joint Inv-loop μ-loop
 mul-joint c = omega arith
@@ -41,25 +49,40 @@ row-count-requires c κs = omega arith
 fill-requires : tie.Need-fill-requires Inv-loop μ-loop
 fill-requires c κs =
     let at-test = c .before .before .before in let at-loop = at-test .before in let at-entry = at-loop .before .before .before in
-    omega
-    (arith, at-loop .loop .inv, at-test .loop-test .taken, at-entry .pre, c .before .row-count .ensures,
-    count-most (jointIn (at-entry .args .t3) (at-loop .loop .k) .kind))
+    omega (
+      arith,
+      at-loop .loop .inv,
+      at-test .loop-test .taken,
+      at-entry .pre,
+      c .before .row-count .ensures,
+      count-most (jointIn (at-entry .args .t3) (at-loop .loop .k) .kind),
+    )
 
 fill-requires-2 : tie.Need-fill-requires-2 Inv-loop μ-loop
 fill-requires-2 c κs =
     let at-row-count = c .before .before .before .before .before in let at-test = at-row-count .before .before in let at-loop = at-test .before in
     let at-entry = at-loop .before .before .before in
-    omega
-    (arith, at-loop .loop .inv, at-test .loop-test .taken, at-entry .pre, at-row-count .row-count .ensures,
-    count-most (jointIn (at-entry .args .t3) (at-loop .loop .k) .kind))
+    omega (
+      arith,
+      at-loop .loop .inv,
+      at-test .loop-test .taken,
+      at-entry .pre,
+      at-row-count .row-count .ensures,
+      count-most (jointIn (at-entry .args .t3) (at-loop .loop .k) .kind),
+    )
 
 add-n : tie.Need-add-n Inv-loop μ-loop
 add-n c =
     let at-fill = c .before .before .before .before .before .before in let at-row-count = at-fill .before .before in
     let at-test = at-row-count .before .before in let at-loop = at-test .before in let at-entry = at-loop .before .before .before in
-    omega
-    (arith, at-loop .loop .inv, at-test .loop-test .taken, at-entry .pre, at-row-count .row-count .ensures,
-    count-most (jointIn (at-entry .args .t3) (at-loop .loop .k) .kind))
+    omega (
+      arith,
+      at-loop .loop .inv,
+      at-test .loop-test .taken,
+      at-entry .pre,
+      at-row-count .row-count .ensures,
+      count-most (jointIn (at-entry .args .t3) (at-loop .loop .k) .kind),
+    )
 
 add-k : tie.Need-add-k Inv-loop μ-loop
 add-k c = omega arith
@@ -70,16 +93,24 @@ loop-less c = omega arith
 loop-again : tie.Need-loop-again Inv-loop μ-loop
 loop-again c =
     let at-fill2 = c .before .before in let at-fill = at-fill2 .before .before .before .before in let at-row-count = at-fill .before .before in
-    let at-test = at-row-count .before .before in let at-loop = at-test .before in let at-entry = at-loop .before .before .before in
-    (omega arith,
-    omega
-    (arith, at-loop .loop .inv, at-test .loop-test .taken, at-entry .pre, at-row-count .row-count .ensures, count-most (jointIn (at-entry .args .t3) (at-loop .loop .k) .kind)),
-    omega arith, omega arith,
-    (λ size q. spread-less (at-fill .fill .ensures) (at-loop .loop .inv .4 size q) (q .a-there _ (at-test .loop-test .taken))),
-    (λ size q. spread-less (at-fill2 .fill2 .ensures) (at-loop .loop .inv .5 size q) (q .b-there _ (at-test .loop-test .taken))),
-    before-more (at-entry .args .t3) (at-loop .loop .k) _ (at-loop .loop .inv .6) (at-row-count .row-count .ensures),
-    sides-more (at-entry .args .t3) (at-loop .loop .k) _ (at-loop .loop .inv .7) (at-loop .loop .inv .6) (at-row-count .row-count .ensures)
-    (at-fill .fill .ensures) (at-fill2 .fill2 .ensures))
+    let at-test = at-row-count .before .before in let at-loop = at-test .before in let at-entry = at-loop .before .before .before in (
+      omega arith,
+      omega (
+        arith,
+        at-loop .loop .inv,
+        at-test .loop-test .taken,
+        at-entry .pre,
+        at-row-count .row-count .ensures,
+        count-most (jointIn (at-entry .args .t3) (at-loop .loop .k) .kind),
+      ),
+      omega arith,
+      omega arith,
+      (λ size q. spread-less (at-fill .fill .ensures) (at-loop .loop .inv .4 size q) (q .a-there _ (at-test .loop-test .taken))),
+      (λ size q. spread-less (at-fill2 .fill2 .ensures) (at-loop .loop .inv .5 size q) (q .b-there _ (at-test .loop-test .taken))),
+      before-more (at-entry .args .t3) (at-loop .loop .k) _ (at-loop .loop .inv .6) (at-row-count .row-count .ensures),
+      sides-more (at-entry .args .t3) (at-loop .loop .k) _ (at-loop .loop .inv .7) (at-loop .loop .inv .6) (at-row-count .row-count .ensures)
+          (at-fill .fill .ensures) (at-fill2 .fill2 .ensures),
+    )
 
 same-length : tie.Need-same-length Inv-loop μ-loop
 same-length c = omega arith
@@ -89,10 +120,11 @@ same-length-2 c = omega arith
 
 returns : tie.Need-returns Inv-loop μ-loop
 returns c =
-    let at-entry = c .before .before .before .before in
-    (record { most = omega arith; a-there = c .before .loop .inv .4; b-there = c .before .loop .inv .5 },
-    sides-end (at-entry .args .t3) (omega arith) (c .loop-test .left) (c .before .loop .inv .7),
-    turns-end (λ (j n : ℕ). n + rowCount (jointIn (at-entry .args .t3) j .kind)) 0 (omega arith) (c .loop-test .left) (c .before .loop .inv .6))
+    let at-entry = c .before .before .before .before in (
+      record { most = omega arith; a-there = c .before .loop .inv .4; b-there = c .before .loop .inv .5 },
+      sides-end (at-entry .args .t3) (omega arith) (c .loop-test .left) (c .before .loop .inv .7),
+      turns-end (λ (j n : ℕ). n + rowCount (jointIn (at-entry .args .t3) j .kind)) 0 (omega arith) (c .loop-test .left) (c .before .loop .inv .6),
+    )
 
 pub row-bodies-spec : {M : Type 1} → statement M
 row-bodies-spec =

@@ -1,3 +1,4 @@
+-- `rows_met` is `rowsMet`: before turn k the first k rows passed.
 use denote.Ref.{now}
 use mathlib.Core.Bool.{true}
 use mathlib.Core.List.{List}
@@ -72,12 +73,13 @@ loop-less c = omega arith
 
 loop-again : tie.Need-loop-again Inv-loop μ-loop
 loop-again c =
-    let at-test = c .before .before .before .before in let at-loop = at-test .before in let at-entry = at-loop .before .before in
-    (omega arith,
-    λ ia ib. every-more (rowTest (now (at-entry .args .s)) (at-entry .args .n) ia ib) (at-loop .loop .inv .1 ia ib)
-    (row-test (now (at-entry .args .s)) (at-entry .args .n) ia ib (at-loop .loop .k) (at-test .loop-test .taken)
-    (ap (λ (x : Float). Ieee.le x (at (now (at-entry .args .s)) (ROWS + 14 * (at-loop .loop .k) + 13))) (sym (c .before .before .abs .ensures)) ∙
-    c .if1 .taken)))
+    let at-test = c .before .before .before .before in let at-loop = at-test .before in let at-entry = at-loop .before .before in (
+      omega arith,
+      λ ia ib. every-more (rowTest (now (at-entry .args .s)) (at-entry .args .n) ia ib) (at-loop .loop .inv .1 ia ib)
+          (row-test (now (at-entry .args .s)) (at-entry .args .n) ia ib (at-loop .loop .k) (at-test .loop-test .taken)
+          (ap (λ (x : Float). Ieee.le x (at (now (at-entry .args .s)) (ROWS + 14 * (at-loop .loop .k) + 13))) (sym (c .before .before .abs .ensures)) ∙
+          c .if1 .taken)),
+    )
 
 returns-2 : tie.Need-returns-2 Inv-loop μ-loop
 returns-2 c =

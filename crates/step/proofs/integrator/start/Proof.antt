@@ -1,3 +1,4 @@
+-- `start` is `startOf`: bodies, rows and masses, each by its function's contract (LoopLaws).
 use Rattle.step.specs.RunView.{rowsBefore}
 use native.Mathlib.Omega.{arith}
 use mathlib.Core.Path.{refl}

@@ -1,3 +1,4 @@
+-- `start_bodies` is `startBodies`: before turn k the first k bodies stand in the table (TableLaws).
 use lib.ListN.{length}
 use denote.Ref.{now}
 use Rattle.rows.specs.AnswerLaws.{answer-done, answer-nonconvergent, answer-overflow}
@@ -73,11 +74,13 @@ loop-again : tie.Need-loop-again Inv-loop μ-loop
 loop-again c =
     let at-enum-told = c .before .before .before .before in let at-new = at-enum-told .before .before in let at-inverse-spd = at-new .before in
     let at-load-record = at-inverse-spd .before .before in let at-test = at-load-record .before in let at-loop = at-test .before in
-    let at-entry = at-loop .before .before .before in
-    (omega arith, omega arith,
-    begin-again (now (at-entry .args .bodies)) (at-entry .args .n) _ _ _ (at-loop .loop .inv .2) (at-test .loop-test .taken) (at-entry .pre .2) _
-    (at-load-record .load-record .ensures) (at-inverse-spd .inverse-spd .ensures) refl
-    (answer-done _ _ (at-new .new .ensures) (at-enum-told .enum-told .given .1)) (c .before .before .store-start .ensures))
+    let at-entry = at-loop .before .before .before in (
+      omega arith,
+      omega arith,
+      begin-again (now (at-entry .args .bodies)) (at-entry .args .n) _ _ _ (at-loop .loop .inv .2) (at-test .loop-test .taken) (at-entry .pre .2) _
+          (at-load-record .load-record .ensures) (at-inverse-spd .inverse-spd .ensures) refl
+          (answer-done _ _ (at-new .new .ensures) (at-enum-told .enum-told .given .1)) (c .before .before .store-start .ensures),
+    )
 
 same-length-3 : tie.Need-same-length-3 Inv-loop μ-loop
 same-length-3 c = omega arith

@@ -1,3 +1,4 @@
+-- `write_rows` is `writeRows`: before turn k the rows of the first k joints stand in the table (RowLaws `Wrote`).
 use lib.ListN.{length}
 use mathlib.Core.List.{List}
 use Rattle.step.specs.Ready.{Joined}
@@ -21,10 +22,14 @@ abbrev μ-loop : tie.MeasureT-loop
 μ-loop s₀ count rows moved joints n₀ k₀ s n k = count - k
 
 loop-holds : tie.Need-loop-holds Inv-loop μ-loop
-loop-holds c =
-    (omega arith, omega arith, refl, before-none (c .before .args .t2),
-    λ size J ia ib S. wrote-none (c .before .args .t2) (c .before .args .count) (c .before .args .moved)
-    (c .before .args .rows) _ size J ia ib S)
+loop-holds c = (
+  omega arith,
+  omega arith,
+  refl,
+  before-none (c .before .args .t2),
+  λ size J ia ib S. wrote-none (c .before .args .t2) (c .before .args .count) (c .before .args .moved)
+      (c .before .args .rows) _ size J ia ib S,
+)
 
 mul-joint : tie.Need-mul-joint Inv-loop μ-loop
 mul-joint c = omega arith
@@ -59,9 +64,13 @@ add-n c =
     let at-write-equality-rows = c .before .before .before .before .before in
     let at-joint = at-write-equality-rows .before .before .before .before .before .before in let at-test = at-joint .before in
     let at-loop = at-test .before in let at-entry = at-loop .before .before in
-    omega
-    (arith, at-loop .loop .inv, at-test .loop-test .taken, at-entry .pre .2 .few,
-    written-most (at-write-equality-rows .write-equality-rows .ensures) _ (c .before .m .given .1))
+    omega (
+      arith,
+      at-loop .loop .inv,
+      at-test .loop-test .taken,
+      at-entry .pre .2 .few,
+      written-most (at-write-equality-rows .write-equality-rows .ensures) _ (c .before .m .given .1),
+    )
 
 enum-told : tie.Need-enum-told Inv-loop μ-loop
 enum-told c = search needs
@@ -109,17 +118,23 @@ loop-again : tie.Need-loop-again Inv-loop μ-loop
 loop-again c =
     let at-write-equality-rows = c .before .before .before .before .before in let at-load-moved2 = at-write-equality-rows .before .before in
     let at-load-moved = at-load-moved2 .before .before in let at-test = at-load-moved .before .before .before in let at-loop = at-test .before in
-    let at-entry = at-loop .before .before in
-    (omega arith,
-    omega
-    (arith, at-loop .loop .inv .1, at-test .loop-test .taken, at-entry .pre .2 .few, written-most (at-write-equality-rows .write-equality-rows .ensures) _ (c .before .m .given .1)),
-    omega arith,
-    wrote-rows (at-entry .args .t2) (at-loop .loop .k) _ (at-loop .loop .inv .3) (at-write-equality-rows .write-equality-rows .ensures) _
-    (c .before .m .given .1),
-    λ size J ia ib S. wrote-again (at-entry .args .t2) (at-entry .args .count) (at-entry .args .moved) (at-entry .args .rows) _ size J ia ib S
-    (at-loop .loop .k) _ _ (at-loop .loop .inv .4 size J ia ib S) (at-test .loop-test .taken) (omega arith) (at-entry .pre .1)
-    (at-loop .loop .inv .3) (at-load-moved .load-moved .ensures) (at-load-moved2 .load-moved2 .ensures) _
-    (at-write-equality-rows .write-equality-rows .ensures) (c .before .m .given .1))
+    let at-entry = at-loop .before .before in (
+      omega arith,
+      omega (
+        arith,
+        at-loop .loop .inv .1,
+        at-test .loop-test .taken,
+        at-entry .pre .2 .few,
+        written-most (at-write-equality-rows .write-equality-rows .ensures) _ (c .before .m .given .1),
+      ),
+      omega arith,
+      wrote-rows (at-entry .args .t2) (at-loop .loop .k) _ (at-loop .loop .inv .3) (at-write-equality-rows .write-equality-rows .ensures) _
+          (c .before .m .given .1),
+      λ size J ia ib S. wrote-again (at-entry .args .t2) (at-entry .args .count) (at-entry .args .moved) (at-entry .args .rows) _ size J ia ib S
+          (at-loop .loop .k) _ _ (at-loop .loop .inv .4 size J ia ib S) (at-test .loop-test .taken) (omega arith) (at-entry .pre .1)
+          (at-loop .loop .inv .3) (at-load-moved .load-moved .ensures) (at-load-moved2 .load-moved2 .ensures) _
+          (at-write-equality-rows .write-equality-rows .ensures) (c .before .m .given .1),
+    )
 
 same-length-3 : tie.Need-same-length-3 Inv-loop μ-loop
 same-length-3 c = omega arith

@@ -1,3 +1,4 @@
+-- `apply` is `reactionOf`: the shares by `transpose`, then the kicks (VelocityLaws).
 use borrow.Author.Needs.{needs}
 use native.Mathlib.Omega.{arith}
 use mathlib.Core.Path.{_∙_}

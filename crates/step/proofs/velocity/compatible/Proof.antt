@@ -1,3 +1,4 @@
+-- `compatible` is `compatibleOf`: before turn k the first k right sides passed.
 use native.Mathlib.Omega.{arith}
 use mathlib.Core.Path.{_≡_}
 use Prim.Native.Nat.{_≤_, _-_}
@@ -44,10 +45,11 @@ loop-less c = omega arith
 
 loop-again : tie.Need-loop-again Inv-loop μ-loop
 loop-again c =
-    let at-test = c .before .before .before in let at-loop = at-test .before in let at-entry = at-loop .before .before in
-    (omega arith,
-    every-more (small (now (at-entry .args .s)) (at-entry .args .n)) (at-loop .loop .inv .1)
-    (small-is (now (at-entry .args .s)) _ (at-test .loop-test .taken) (c .before .abs .ensures) tenth-12 (c .if1 .taken)))
+    let at-test = c .before .before .before in let at-loop = at-test .before in let at-entry = at-loop .before .before in (
+      omega arith,
+      every-more (small (now (at-entry .args .s)) (at-entry .args .n)) (at-loop .loop .inv .1)
+          (small-is (now (at-entry .args .s)) _ (at-test .loop-test .taken) (c .before .abs .ensures) tenth-12 (c .if1 .taken)),
+    )
 
 returns-2 : tie.Need-returns-2 Inv-loop μ-loop
 returns-2 c =

@@ -1,3 +1,4 @@
+-- `kick_candidates` is `kickBodies`: before turn k the first k candidates are kicked (VelocityLaws `Kicked`).
 use borrow.Author.Needs.{needs}
 use native.Mathlib.Omega.{arith}
 use mathlib.Core.Path.{_≡_, refl}
@@ -68,11 +69,13 @@ loop-again : tie.Need-loop-again Inv-loop μ-loop
 loop-again c =
     let at-enum-told = c .before .before .before .before in let at-kick = at-enum-told .before .before in let at-load-candidate = at-kick .before in
     let at-load-generalized = at-load-candidate .before .before in let at-test = at-load-generalized .before .before in
-    let at-loop = at-test .before in let at-entry = at-loop .before .before in
-    (omega arith, omega arith,
-    kick-again _ _ (at-loop .loop .inv .2) (at-test .loop-test .taken) (at-entry .pre .1) (at-load-generalized .load-generalized .ensures)
-    (at-load-candidate .load-candidate .ensures) refl (answer-done _ _ (at-kick .kick .ensures) (at-enum-told .enum-told .given .1))
-    (c .before .before .store-candidate .ensures))
+    let at-loop = at-test .before in let at-entry = at-loop .before .before in (
+      omega arith,
+      omega arith,
+      kick-again _ _ (at-loop .loop .inv .2) (at-test .loop-test .taken) (at-entry .pre .1) (at-load-generalized .load-generalized .ensures)
+          (at-load-candidate .load-candidate .ensures) refl (answer-done _ _ (at-kick .kick .ensures) (at-enum-told .enum-told .given .1))
+          (c .before .before .store-candidate .ensures),
+    )
 
 same-length-3 : tie.Need-same-length-3 Inv-loop μ-loop
 same-length-3 c = omega arith

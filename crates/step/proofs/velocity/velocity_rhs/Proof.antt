@@ -24,27 +24,33 @@ no-motion-requires-2 c κs = omega arith
 
 loop-holds : tie.Need-loop-holds Inv-loop μ-loop
 loop-holds c =
-    let at-entry = c .before .before .before in
-    (omega arith, refl, rhs-none (at-entry .pre), no-body-remembered _ (c .before .no-motion .ensures),
-    no-body-remembered _ (c .no-motion2 .ensures))
+    let at-entry = c .before .before .before in (
+      omega arith,
+      refl,
+      rhs-none (at-entry .pre),
+      no-body-remembered _ (c .before .no-motion .ensures),
+      no-body-remembered _ (c .no-motion2 .ensures),
+    )
 
 load-row-requires : tie.Need-load-row-requires Inv-loop μ-loop
 load-row-requires c κs = omega arith
 
 motion-again-requires : tie.Need-motion-again-requires Inv-loop μ-loop
 motion-again-requires c κs =
-    let at-test = c .before .before .before in let at-loop = at-test .before in let at-entry = at-loop .before .before .before .before in
-    (omega (arith, at-loop .loop .inv .1, at-entry .pre .whole),
-    omega (arith, row-a (at-entry .pre) (at-test .loop-test .taken) (at-loop .loop .s) (c .before .load-row .ensures), at-entry .pre .bodies),
-    at-loop .loop .inv .3)
+    let at-test = c .before .before .before in let at-loop = at-test .before in let at-entry = at-loop .before .before .before .before in (
+      omega (arith, at-loop .loop .inv .1, at-entry .pre .whole),
+      omega (arith, row-a (at-entry .pre) (at-test .loop-test .taken) (at-loop .loop .s) (c .before .load-row .ensures), at-entry .pre .bodies),
+      at-loop .loop .inv .3,
+    )
 
 motion-again-requires-2 : tie.Need-motion-again-requires-2 Inv-loop μ-loop
 motion-again-requires-2 c κs =
     let at-load-row = c .before .before .before in let at-test = at-load-row .before .before in let at-loop = at-test .before in
-    let at-entry = at-loop .before .before .before .before in
-    (omega (arith, at-loop .loop .inv .1, at-entry .pre .whole),
-    omega (arith, row-b (at-entry .pre) (at-test .loop-test .taken) (at-loop .loop .s) (at-load-row .load-row .ensures), at-entry .pre .bodies),
-    at-loop .loop .inv .4)
+    let at-entry = at-loop .before .before .before .before in (
+      omega (arith, at-loop .loop .inv .1, at-entry .pre .whole),
+      omega (arith, row-b (at-entry .pre) (at-test .loop-test .taken) (at-loop .loop .s) (at-load-row .load-row .ensures), at-entry .pre .bodies),
+      at-loop .loop .inv .4,
+    )
 
 velocity-requires : tie.Need-velocity-requires Inv-loop μ-loop
 velocity-requires c κs = omega arith
@@ -103,13 +109,15 @@ loop-again : tie.Need-loop-again Inv-loop μ-loop
 loop-again c =
     let at-velocity = c .before .before .before in let at-motion-again2 = at-velocity .before in
     let at-motion-again = at-motion-again2 .before .before in let at-load-row = at-motion-again .before .before in
-    let at-test = at-load-row .before .before in let at-loop = at-test .before in let at-entry = at-loop .before .before .before .before in
-    (omega (arith, at-test .loop-test .taken), simp length-set (at-loop .loop .inv .1),
-    rhs-again (at-entry .pre) (at-loop .loop .inv .2) (at-test .loop-test .taken) (at-load-row .load-row .ensures)
-    (sum-there (at-velocity .velocity .ensures _ _ (at-motion-again .motion-again .ensures .moves) (at-motion-again2 .motion-again2 .ensures .moves)) (c .before .value .given .1)),
-    motion-remembered (at-loop .loop .k) _ (omega (arith, at-test .loop-test .taken, at-entry .pre .most)) (at-motion-again .motion-again .ensures),
-    motion-remembered (at-loop .loop .k) _ (omega (arith, at-test .loop-test .taken, at-entry .pre .most))
-    (at-motion-again2 .motion-again2 .ensures))
+    let at-test = at-load-row .before .before in let at-loop = at-test .before in let at-entry = at-loop .before .before .before .before in (
+      omega (arith, at-test .loop-test .taken),
+      simp length-set (at-loop .loop .inv .1),
+      rhs-again (at-entry .pre) (at-loop .loop .inv .2) (at-test .loop-test .taken) (at-load-row .load-row .ensures)
+          (sum-there (at-velocity .velocity .ensures _ _ (at-motion-again .motion-again .ensures .moves) (at-motion-again2 .motion-again2 .ensures .moves)) (c .before .value .given .1)),
+      motion-remembered (at-loop .loop .k) _ (omega (arith, at-test .loop-test .taken, at-entry .pre .most)) (at-motion-again .motion-again .ensures),
+      motion-remembered (at-loop .loop .k) _ (omega (arith, at-test .loop-test .taken, at-entry .pre .most))
+          (at-motion-again2 .motion-again2 .ensures),
+    )
 
 same-length-2 : tie.Need-same-length-2 Inv-loop μ-loop
 same-length-2 c = omega arith
