@@ -106,7 +106,9 @@ module _ (m : Mat3) {b : Bool} (eb : b ≡ finiteMat m) where
             ∙ cond-no _ _ finite
 
         pub factor-done : f ≡ true → {p : Mat3} → p ≡ matOf (turned l) → record { outcome = Done; factor = record { lower = p; scale = s } } ≡ factorSpdOf m
-        factor-done h ep = ap (λ (p : Mat3). record { outcome = Done; factor = record { lower = p; scale = s } }) ep ∙ sym (ap (λ (b : Bool). factoredWith s (ranOf b l)) h) ∙ whole
+        factor-done h ep =
+            ap (λ (p : Mat3). record { outcome = Done; factor = record { lower = p; scale = s } }) ep
+            ∙ sym (ap (λ (b : Bool). factoredWith s (ranOf b l)) h) ∙ whole
 
         pub factor-not : f ≡ false → {r : Factored} → r ≡ unfactored NotPositiveDefinite → r ≡ factorSpdOf m
         factor-not h er = er ∙ sym (ap (λ (b : Bool). factoredWith s (ranOf b l)) h) ∙ whole
@@ -160,7 +162,8 @@ module _ (factor : Cholesky3) (rhs : Vec3) {b : Bool} (eb : b ≡ finiteOf rhs) 
     unfolding solveOf
     solve-large h er = cc
 
-    module _ (hf : not f ≡ false) {l : Cells} (el : l ≡ turned (factor .lower .columns)) {y x : Vec3} (ey : y ≡ forwardOf l n) (ex : x ≡ backwardOf l y) {g : Bool} (eg : g ≡ finiteOf x) where
+    module _ (hf : not f ≡ false) {l : Cells} (el : l ≡ turned (factor .lower .columns)) {y x : Vec3}
+        (ey : y ≡ forwardOf l n) (ex : x ≡ backwardOf l y) {g : Bool} (eg : g ≡ finiteOf x) where
       pub solve-done : g ≡ true → record { outcome = Done; solution = x } ≡ solveOf factor rhs
       unfolding solveOf
       solve-done h = cc

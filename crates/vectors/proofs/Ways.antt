@@ -74,7 +74,8 @@ finite-sum x y z = simp minus-self (at (isFinite x) (isFinite y) (isFinite z))
     at false b c = unfold Ieee.add Ieee.eq in refl
 
 -- ---- try_normalize
-module _ {A O : Type 0} (finite : A → Bool) (largest : A → Float) (div : A → Float → A) (length : A → Float) (none : O) (some : A → O) (v : A) {b : Bool} (eb : b ≡ finite v) where
+module _ {A O : Type 0} (finite : A → Bool) (largest : A → Float) (div : A → Float → A)
+    (length : A → Float) (none : O) (some : A → O) (v : A) {b : Bool} (eb : b ≡ finite v) where
   abbrev answer : O
   answer = normalizeBy finite largest div length none some v
 
