@@ -38,7 +38,8 @@ use Rattle.rows.specs.declared.geometry.Swing.{Swing}
 use Rattle.rows.specs.Fault.{Fault, nonConvergent, arithmeticOverflow, Result, vectorOr, numberOr, quatOr, tryFinite, tryLength, tryRotate}
 use Rattle.rows.specs.Body.{anchorOf}
 use Rattle.rows.specs.Geometry.{epsilon, turning, endsOf, toleranceOf, distanceRow, linearRow, rowIf, anyLocked, halfTurned, relativeOf, swingX, swingY, localOf, gradientRow, swingRow, angleOr, twistRow, alignedOf, alignRow}
-use Rattle.rows.specs.Append.{UnitOf, endsAs, axisAs, relativeAs, rowAs}
+use Rattle.rows.specs.Unit.{UnitOf}
+use Rattle.rows.specs.Append.{endsAs, axisAs, relativeAs, rowAs}
 use Rattle.rows.specs.AnswerLaws.{some-go, none-stop}
 use Rattle.rows.proofs.Constants.{zero-is, half-is, one-is, two-is, thirty-two-is, sixty-four-is, epsilon-is, ten-is, thirteen-is}
 
@@ -83,9 +84,6 @@ pub tolerance-stop : {o : OptionF64} {d : Result Float} → numberOr arithmeticO
 tolerance-stop e h = sym (ap (numberOr arithmeticOverflow) h) ∙ e
 
 -- ---- a frame turns a vector as its normalized form does
-pub unit-of : {q unit : Quat} {o : OptionQuat} → o ≡ quatTryNormalizeOf q → o ≡ Rotation.Some unit → UnitOf q unit
-unit-of e h = record { is = sym e ∙ h }
-
 module _ {q unit : Quat} (u : UnitOf q unit) (v : Vec3) {o : OptionVec3} (e : o ≡ rotateAsUnitOf unit v) where
   pub turned-go : {r : Vec3} → o ≡ Vector.Some r → go r ≡ tryRotate q v
   turned-go h = some-go arithmeticOverflow (e ∙ sym (rotates-as-unit q (u .is) v)) h

@@ -8,9 +8,6 @@ use lib.ListN.{length}
 use Rattle.arith.specs.Real.{ratio}
 use Rattle.arith.specs.Flow.{go, stop, _>>=_}
 use Rattle.vectors.specs.declared.vector.Vec3.{Vec3}
-use Rattle.vectors.specs.declared.quaternion.Quat.{Quat}
-use Rattle.vectors.specs.declared.quaternion.OptionQuat.the-variants.{Some}
-use Rattle.vectors.specs.Quaternion.{quatTryNormalizeOf}
 use Rattle.rows.specs.declared.geometry.Joint.{Joint}
 use Rattle.rows.specs.declared.geometry.EqualityRow.{EqualityRow}
 use Rattle.rows.specs.declared.geometry.Ends.{Ends}
@@ -28,10 +25,6 @@ use Rattle.rows.specs.declared.geometry.Written.the-variants as Written
 use Rattle.rows.specs.Fault.{nonConvergent, arithmeticOverflow, Result}
 use Rattle.rows.specs.View.{at, rowAt, Out, Kept}
 use Rattle.rows.specs.Answer.{writtenAs}
-
--- q normalizes to unit
-pub record UnitOf (q unit : Quat) : Type 0 where
-  pub is : quatTryNormalizeOf q ≡ Some unit
 
 -- ---- answers as results
 abbrev pub endsAs : EndsAnswer → Result Ends

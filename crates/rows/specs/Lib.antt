@@ -1,6 +1,7 @@
 -- Definitions that a reader must believe: Fault, Body and Geometry, after mod.rs, body.rs and geometry.rs. View says where a slice holds a row, Answer how the code's answers are read. The others are laws.
 pub mod Fault
 pub mod Body
+pub mod Unit
 pub mod Geometry
 pub mod View
 pub mod Answer

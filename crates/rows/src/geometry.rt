@@ -31,7 +31,8 @@ ghost use Rattle.rows.specs.Geometry.{twistLocked, twistRow, coneRows, a
 ghost use Rattle.rows.specs.Geometry.{frameRows, writeEqualityRows, rowCount, oneIf};
 ghost use Rattle.rows.specs.View.{vec3At, rowAt, rowsAt, Out, Kept};
 ghost use Rattle.rows.specs.Answer.{Writes};
-ghost use Rattle.rows.specs.Append.{UnitOf, endsAs, axisAs, relativeAs, rowAs, Stored2, countOf, Room, Appends, Adds, Follows, Cleared};
+ghost use Rattle.rows.specs.Unit.{UnitOf};
+ghost use Rattle.rows.specs.Append.{endsAs, axisAs, relativeAs, rowAs, Stored2, countOf, Room, Appends, Adds, Follows, Cleared};
 
 // The doubles of a row.
 pub const ROW: usize = 14;

@@ -1,6 +1,7 @@
 -- `geometry::write_frames` meets its contract: the failure of what is taken once is the first row's, and all rows are the definition's list.
 use Rattle.rows.proofs.AppendLaws.{count-rows}
-use Rattle.rows.proofs.RowLaws.{tolerance-go, tolerance-stop, unit-of}
+use Rattle.rows.proofs.UnitLaws.{unit-of}
+use Rattle.rows.proofs.RowLaws.{tolerance-go, tolerance-stop}
 use Rattle.rows.proofs.WriteLaws.{frames-early, frames-finite, frames-lost, frames-overflow, long-row, unturned-row}
 use Rattle.rows.specs.Fault.{arithmeticOverflow, nonConvergent}
 use borrow.Author.Needs.{needs}
