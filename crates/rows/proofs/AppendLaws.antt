@@ -12,15 +12,16 @@ use lib.Seq.{getD-set-same}
 use Rattle.arith.specs.Real.{F, ratio}
 use Rattle.arith.specs.Flow.{go, stop, _>>=_, tab}
 use Rattle.arith.specs.FlowLaws.{then-go, then-stop}
-use Rattle.rows.specs.declared.geometry.Kind.{Kind}
-use Rattle.rows.specs.declared.geometry.Kind.the-variants.{ConeTwist}
+use Rattle.rows.specs.declared.geometry.Cone.{Cone}
+use Rattle.rows.specs.declared.geometry.Turning.{Turning}
+use Rattle.rows.specs.declared.geometry.Turning.the-variants as Turns
 use Rattle.rows.specs.declared.geometry.EqualityRow.{EqualityRow}
 use Rattle.rows.specs.declared.geometry.RowAnswer.{RowAnswer}
 use Rattle.rows.specs.declared.geometry.RowAnswer.the-variants as Row
 use Rattle.rows.specs.declared.geometry.Written.{Written}
 use Rattle.rows.specs.declared.geometry.Written.the-variants as Written
 use Rattle.rows.specs.Fault.{Fault, Result}
-use Rattle.rows.specs.Geometry.{rowIf, oneIf, rowCount}
+use Rattle.rows.specs.Geometry.{rowIf, swingLocked, twistLocked, oneIf, turningCount}
 use Rattle.rows.proofs.Constants.{zero-is}
 use Rattle.rows.specs.View.{at, rowAt, Out, Kept}
 use Rattle.rows.specs.Answer.{writtenAs}
@@ -36,21 +37,24 @@ append-value {i} {n} {s} {t} e p =
     subst (λ (x : RowAnswer). Appends i (Written.Rows n) x s t (Written.Rows (n + 1))) (sym e) (record { kept = p .0; there = p .1; is = refl })
 
 module _ {i n : ℕ} {s : List Float} {answer : RowAnswer} where
-  pub append-none : {r : Written} (x : RowAnswer) → There i s (Written.Rows n) x → answer ≡ x → r ≡ appended (Written.Rows n) x → Appends i (Written.Rows n) answer s s r
+  pub append-none : {r : Written} (x : RowAnswer) → There i s (Written.Rows n) x → answer ≡ x → r ≡ appended (Written.Rows n) x
+      → Appends i (Written.Rows n) answer s s r
   append-none {r} x h e q = subst (λ (x : RowAnswer). Appends i (Written.Rows n) x s s r) (sym e) (record { kept = kept-refl _ s; there = h; is = q })
 
-pub append-rows : {i n : ℕ} {s t : List Float} {answer : RowAnswer} {w r : Written} → w ≡ Written.Rows n → Appends i (Written.Rows n) answer s t r → Appends i w answer s t r
+pub append-rows : {i n : ℕ} {s t : List Float} {answer : RowAnswer} {w r : Written} → w ≡ Written.Rows n
+    → Appends i (Written.Rows n) answer s t r → Appends i w answer s t r
 append-rows {i} {n} {s} {t} {answer} {w} {r} e p = subst (λ (x : Written). Appends i x answer s t r) (sym e) p
 
-pub append-nonconvergent : {i : ℕ} {s : List Float} {answer : RowAnswer} {w : Written} → w ≡ Written.NonConvergent → Appends i w answer s s Written.NonConvergent
-unfolding There
-append-nonconvergent {i} {s} {answer} e =
-    subst (λ (x : Written). Appends i x answer s s Written.NonConvergent) (sym e) (record { kept = kept-refl _ s; there = tt; is = refl })
+module _ {i : ℕ} {s : List Float} {answer : RowAnswer} {w : Written} where
+  pub append-nonconvergent : w ≡ Written.NonConvergent → Appends i w answer s s Written.NonConvergent
+  unfolding There
+  append-nonconvergent e =
+      subst (λ (x : Written). Appends i x answer s s Written.NonConvergent) (sym e) (record { kept = kept-refl _ s; there = tt; is = refl })
 
-pub append-overflow : {i : ℕ} {s : List Float} {answer : RowAnswer} {w : Written} → w ≡ Written.ArithmeticOverflow → Appends i w answer s s Written.ArithmeticOverflow
-unfolding There
-append-overflow {i} {s} {answer} e =
-    subst (λ (x : Written). Appends i x answer s s Written.ArithmeticOverflow) (sym e) (record { kept = kept-refl _ s; there = tt; is = refl })
+  pub append-overflow : w ≡ Written.ArithmeticOverflow → Appends i w answer s s Written.ArithmeticOverflow
+  unfolding There
+  append-overflow e =
+      subst (λ (x : Written). Appends i x answer s s Written.ArithmeticOverflow) (sym e) (record { kept = kept-refl _ s; there = tt; is = refl })
 
 pub count-rows : {w : Written} {n : ℕ} → w ≡ Written.Rows n → countOf w ≡ n
 count-rows e = ap countOf e
@@ -116,7 +120,8 @@ module _ (a b i : ℕ) (t u : List Float) (locked : Bool) (D : Result EqualityRo
   same-rows : (n m : ℕ) → Kept (λ k. Out (i + 14 * n) m k) t u → (j : ℕ) → j < n → rowAt u (i + 14 * j) a b ≡ rowAt t (i + 14 * j) a b
   same-rows n m k j q = kept-row k (i + 14 * j) a b (λ l x y. omega arith)
 
-  more : (w : Written) (answer : RowAnswer) {d : Result (List EqualityRow)} → Kept (λ k. Out (i + 14 * countOf w) (14 * added w answer) k) t u → There i u w answer
+  more : (w : Written) (answer : RowAnswer) {d : Result (List EqualityRow)}
+      → Kept (λ k. Out (i + 14 * countOf w) (14 * added w answer) k) t u → There i u w answer
       → writtenAs w t i a b ≡ d → rowAs answer ≡ rowIf locked D → writtenAs (appended w answer) u i a b ≡ followedBy d (rowIf locked D)
   unfolding There
   more (Written.Rows n) (Row.Value row) k h e l =
@@ -144,8 +149,9 @@ unfolding tab
 adds-none a b i k s = record { kept = kept-refl _ s; within = omega arith; is = refl }
 
 -- an answer more
-pub adds-more : {a b i k : ℕ} {s t u : List Float} {w r : Written} {answer : RowAnswer} {d : Result (List EqualityRow)} (locked : Bool) (D : Result EqualityRow) → k ≤ 5
-    → Adds a b i k s t w d → Appends i w answer t u r → rowAs answer ≡ rowIf locked D → Mine a b D → Adds a b i (k + 1) s u r (followedBy d (rowIf locked D))
+pub adds-more : {a b i k : ℕ} {s t u : List Float} {w r : Written} {answer : RowAnswer} {d : Result (List EqualityRow)}
+    (locked : Bool) (D : Result EqualityRow) → k ≤ 5 → Adds a b i k s t w d → Appends i w answer t u r → rowAs answer ≡ rowIf locked D → Mine a b D
+    → Adds a b i (k + 1) s u r (followedBy d (rowIf locked D))
 adds-more {a} {b} {i} {k} {s} {t} {u} {w} {r} {answer} {d} locked D h p q l m = record {
   kept = subst (λ (x : Written). Kept (λ j. Out i (spanOf x) j) s u) (sym (q .is)) (span-more i w answer (few (p .within)) (p .kept) (q .kept));
   within = within (p .within) (appends-most q);
@@ -158,7 +164,8 @@ adds-more {a} {b} {i} {k} {s} {t} {u} {w} {r} {answer} {d} locked D h p q l m = 
     within : countOf w ≤ k → countOf r ≤ countOf w + 1 → countOf r ≤ k + 1
     within m l = omega arith
 
-pub adds-as : {a b i k k' : ℕ} {s t : List Float} {r : Written} {d d' : Result (List EqualityRow)} → k ≤ k' → d ≡ d' → Adds a b i k s t r d → Adds a b i k' s t r d'
+pub adds-as : {a b i k k' : ℕ} {s t : List Float} {r : Written} {d d' : Result (List EqualityRow)} → k ≤ k' → d ≡ d'
+    → Adds a b i k s t r d → Adds a b i k' s t r d'
 adds-as h e p = record { kept = p .kept; within = omega (arith, p .within); is = p .is ∙ e }
 
 -- ---- zeros
@@ -189,14 +196,11 @@ pub one-no : {b : Bool} → b ≡ false → 0 ≡ oneIf b
 unfolding oneIf
 one-no e = ap oneIf (sym e)
 
-pub one-most : {n : ℕ} (b : Bool) → n ≡ oneIf b → n ≤ 1
-unfolding oneIf
-one-most true e = omega arith
-one-most false e = omega arith
-
-pub count-cone : {kind : Kind} {x y lower upper : Float} {m n o : ℕ} → kind ≡ ConeTwist x y lower upper
-    → m ≡ oneIf (Ieee.eq x (F 0)) → n ≡ oneIf (Ieee.eq y (F 0)) → o ≡ oneIf (Ieee.eq lower upper) → 3 + m + n + o ≡ rowCount kind
-count-cone {x = x} {y = y} {m = m} {n = n} {o = o} e a b d =
-    let u : m ≡ oneIf (Ieee.eq x (ratio 0 1)) = a ∙ ap (λ (z : Float). oneIf (Ieee.eq x z)) zero-is in
-    let v : n ≡ oneIf (Ieee.eq y (ratio 0 1)) = b ∙ ap (λ (z : Float). oneIf (Ieee.eq y z)) zero-is in
-    omega arith ∙ sym (ap rowCount e)
+-- the rows of a cone twist, as the code adds them up
+pub cone-count : {turning : Turning} {cone : Cone} {m n o : ℕ} → turning ≡ Turns.Cone cone
+    → m ≡ oneIf (Ieee.eq (cone .«swing_x») (F 0)) → n ≡ oneIf (Ieee.eq (cone .«swing_y») (F 0)) → o ≡ oneIf (twistLocked cone)
+    → m + n + o ≡ turningCount turning
+cone-count {cone = cone} {m = m} {n = n} {o = o} e a b d =
+    let u : m ≡ oneIf (swingLocked (cone .«swing_x»)) = a ∙ ap (λ (z : Float). oneIf (Ieee.eq (cone .«swing_x») z)) zero-is in
+    let v : n ≡ oneIf (swingLocked (cone .«swing_y»)) = b ∙ ap (λ (z : Float). oneIf (Ieee.eq (cone .«swing_y») z)) zero-is in
+    omega arith ∙ sym (ap turningCount e)

@@ -17,18 +17,16 @@ use vectors::vector::OptionVec3;
 use vectors::vector::Vec3;
 ghost use mathlib.Core.Path.{_≡_};
 ghost use mathlib.Core.Bool.{true};
-ghost use mathlib.Core.List.{List};
 ghost use Prim.Native.Nat.{ℕ, _+_, _*_, _≤_};
 ghost use lib.ListN.{length};
 ghost use lib.Ieee as Ieee;
-ghost use lib.Ieee.{Float};
-ghost use Rattle.arith.specs.Real.{ratio};
 ghost use Rattle.arith.specs.Flow.{go};
-ghost use Rattle.rows.specs.Fault.{Result, arithmeticOverflow, numberOr};
-ghost use Rattle.rows.specs.Geometry.{turning, endsOf, toleranceOf, distanceRow, linearRow, rowIf, linearAxes, linearRows};
+ghost use Rattle.rows.specs.Fault.{arithmeticOverflow, numberOr};
+ghost use Rattle.rows.specs.Motions.{motionsOf};
+ghost use Rattle.rows.specs.Geometry.{turning, endsOf, toleranceOf, distanceRow, linearRow, rowIf, axesOf, linearRows};
 ghost use Rattle.rows.specs.Geometry.{anyLocked, halfTurned, relativeOf, swingX, swingY, localOf, gradientRow, swingLocked, swingRow};
-ghost use Rattle.rows.specs.Geometry.{twistLocked, twistRow, coneRows, alignedOf, alignRow, alignRows, angularRows, finiteValues};
-ghost use Rattle.rows.specs.Geometry.{frameRows, writeEqualityRows, rowCount, oneIf};
+ghost use Rattle.rows.specs.Geometry.{twistLocked, twistRow, coneRows, alignedOf, alignRow, alignRows, turningRows, finiteValues};
+ghost use Rattle.rows.specs.Geometry.{frameRows, writeEqualityRows, oneIf, linearCount, turningCount, rowCount};
 ghost use Rattle.rows.specs.View.{vec3At, rowAt, rowsAt, Out, Kept};
 ghost use Rattle.rows.specs.Answer.{Writes};
 ghost use Rattle.rows.specs.Unit.{UnitOf};
@@ -60,6 +58,34 @@ pub enum Kind {
         twist_lower: f64,
         twist_upper: f64,
     },
+}
+
+// Where b's anchor is held: at a's, on the line through it along frame a's Z, or on the plane through it across that.
+pub enum Linear {
+    Point,
+    Line,
+    Plane,
+}
+
+// The numbers of a cone twist.
+pub struct Cone {
+    pub swing_x: f64,
+    pub swing_y: f64,
+    pub twist_lower: f64,
+    pub twist_upper: f64,
+}
+
+// How frame b turns against frame a: freely, with its Z along a's, or within a cone and a twist.
+pub enum Turning {
+    Free,
+    Align,
+    Cone(Cone),
+}
+
+// What a kind holds: a rod between the anchors, or b's anchor and what turns.
+pub enum Motions {
+    Rod(f64),
+    Frame(Linear, Turning),
 }
 
 pub struct Joint {
@@ -112,19 +138,11 @@ enum EndsAnswer {
     ArithmeticOverflow,
 }
 
-// Which axes of frame a a kind locks the anchors' difference along.
-struct Linear {
+// The axes of frame a along which the anchors' difference is held.
+struct Axes {
     pub x: bool,
     pub y: bool,
     pub z: bool,
-}
-
-// The numbers of a cone twist.
-struct Cone {
-    pub swing_x: f64,
-    pub swing_y: f64,
-    pub twist_lower: f64,
-    pub twist_upper: f64,
 }
 
 // The rotation of frame b seen from frame a, with the square and the root of w * w + z * z.
@@ -501,34 +519,52 @@ fn relative_of(cone: Cone, frame_a: Quat, frame_b: Quat) -> RelativeAnswer
     })
 }
 
-fn linear_axes(kind: Kind) -> Linear
-    ensures { λ r. ⌜ r ≡ linearAxes kind ⌝ }
+// The one match on a kind. All else about it follows from what it holds.
+pub fn motions_of(kind: Kind) -> Motions
+    ensures { λ r. ⌜ r ≡ motionsOf kind ⌝ }
 {
-    let all = Linear {
-        x: true,
-        y: true,
-        z: true,
-    };
     match kind {
-        Kind::Ball => all,
-        Kind::Hinge => all,
-        Kind::Cylindrical => Linear {
+        Kind::Ball => Motions::Frame(Linear::Point, Turning::Free),
+        Kind::Hinge => Motions::Frame(Linear::Point, Turning::Align),
+        Kind::Cylindrical => Motions::Frame(Linear::Line, Turning::Align),
+        Kind::Planar => Motions::Frame(Linear::Plane, Turning::Align),
+        Kind::Distance(length) => Motions::Rod(length),
+        Kind::ConeTwist {
+            swing_x,
+            swing_y,
+            twist_lower,
+            twist_upper,
+        } => Motions::Frame(
+            Linear::Point,
+            Turning::Cone(Cone {
+                swing_x,
+                swing_y,
+                twist_lower,
+                twist_upper,
+            }),
+        ),
+    }
+}
+
+fn axes_of(linear: Linear) -> Axes
+    ensures { λ r. ⌜ r ≡ axesOf linear ⌝ }
+{
+    match linear {
+        Linear::Point => Axes {
+            x: true,
+            y: true,
+            z: true,
+        },
+        Linear::Line => Axes {
             x: true,
             y: true,
             z: false,
         },
-        Kind::Planar => Linear {
+        Linear::Plane => Axes {
             x: false,
             y: false,
             z: true,
         },
-        Kind::Distance(_) => all,
-        Kind::ConeTwist {
-            swing_x: _,
-            swing_y: _,
-            twist_lower: _,
-            twist_upper: _,
-        } => all,
     }
 }
 
@@ -564,14 +600,14 @@ fn write_linear(
     at: usize,
     joint: Joint,
     e: Ends,
+    linear: Linear,
     unit: Quat,
     tolerance: f64,
 ) -> Written
     requires { ⌜ (at + 84 ≤ length (now s)) × (UnitOf (e .«frame_a») unit) × (go tolerance ≡ toleranceOf (e .pa) (e .pb)) ⌝ }
-    ensures { λ r. ⌜ Adds (joint .«body_a») (joint .«body_b») at 3 (now (s .entry)) (now (s .exit)) r (linearRows joint e) ⌝ }
+    ensures { λ r. ⌜ Adds (joint .«body_a») (joint .«body_b») at 3 (now (s .entry)) (now (s .exit)) r (linearRows linear joint e) ⌝ }
 {
-    let kind = joint.kind;
-    let locked = linear_axes(kind);
+    let locked = axes_of(linear);
     let x = linear_row_if(locked.x, joint, e, unit, Vec3::X, tolerance);
     let one = append(s, at, Written::Rows(0), x);
     let y = linear_row_if(locked.y, joint, e, unit, Vec3::Y, tolerance);
@@ -629,44 +665,23 @@ fn write_cone(
     }
 }
 
-// The rows on rotations that a kind adds to its linear ones.
-fn write_angular(
+// The rows on rotations behind the linear ones.
+fn write_turning(
     s: &mut [f64],
     at: usize,
     written: Written,
     joint: Joint,
     e: Ends,
+    turning: Turning,
     unit: Quat,
 ) -> Written
     requires { ⌜ (Room at 3 (now s) written) × (UnitOf (e .«frame_a») unit) ⌝ }
-    ensures { λ r. ⌜ Follows joint at (now (s .entry)) (now (s .exit)) written r (angularRows (joint .kind) joint e) ⌝ }
+    ensures { λ r. ⌜ Follows joint at (now (s .entry)) (now (s .exit)) written r (turningRows turning joint e) ⌝ }
 {
-    let kind = joint.kind;
-    match kind {
-        Kind::Ball => written,
-        Kind::Distance(_) => written,
-        Kind::ConeTwist {
-            swing_x,
-            swing_y,
-            twist_lower,
-            twist_upper,
-        } => write_cone(
-            s,
-            at,
-            written,
-            joint,
-            e,
-            unit,
-            Cone {
-                swing_x,
-                swing_y,
-                twist_lower,
-                twist_upper,
-            },
-        ),
-        Kind::Hinge => write_align(s, at, written, joint, e, unit),
-        Kind::Cylindrical => write_align(s, at, written, joint, e, unit),
-        Kind::Planar => write_align(s, at, written, joint, e, unit),
+    match turning {
+        Turning::Free => written,
+        Turning::Align => write_align(s, at, written, joint, e, unit),
+        Turning::Cone(cone) => write_cone(s, at, written, joint, e, unit, cone),
     }
 }
 
@@ -683,10 +698,17 @@ fn values_finite(s: &[f64], at: usize, count: usize) -> bool
 }
 
 // All rows but a rod's: the linear ones, then those on rotations. What every row wants is taken once: the tolerance, and frame a
-// normalized. A failure of either is the first row's, since every kind has a linear row.
-fn write_frames(s: &mut [f64], at: usize, joint: Joint, e: Ends) -> Written
+// normalized. A failure of either is the first row's, since there is always a linear row.
+fn write_frames(
+    s: &mut [f64],
+    at: usize,
+    joint: Joint,
+    e: Ends,
+    linear: Linear,
+    turning: Turning,
+) -> Written
     requires { ⌜ at + 84 ≤ length (now s) ⌝ }
-    ensures { λ r. ⌜ Adds (joint .«body_a») (joint .«body_b») at 6 (now (s .entry)) (now (s .exit)) r (frameRows joint e) ⌝ }
+    ensures { λ r. ⌜ Adds (joint .«body_a») (joint .«body_b») at 6 (now (s .entry)) (now (s .exit)) r (frameRows linear turning joint e) ⌝ }
 {
     let OptionF64::Some(tolerance) = tolerance(e.pa, e.pb) else {
         return Written::ArithmeticOverflow;
@@ -694,8 +716,8 @@ fn write_frames(s: &mut [f64], at: usize, joint: Joint, e: Ends) -> Written
     let OptionQuat::Some(unit) = e.frame_a.try_normalize() else {
         return Written::ArithmeticOverflow;
     };
-    let linear = write_linear(s, at, joint, e, unit, tolerance);
-    let written = write_angular(s, at, linear, joint, e, unit);
+    let along = write_linear(s, at, joint, e, linear, unit, tolerance);
+    let written = write_turning(s, at, along, joint, e, turning, unit);
     match written {
         Written::Rows(count) => {
             if values_finite(s, at, count) {
@@ -708,7 +730,7 @@ fn write_frames(s: &mut [f64], at: usize, joint: Joint, e: Ends) -> Written
     }
 }
 
-// The rows of a joint by its kind.
+// The rows of a joint by what its kind holds.
 fn write_kind(s: &mut [f64], at: usize, joint: Joint, a: MomentumBody, b: MomentumBody) -> Written
     requires { ⌜ at + 84 ≤ length (now s) ⌝ }
     ensures { λ r. ⌜ Adds (joint .«body_a») (joint .«body_b») at 6 (now (s .entry)) (now (s .exit)) r (writeEqualityRows joint a b) ⌝ }
@@ -717,20 +739,9 @@ fn write_kind(s: &mut [f64], at: usize, joint: Joint, a: MomentumBody, b: Moment
         return Written::ArithmeticOverflow;
     };
     let kind = joint.kind;
-    match kind {
-        Kind::Ball => write_frames(s, at, joint, e),
-        Kind::Hinge => write_frames(s, at, joint, e),
-        Kind::Cylindrical => write_frames(s, at, joint, e),
-        Kind::Planar => write_frames(s, at, joint, e),
-        Kind::Distance(length) => {
-            append(s, at, Written::Rows(0), distance_row(joint, e, length))
-        }
-        Kind::ConeTwist {
-            swing_x: _,
-            swing_y: _,
-            twist_lower: _,
-            twist_upper: _,
-        } => write_frames(s, at, joint, e),
+    match motions_of(kind) {
+        Motions::Rod(length) => { append(s, at, Written::Rows(0), distance_row(joint, e, length)) }
+        Motions::Frame(linear, turning) => write_frames(s, at, joint, e, linear, turning),
     }
 }
 
@@ -768,30 +779,42 @@ pub fn write_equality_rows(
     }
 }
 
-// The rows of a kind, as many as `write_equality_rows` writes.
-pub fn row_count(kind: Kind) -> usize
-    ensures { λ r. ⌜ r ≡ rowCount kind ⌝ }
+fn linear_count(linear: Linear) -> usize
+    ensures { λ r. ⌜ (r ≡ linearCount linear) × (r ≤ 3) ⌝ }
 {
-    match kind {
-        Kind::Ball => 3,
-        Kind::Hinge => 5,
-        Kind::Cylindrical => 4,
-        Kind::Planar => 3,
-        Kind::Distance(_) => 1,
-        Kind::ConeTwist {
-            swing_x,
-            swing_y,
-            twist_lower,
-            twist_upper,
-        } => 3
-            + one_if_equal(swing_x, 0.0)
-            + one_if_equal(swing_y, 0.0)
-            + one_if_equal(twist_lower, twist_upper),
+    match linear {
+        Linear::Point => 3,
+        Linear::Line => 2,
+        Linear::Plane => 1,
     }
 }
 
 fn one_if_equal(a: f64, b: f64) -> usize
-    ensures { λ r. ⌜ r ≡ oneIf (Ieee.eq a b) ⌝ }
+    ensures { λ r. ⌜ (r ≡ oneIf (Ieee.eq a b)) × (r ≤ 1) ⌝ }
 {
     if a == b { 1 } else { 0 }
+}
+
+fn turning_count(turning: Turning) -> usize
+    ensures { λ r. ⌜ (r ≡ turningCount turning) × (r ≤ 3) ⌝ }
+{
+    match turning {
+        Turning::Free => 0,
+        Turning::Align => 2,
+        Turning::Cone(cone) => {
+            one_if_equal(cone.swing_x, 0.0)
+                + one_if_equal(cone.swing_y, 0.0)
+                + one_if_equal(cone.twist_lower, cone.twist_upper)
+        }
+    }
+}
+
+// The rows of a kind, as many as `write_equality_rows` writes.
+pub fn row_count(kind: Kind) -> usize
+    ensures { λ r. ⌜ r ≡ rowCount kind ⌝ }
+{
+    match motions_of(kind) {
+        Motions::Rod(_) => 1,
+        Motions::Frame(linear, turning) => linear_count(linear) + turning_count(turning),
+    }
 }

@@ -17,24 +17,26 @@ use Rattle.vectors.specs.Laws.Tests.{both}
 use Rattle.rows.specs.declared.body.RigidBody.{RigidBody}
 use Rattle.rows.specs.declared.body.BodyState.{BodyState}
 use Rattle.rows.specs.declared.geometry.Joint.{Joint}
-use Rattle.rows.specs.declared.geometry.Kind.{Kind}
-use Rattle.rows.specs.declared.geometry.Kind.the-variants.{Ball, Hinge, Cylindrical, Planar, Distance, ConeTwist}
+use Rattle.rows.specs.declared.geometry.Motions.{Motions}
+use Rattle.rows.specs.declared.geometry.Motions.the-variants.{Rod, Frame}
+use Rattle.rows.specs.Motions.{motionsOf}
 use Rattle.rows.specs.Fault.{Fault, nonConvergent, arithmeticOverflow, number}
 use Rattle.rows.specs.Body.{stateWith, stateOf}
 use Rattle.rows.specs.Region.{tab-length, tab-at}
 use Rattle.rows.specs.ExactGeometry.{statePlace, Met, Stands, Proper}
 use Rattle.rows.specs.Laws.RowsIn.{Each, rows-met, rows-each}
-use Rattle.rows.specs.Laws.Met.{KindIn, stands, met}
+use Rattle.rows.specs.Laws.Met.{MotionsIn, stands, met}
 use Rattle.rows.specs.Laws.Frames.{proper}
 use Rattle.solves.specs.Solver.{noRow}
 use Rattle.step.specs.declared.Outcome.{Outcome}
 use Rattle.step.specs.declared.Outcome.the-variants.{Accepted, Ground}
 use Rattle.step.specs.declared.Report.{Report}
 use Rattle.step.specs.Records.{recordAt, bodyCount, recordsOf, stateAt}
-use Rattle.step.specs.Checks.{numberOf, withinOf, massInRange, bodyInRange, frameOk, kindOk, jointIn, refusalOf, isAccepted}
+use Rattle.step.specs.Checks.{numberOf, withinOf, massInRange, bodyInRange, frameOk, motionsOk, jointIn, refusalOf, isAccepted}
 use Rattle.step.specs.CheckLaws.{Ready, number-zero, refused-number, accepted}
-use Rattle.step.specs.NumberLaws.{kind-finite, within-table}
-use Rattle.step.specs.Step.{faultOutcome, noState, noRecord, bodyIn, recordIn, stateIn, jointRows, writeRows, rowsMet, statesOf, Counted, runOf, Stepped, grounded, handBack, cleared, settled, solveOf}
+use Rattle.step.specs.NumberLaws.{motions-finite, within-table}
+use Rattle.step.specs.Step.{faultOutcome, noState, noRecord, bodyIn, recordIn, stateIn, jointRows, writeRows, rowsMet, statesOf}
+use Rattle.step.specs.Step.{Counted, runOf, Stepped, grounded, handBack, cleared, settled, solveOf}
 use Rattle.step.specs.BackLaws.{back-length, back-state}
 use Rattle.step.specs.TurnLaws.{each-at}
 use Rattle.step.specs.RunLaws.{Ran, ran}
@@ -44,13 +46,9 @@ use Rattle.step.specs.Answered.{AtEnds, Answered}
 yes-T : {b : Bool} → b ≡ true → T b
 yes-T e = subst T (sym e) tt
 
-kind-in : (kind : Kind) → T (kindOk kind) → KindIn kind
-kind-in Ball t = tt
-kind-in Hinge t = tt
-kind-in Cylindrical t = tt
-kind-in Planar t = tt
-kind-in (Distance length) t = t
-kind-in (ConeTwist x y lower upper) t = tt
+motions-in : (motions : Motions) → T (motionsOk motions) → MotionsIn motions
+motions-in (Rod length) t = t
+motions-in (Frame linear turning) t = tt
 
 local-in : (body : RigidBody) → bodyInRange body ≡ true → T (withinOf (body .«center_of_mass») (ratio 64 1))
 local-in body e =
@@ -111,9 +109,9 @@ module _ (bodies : List Float) (joints : List Joint) (count : ℕ) (dt : Float) 
     b = joint .«body_b»
 
     -- its numbers passed refusal 9
-    numbers : T (frameOk (joint .«frame_a»)) × T (frameOk (joint .«frame_b»)) × T (kindOk (joint .kind))
+    numbers : T (frameOk (joint .«frame_a»)) × T (frameOk (joint .«frame_b»)) × T (motionsOk (motionsOf (joint .kind)))
     numbers =
-        let n = both (frameOk (joint .«frame_a») && frameOk (joint .«frame_b»)) (kindOk (joint .kind)) (yes-T (ready .numbers k l)) in
+        let n = both (frameOk (joint .«frame_a») && frameOk (joint .«frame_b»)) (motionsOk (motionsOf (joint .kind))) (yes-T (ready .numbers k l)) in
         let f = both (frameOk (joint .«frame_a»)) (frameOk (joint .«frame_b»)) (n .0) in
         (f .0, f .1, n .1)
 
@@ -126,7 +124,7 @@ module _ (bodies : List Float) (joints : List Joint) (count : ℕ) (dt : Float) 
     met-states =
         let at-a = ready .a-there k l in
         let at-b = ready .b-there k l in
-        met joint (bodyIn (r .candidate) a) (bodyIn (r .candidate) b) (rows-of .rows) (rows-of .is) (rows-of .within) (numbers .0) (numbers .1) (kind-in (joint .kind) (numbers .2))
+        met joint (bodyIn (r .candidate) a) (bodyIn (r .candidate) b) (rows-of .rows) (rows-of .is) (rows-of .within) (numbers .0) (numbers .1) (motions-in (motionsOf (joint .kind)) (numbers .2))
         (bodyIn (r .last) a) (bodyIn (r .last) b) (r .stay .same a (in-candidate a at-a)) (r .stay .same b (in-candidate b at-b)) (local a at-a) (local b at-b)
         (old a) (old b) (stateIn states a) (stateIn states b) (state a at-a) (state b at-b) (ground a at-a) (ground b at-b)
 
@@ -137,7 +135,7 @@ module _ (bodies : List Float) (joints : List Joint) (count : ℕ) (dt : Float) 
     proper-records =
         let at-a = stood a (ready .a-there k l) in
         let at-b = stood b (ready .b-there k l) in
-        proper joint _ _ (numbers .0) (numbers .1) (kind-finite (joint .kind) (numbers .2)) (at-a .N-above) (at-b .N-above)
+        proper joint _ _ (numbers .0) (numbers .1) (motions-finite (motionsOf (joint .kind)) (numbers .2)) (at-a .N-above) (at-b .N-above)
 
 -- ---- the ways of a step
 no-refusal : {o : Outcome} → 1 ≤ numberOf o → o ≡ Accepted → ⊥

@@ -1,5 +1,5 @@
 -- `geometry::align_row` meets its contract: one law of `RowLaws` for each return.
-use Rattle.rows.proofs.RowLaws.{align-1, align-2, align-3, single, single-stop, turned-go, turned-stop}
+use Rattle.rows.proofs.RowLaws.{align-no-axis, align-no-gradient, align-is, single, single-stop, turned-go, turned-stop}
 use Rattle.rows.specs.AnswerLaws.{vector-go, vector-stop}
 use borrow.Author.Needs.{needs}
 use Rattle.rows.proofs.geometry.align_row.Statement.{statement}
@@ -15,7 +15,7 @@ enum-told : tie.Need-enum-told
 enum-told c = search needs
 
 returns : tie.Need-returns
-returns c = λ q u. single-stop _ (align-1 _ q _ _ (turned-stop u _ (c .before .before .rotate-as-unit .ensures) (c .enum-told .given .1)))
+returns c = λ q u. single-stop _ (align-no-axis _ q _ _ (turned-stop u _ (c .before .before .rotate-as-unit .ensures) (c .enum-told .given .1)))
 
 cross-requires : tie.Need-cross-requires
 cross-requires c κs = search needs
@@ -35,7 +35,7 @@ returns-2 c =
     let at-axis = at-cross .before .before in
     λ q u.
     single-stop _
-    (align-2 _ q _ _
+    (align-no-gradient _ q _ _
     (turned-go u _ (at-axis .before .before .rotate-as-unit .ensures) (at-axis .axis .given .1))
     (at-cross .cross .ensures) (vector-stop (c .before .before .finite .ensures) (c .enum-told2 .given .1)))
 
@@ -55,7 +55,7 @@ returns-3 c =
     let at-axis = at-cross .before .before in
     λ q u.
     single _
-    (align-3 _ q _ _
+    (align-is _ q _ _
     (turned-go u _ (at-axis .before .before .rotate-as-unit .ensures) (at-axis .axis .given .1))
     (at-cross .cross .ensures) (vector-go (at-gradient .before .before .finite .ensures) (at-gradient .gradient .given .1))
     (c .before .before .neg .ensures) (c .before .dot .ensures) (c .turning .ensures))

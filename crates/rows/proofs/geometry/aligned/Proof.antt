@@ -1,5 +1,5 @@
 -- `geometry::aligned` meets its contract: one law of `RowLaws` for each return.
-use Rattle.rows.proofs.RowLaws.{aligned-1, aligned-2, aligned-3, aligned-4, axis-turned, turned-go, turned-stop}
+use Rattle.rows.proofs.RowLaws.{aligned-no-b, aligned-no-a, aligned-apart, aligned-is, axis-turned, turned-go, turned-stop}
 use Rattle.rows.specs.AnswerLaws.{none-stop, some-go}
 use Rattle.rows.specs.Fault.{arithmeticOverflow}
 use borrow.Author.Needs.{needs}
@@ -16,7 +16,7 @@ enum-told : tie.Need-enum-told
 enum-told c = search needs
 
 returns : tie.Need-returns
-returns c = λ q u. aligned-1 q _ (axis-turned _ (none-stop arithmeticOverflow (c .before .before .rotate-vector .ensures) (c .enum-told .given .1)))
+returns c = λ q u. aligned-no-b q _ (axis-turned _ (none-stop arithmeticOverflow (c .before .before .rotate-vector .ensures) (c .enum-told .given .1)))
 
 rotate-as-unit-requires : tie.Need-rotate-as-unit-requires
 rotate-as-unit-requires c κs = search needs
@@ -32,7 +32,7 @@ returns-2 c =
     let at-turn = c .before .before in
     let at-z = at-turn .before .before in
     λ q u.
-    aligned-2 q _
+    aligned-no-a q _
     (axis-turned _ (some-go arithmeticOverflow (at-z .before .before .rotate-vector .ensures) (at-z .z .given .1)))
     (axis-turned q (turned-stop u _ (at-turn .rotate-as-unit .ensures) (c .enum-told2 .given .1)))
 
@@ -44,7 +44,7 @@ returns-3 c =
     let at-za = c .before .before .before in
     let at-z = at-za .before .before .before .before in
     λ q u.
-    aligned-3 q _
+    aligned-apart q _
     (axis-turned _ (some-go arithmeticOverflow (at-z .before .before .rotate-vector .ensures) (at-z .z .given .1)))
     (axis-turned q (turned-go u _ (at-za .before .before .rotate-as-unit .ensures) (at-za .za .given .1)))
     (c .before .dot .ensures) (c .if1 .taken)
@@ -54,7 +54,7 @@ returns-4 c =
     let at-za = c .before .before .before in
     let at-z = at-za .before .before .before .before in
     λ q u.
-    aligned-4 q _
+    aligned-is q _
     (axis-turned _ (some-go arithmeticOverflow (at-z .before .before .rotate-vector .ensures) (at-z .z .given .1)))
     (axis-turned q (turned-go u _ (at-za .before .before .rotate-as-unit .ensures) (at-za .za .given .1)))
     (c .before .dot .ensures) (c .if1 .left)

@@ -1,5 +1,5 @@
 -- `geometry::gradient_row` meets its contract: one law of `RowLaws` for each return.
-use Rattle.rows.proofs.RowLaws.{gradient-1, gradient-2, single, single-stop, turned-go, turned-stop}
+use Rattle.rows.proofs.RowLaws.{gradient-no-turn, gradient-is, single, single-stop, turned-go, turned-stop}
 use borrow.Author.Needs.{needs}
 use Rattle.rows.proofs.geometry.gradient_row.Statement.{statement}
 use Rattle.rows.proofs.geometry.gradient_row.Tie as tie
@@ -28,7 +28,7 @@ returns c =
     let at-turn = at-angular .before .before in
     λ q u.
     single _
-    (gradient-2 _ q _ _ _ _ (at-turn .before .local-gradient .ensures)
+    (gradient-is _ q _ _ _ _ (at-turn .before .local-gradient .ensures)
     (turned-go u _ (at-turn .rotate-as-unit .ensures) (at-angular .angular .given .1)) (c .before .neg .ensures) (c .turning .ensures))
 
 returns-2 : tie.Need-returns-2
@@ -36,7 +36,7 @@ returns-2 c =
     let at-turn = c .before .before in
     λ q u.
     single-stop _
-    (gradient-1 _ q _ _ _ _ (at-turn .before .local-gradient .ensures) (turned-stop u _ (at-turn .rotate-as-unit .ensures) (c .enum-told .given .1)))
+    (gradient-no-turn _ q _ _ _ _ (at-turn .before .local-gradient .ensures) (turned-stop u _ (at-turn .rotate-as-unit .ensures) (c .enum-told .given .1)))
 
 pub gradient-row-spec : {M : Type 1} → statement M
 gradient-row-spec =

@@ -1,5 +1,5 @@
 -- `geometry::linear_row` meets its contract: one law of `RowLaws` for each return.
-use Rattle.rows.proofs.RowLaws.{linear-1, linear-2, linear-3, linear-4, single, single-stop, turned-go, turned-stop}
+use Rattle.rows.proofs.RowLaws.{linear-no-axis, linear-no-angular-a, linear-no-angular-b, linear-is, single, single-stop, turned-go, turned-stop}
 use Rattle.rows.specs.AnswerLaws.{vector-go, vector-stop}
 use borrow.Author.Needs.{needs}
 use Rattle.rows.proofs.geometry.linear_row.Statement.{statement}
@@ -17,7 +17,7 @@ enum-told c = search needs
 returns : tie.Need-returns
 returns c =
     let at-turn = c .before .before in
-    single-stop _ (linear-1 _ _ _ (turned-stop (at-turn .before .pre .0) _ (at-turn .rotate-as-unit .ensures) (c .enum-told .given .1)))
+    single-stop _ (linear-no-axis _ _ _ (turned-stop (at-turn .before .pre .0) _ (at-turn .rotate-as-unit .ensures) (c .enum-told .given .1)))
 
 cross-requires : tie.Need-cross-requires
 cross-requires c κs = search needs
@@ -43,7 +43,7 @@ returns-2 c =
     let at-axis = at-sub .before .before .before .before in
     let at-turn = at-axis .before .before in
     single-stop _
-    (linear-2 _ _ _
+    (linear-no-angular-a _ _ _
     (turned-go (at-turn .before .pre .0) _ (at-turn .rotate-as-unit .ensures) (at-axis .axis .given .1))
     (at-sub .before .before .cross .ensures) (at-sub .before .cross2 .ensures) (at-sub .sub .ensures)
     (vector-stop (c .before .before .finite .ensures) (c .enum-told2 .given .1)))
@@ -67,7 +67,7 @@ returns-3 c =
     let at-axis = at-sub .before .before .before .before in
     let at-turn = at-axis .before .before in
     single-stop _
-    (linear-3 _ _ _
+    (linear-no-angular-b _ _ _
     (turned-go (at-turn .before .pre .0) _ (at-turn .rotate-as-unit .ensures) (at-axis .axis .given .1))
     (at-sub .before .before .cross .ensures) (at-sub .before .cross2 .ensures) (at-sub .sub .ensures)
     (vector-go (at-a .before .before .finite .ensures) (at-a .angular-a .given .1))
@@ -87,7 +87,7 @@ returns-4 c =
     let at-axis = at-sub .before .before .before .before in
     let at-turn = at-axis .before .before in
     single _
-    (linear-4 _ _ _
+    (linear-is _ _ _
     (turned-go (at-turn .before .pre .0) _ (at-turn .rotate-as-unit .ensures) (at-axis .axis .given .1))
     (at-sub .before .before .cross .ensures) (at-sub .before .cross2 .ensures) (at-sub .sub .ensures)
     (vector-go (at-a .before .before .finite .ensures) (at-a .angular-a .given .1))

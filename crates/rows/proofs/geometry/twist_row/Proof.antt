@@ -1,5 +1,5 @@
 -- `geometry::twist_row` meets its contract: one law of `RowLaws` for each return.
-use Rattle.rows.proofs.RowLaws.{single-stop, twist-1, twist-2, twist-3}
+use Rattle.rows.proofs.RowLaws.{single-stop, twist-refused, twist-half-turn, twist-is}
 use borrow.Author.Needs.{needs}
 use Rattle.rows.proofs.geometry.twist_row.Statement.{statement}
 use Rattle.rows.proofs.geometry.twist_row.Tie as tie
@@ -14,7 +14,7 @@ enum-told : tie.Need-enum-told
 enum-told c = search needs
 
 returns : tie.Need-returns
-returns c = λ q u. single-stop _ (twist-1 _ q _ _ (c .before .before .atan2 .ensures .is) (c .enum-told .given .1))
+returns c = λ q u. single-stop _ (twist-refused _ q _ _ (c .before .before .atan2 .ensures .is) (c .enum-told .given .1))
 
 rem-tau-requires : tie.Need-rem-tau-requires
 rem-tau-requires c κs = search needs
@@ -27,7 +27,7 @@ returns-2 c =
     let at-half = c .before .before .before .before in
     λ q u.
     single-stop _
-    (twist-2 _ q _ _ (at-half .before .before .atan2 .ensures .is) (at-half .half .given .1)
+    (twist-half-turn _ q _ _ (at-half .before .before .atan2 .ensures .is) (at-half .half .given .1)
     (c .before .before .rem-tau .ensures) (c .before .abs .ensures) (c .if1 .taken))
 
 scale-requires : tie.Need-scale-requires
@@ -41,7 +41,7 @@ returns-3 c =
     let at-test = c .before .before .before .before .before .before in
     let at-half = at-test .before .before .before .before in
     λ q u.
-    twist-3 _ q _ _
+    twist-is _ q _ _
     (at-half .before .before .atan2 .ensures .is) (at-half .half .given .1) (at-test .before .before .rem-tau .ensures) (at-test .before .abs .ensures)
     (at-test .if1 .left) (c .before .before .before .scale .ensures) (c .gradient-row .ensures q u)
 

@@ -1,8 +1,10 @@
 -- `geometry::write_align` meets its contract: both rows across, or the failure before them, behind the rows written.
 use Rattle.rows.proofs.AppendLaws.{room-after, room-here}
 use Rattle.rows.proofs.RowLaws.{axis-as}
-use Rattle.rows.proofs.WriteLaws.{align-adds, align-nonconvergent, align-overflow}
+use Rattle.rows.proofs.WriteLaws.{align-adds, align-lost}
+use Rattle.rows.specs.Fault.{arithmeticOverflow, nonConvergent}
 use borrow.Author.Needs.{needs}
+use mathlib.Core.Path.{refl}
 use native.Mathlib.Omega.{arith}
 use Rattle.rows.proofs.geometry.write_align.Statement.{statement}
 use Rattle.rows.proofs.geometry.write_align.Tie as tie
@@ -34,13 +36,17 @@ enum-told : tie.Need-enum-told
 enum-told c = search needs
 
 append-requires-3 : tie.Need-append-requires-3
-append-requires-3 c κs = room-here (c .before .before .before .before .before .pre .0) (omega arith)
+append-requires-3 c κs =
+    let at-told = c .before in
+    room-here (at-told .before .before .before .before .pre .0) (omega arith)
 
 enum-told-2 : tie.Need-enum-told-2
 enum-told-2 c = search needs
 
 append-requires-4 : tie.Need-append-requires-4
-append-requires-4 c κs = room-here (c .before .before .before .before .before .pre .0) (omega arith)
+append-requires-4 c κs =
+    let at-told = c .before in
+    room-here (at-told .before .before .before .before .pre .0) (omega arith)
 
 same-length : tie.Need-same-length
 same-length c = search needs
@@ -64,8 +70,7 @@ returns-2 : tie.Need-returns-2
 returns-2 c =
     let at-told = c .before .before .before .before in
     let at-start = at-told .before .before .before .before in
-    align-nonconvergent
-    (at-start .args .joint) (at-start .args .e)
+    align-lost (at-start .args .joint) (at-start .args .e) nonConvergent refl
     (axis-as (at-told .before .before .aligned .ensures _ (at-start .pre .1)) (at-told .enum-told .given .1)) (c .before .before .append3 .ensures)
 
 same-length-3 : tie.Need-same-length-3
@@ -75,8 +80,7 @@ returns-3 : tie.Need-returns-3
 returns-3 c =
     let at-told = c .before .before .before .before in
     let at-start = at-told .before .before .before .before in
-    align-overflow
-    (at-start .args .joint) (at-start .args .e)
+    align-lost (at-start .args .joint) (at-start .args .e) arithmeticOverflow refl
     (axis-as (at-told .before .before .aligned .ensures _ (at-start .pre .1)) (at-told .enum-told2 .given .1)) (c .before .before .append4 .ensures)
 
 pub write-align-spec : {M : Type 1} → statement M

@@ -1,8 +1,10 @@
 -- `geometry::write_cone` meets its contract: the locked rows of a cone twist, or the failure before them, behind the rows written.
 use Rattle.rows.proofs.AppendLaws.{room-after, room-here}
 use Rattle.rows.proofs.RowLaws.{relative-as}
-use Rattle.rows.proofs.WriteLaws.{cone-adds, cone-nonconvergent, cone-overflow}
+use Rattle.rows.proofs.WriteLaws.{cone-adds, cone-lost}
+use Rattle.rows.specs.Fault.{arithmeticOverflow, nonConvergent}
 use borrow.Author.Needs.{needs}
+use mathlib.Core.Path.{refl}
 use native.Mathlib.Omega.{arith}
 use Rattle.rows.proofs.geometry.write_cone.Statement.{statement}
 use Rattle.rows.proofs.geometry.write_cone.Tie as tie
@@ -50,13 +52,17 @@ enum-told : tie.Need-enum-told
 enum-told c = search needs
 
 append-requires-4 : tie.Need-append-requires-4
-append-requires-4 c κs = room-here (c .before .before .before .before .before .pre .0) (omega arith)
+append-requires-4 c κs =
+    let at-told = c .before in
+    room-here (at-told .before .before .before .before .pre .0) (omega arith)
 
 enum-told-2 : tie.Need-enum-told-2
 enum-told-2 c = search needs
 
 append-requires-5 : tie.Need-append-requires-5
-append-requires-5 c κs = room-here (c .before .before .before .before .before .pre .0) (omega arith)
+append-requires-5 c κs =
+    let at-told = c .before in
+    room-here (at-told .before .before .before .before .pre .0) (omega arith)
 
 same-length : tie.Need-same-length
 same-length c = search needs
@@ -82,8 +88,7 @@ returns-2 : tie.Need-returns-2
 returns-2 c =
     let at-told = c .before .before .before .before in
     let at-start = at-told .before .before .before .before in
-    cone-nonconvergent
-    (at-start .args .joint) (at-start .args .e) (at-start .args .cone)
+    cone-lost (at-start .args .joint) (at-start .args .e) (at-start .args .cone) nonConvergent refl
     (relative-as (at-told .before .before .relative-of .ensures) (at-told .enum-told .given .1)) (c .before .before .append4 .ensures)
 
 same-length-3 : tie.Need-same-length-3
@@ -93,8 +98,7 @@ returns-3 : tie.Need-returns-3
 returns-3 c =
     let at-told = c .before .before .before .before in
     let at-start = at-told .before .before .before .before in
-    cone-overflow
-    (at-start .args .joint) (at-start .args .e) (at-start .args .cone)
+    cone-lost (at-start .args .joint) (at-start .args .e) (at-start .args .cone) arithmeticOverflow refl
     (relative-as (at-told .before .before .relative-of .ensures) (at-told .enum-told2 .given .1)) (c .before .before .append5 .ensures)
 
 pub write-cone-spec : {M : Type 1} → statement M

@@ -24,7 +24,8 @@ returns : tie.Need-returns
 returns c =
     let at-start = c .before .before .before .before in
     frames-early (at-start .args .joint) (at-start .args .e)
-    (long-row _ _ (tolerance-stop (c .before .before .tolerance .ensures) (c .enum-told .given .1))) _
+    (long-row _ _ (tolerance-stop (c .before .before .tolerance .ensures) (c .enum-told .given .1)))
+    (at-start .args .linear) (at-start .args .turning) _
 
 try-normalize-requires : tie.Need-try-normalize-requires
 try-normalize-requires c κs = search needs
@@ -40,7 +41,8 @@ returns-2 c =
     let at-tolerance = c .before .before .before .before in
     let at-start = at-tolerance .before .before .before .before in
     frames-early (at-start .args .joint) (at-start .args .e)
-    (unturned-row _ _ (sym (c .before .before .try-normalize .ensures) ∙ c .enum-told2 .given .1)) _
+    (unturned-row _ _ (sym (c .before .before .try-normalize .ensures) ∙ c .enum-told2 .given .1))
+    (at-start .args .linear) (at-start .args .turning) _
 
 write-linear-requires : tie.Need-write-linear-requires
 write-linear-requires c κs =
@@ -51,8 +53,8 @@ write-linear-requires c κs =
       tolerance-go (at-tolerance .before .before .tolerance .ensures) (at-tolerance .tolerance2 .given .1),
     )
 
-write-angular-requires : tie.Need-write-angular-requires
-write-angular-requires c κs =
+write-turning-requires : tie.Need-write-turning-requires
+write-turning-requires c κs =
     let at-linear = c .before .before .before in
     let at-unit = at-linear .before .before .before in
     let at-tolerance = at-unit .before .before .before .before in
@@ -67,11 +69,11 @@ enum-known-written c = search needs
 
 values-finite-requires : tie.Need-values-finite-requires
 values-finite-requires c κs =
-    let at-angular = c .before .before .before .before .before .before in
-    let at-linear = at-angular .before .before .before .before in
+    let at-turning = c .before .before .before .before .before .before in
+    let at-linear = at-turning .before .before .before .before in
     let at-unit = at-linear .before .before .before in
     let at-tolerance = at-unit .before .before .before .before in
-    let all = at-angular .write-angular .ensures _ _ (at-linear .write-linear .ensures) in
+    let all = at-turning .write-turning .ensures _ _ (at-linear .write-linear .ensures) in
     let six = at-tolerance .before .before .before .before .pre in
     omega (arith, all .kept .size, all .within, count-rows (c .before .before .written .given .1))
 
@@ -81,12 +83,13 @@ same-length c = search needs
 returns-3 : tie.Need-returns-3
 returns-3 c =
     let at-written = c .before .before .before .before in
-    let at-angular = at-written .before .before .before .before in
-    let at-linear = at-angular .before .before .before .before in
+    let at-turning = at-written .before .before .before .before in
+    let at-linear = at-turning .before .before .before .before in
     let at-unit = at-linear .before .before .before in
     let at-tolerance = at-unit .before .before .before .before in
     let at-start = at-tolerance .before .before .before .before in
-    frames-finite (at-start .args .joint) (at-start .args .e) (at-angular .write-angular .ensures _ _ (at-linear .write-linear .ensures))
+    frames-finite (at-start .args .linear) (at-start .args .turning) (at-start .args .joint) (at-start .args .e)
+    (at-turning .write-turning .ensures _ _ (at-linear .write-linear .ensures))
     (at-written .written .given .1) (c .before .values-finite .ensures _ _) (c .if1 .taken)
 
 enum-told-3 : tie.Need-enum-told-3
@@ -101,12 +104,13 @@ same-length-2 c = search needs
 returns-4 : tie.Need-returns-4
 returns-4 c =
     let at-written = c .before .before .before .before in
-    let at-angular = at-written .before .before .before .before in
-    let at-linear = at-angular .before .before .before .before in
+    let at-turning = at-written .before .before .before .before in
+    let at-linear = at-turning .before .before .before .before in
     let at-unit = at-linear .before .before .before in
     let at-tolerance = at-unit .before .before .before .before in
     let at-start = at-tolerance .before .before .before .before in
-    frames-overflow (at-start .args .joint) (at-start .args .e) (at-angular .write-angular .ensures _ _ (at-linear .write-linear .ensures))
+    frames-overflow (at-start .args .linear) (at-start .args .turning) (at-start .args .joint) (at-start .args .e)
+    (at-turning .write-turning .ensures _ _ (at-linear .write-linear .ensures))
     (at-written .written .given .1) (c .before .values-finite .ensures _ _) (c .if1 .left)
 
 same-length-3 : tie.Need-same-length-3
@@ -114,12 +118,13 @@ same-length-3 c = search needs
 
 returns-5 : tie.Need-returns-5
 returns-5 c =
-    let at-angular = c .before .before .before .before in
-    let at-linear = at-angular .before .before .before .before in
+    let at-turning = c .before .before .before .before in
+    let at-linear = at-turning .before .before .before .before in
     let at-unit = at-linear .before .before .before in
     let at-tolerance = at-unit .before .before .before .before in
     let at-start = at-tolerance .before .before .before .before in
-    frames-lost (at-start .args .joint) (at-start .args .e) (at-angular .write-angular .ensures _ _ (at-linear .write-linear .ensures))
+    frames-lost (at-start .args .linear) (at-start .args .turning) (at-start .args .joint) (at-start .args .e)
+    (at-turning .write-turning .ensures _ _ (at-linear .write-linear .ensures))
     Written.NonConvergent nonConvergent refl refl (c .enum-told3 .given .1)
 
 same-length-4 : tie.Need-same-length-4
@@ -127,12 +132,13 @@ same-length-4 c = search needs
 
 returns-6 : tie.Need-returns-6
 returns-6 c =
-    let at-angular = c .before .before .before .before in
-    let at-linear = at-angular .before .before .before .before in
+    let at-turning = c .before .before .before .before in
+    let at-linear = at-turning .before .before .before .before in
     let at-unit = at-linear .before .before .before in
     let at-tolerance = at-unit .before .before .before .before in
     let at-start = at-tolerance .before .before .before .before in
-    frames-lost (at-start .args .joint) (at-start .args .e) (at-angular .write-angular .ensures _ _ (at-linear .write-linear .ensures))
+    frames-lost (at-start .args .linear) (at-start .args .turning) (at-start .args .joint) (at-start .args .e)
+    (at-turning .write-turning .ensures _ _ (at-linear .write-linear .ensures))
     Written.ArithmeticOverflow arithmeticOverflow refl refl (c .enum-told4 .given .1)
 
 pub write-frames-spec : {M : Type 1} → statement M
@@ -148,7 +154,7 @@ write-frames-spec =
     enum-told-2
     returns-2
     write-linear-requires
-    write-angular-requires
+    write-turning-requires
     enum-known-written
     values-finite-requires
     same-length

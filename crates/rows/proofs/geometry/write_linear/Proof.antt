@@ -6,8 +6,8 @@ use native.Mathlib.Omega.{arith}
 use Rattle.rows.proofs.geometry.write_linear.Statement.{statement}
 use Rattle.rows.proofs.geometry.write_linear.Tie as tie
 
-linear-axes-requires : tie.Need-linear-axes-requires
-linear-axes-requires c κs = search needs
+axes-of-requires : tie.Need-axes-of-requires
+axes-of-requires c κs = search needs
 
 linear-row-if-requires : tie.Need-linear-row-if-requires
 linear-row-if-requires c κs =
@@ -53,7 +53,7 @@ returns c =
     let at-one = at-two .before .before .before .before .before in
     let at-start = at-one .before .before .before .before .before in
     linear-adds
-    (at-start .args .joint) (at-start .args .e) (at-one .before .before .before .linear-axes .ensures)
+    (at-start .args .joint) (at-start .args .e) (at-start .args .linear) (at-one .before .before .before .axes-of .ensures)
     (at-one .append .ensures) (at-one .before .before .linear-row-if .ensures)
     (at-two .append2 .ensures) (at-two .before .before .linear-row-if2 .ensures)
     (at-three .append3 .ensures) (at-three .before .before .linear-row-if3 .ensures)
@@ -62,7 +62,7 @@ pub write-linear-spec : {M : Type 1} → statement M
 write-linear-spec =
     tie.close
     (tie.spec
-    linear-axes-requires
+    axes-of-requires
     linear-row-if-requires
     append-requires
     linear-row-if-requires-2
