@@ -18,8 +18,6 @@ use Rattle.vectors.specs.declared.vector.OptionVec3.the-variants as Vector
 use Rattle.vectors.specs.declared.vector.OptionF64.{OptionF64}
 use Rattle.vectors.specs.declared.vector.OptionF64.the-variants as Number
 use Rattle.vectors.specs.declared.quaternion.Quat.{Quat}
-use Rattle.vectors.specs.declared.quaternion.OptionQuat.{OptionQuat}
-use Rattle.vectors.specs.declared.quaternion.OptionQuat.the-variants as Rotation
 use Rattle.vectors.specs.Vector.{vec, axisZ, addOf, subOf, scaleOf, negOf, dotOf, crossOf, tryNormalizeOf}
 use Rattle.vectors.specs.VectorLaws.{zero-vec-is, axis-z-is}
 use Rattle.vectors.specs.Quaternion.{conjugateOf, productOf, quatTryNormalizeOf, rotateAsUnitOf}
