@@ -91,6 +91,10 @@ module _ (s : List ℕ) (seen : Bool) (bodies joints : ℕ) where
       if Fits (marked s JT) joint-room λ _ e. omega arith
 
   module _ {h : Found} (e : h ≡ headOf s seen bodies joints) where
+    pub room-refused : {o : ReadOutcome} → h ≡ found.Refused o → numberOf o ≡ 0 → ⊥
+    unfolding Room
+    room-refused g = subst Fits (sym e ∙ g) head-room
+
     pub room-time-step : h ≡ found.TimeStep → 10 ≤ length s
     unfolding Room
     room-time-step g = (subst Fits (sym e ∙ g) head-room) .0

@@ -112,7 +112,8 @@ module _ (body : RigidBody) (inverse : Mat3) where
     pub new-spin-lost : over ≡ inFrame unit (body .inertia) (body .«angular_velocity») → over ≡ newOf body inverse
     new-spin-lost h = then-stop spun h ∙ by-unit
 
-    module _ {spin v : Vec3} (hs : go spin ≡ inFrame unit (body .inertia) (body .«angular_velocity»)) (ev : v ≡ scaleOf (body .«linear_velocity») (body .mass)) where
+    module _ {spin v : Vec3} (hs : go spin ≡ inFrame unit (body .inertia) (body .«angular_velocity»))
+        (ev : v ≡ scaleOf (body .«linear_velocity») (body .mass)) where
       after-spin : {r : Result MomentumBody} → r ≡ spun spin → r ≡ newOf body inverse
       after-spin e = e ∙ then-go spun hs ∙ by-unit
 
@@ -194,7 +195,8 @@ module _ (self : MomentumBody) (dt : Float) (omega : Vec3) where
   unfolding passOf
   pass-half-lost h = then-stop _ (ap try h)
 
-  module _ {half : Quat} {b : MomentumBody} (hh : go half ≡ integrate (self .rotation) omega (dt ⊗ ratio 1 2)) (eb : b ≡ placedAt self (self .center) half) where
+  module _ {half : Quat} {b : MomentumBody} (hh : go half ≡ integrate (self .rotation) omega (dt ⊗ ratio 1 2))
+      (eb : b ≡ placedAt self (self .center) half) where
     pub pass-omega-lost : over ≡ omegaOf b → stop over ≡ passOf self dt omega
     unfolding passOf
     pass-omega-lost h = then-stop _ (ap try (h ∙ ap omegaOf eb)) ∙ then-go _ (ap try hh)
@@ -292,17 +294,20 @@ module _ (self : MomentumBody) {unit : Quat} (n : UnitOf (self .rotation) unit) 
     origin-lost h = then-stop _ (h ∙ ap tryFinite es) ∙ then-go _ turns
 
     module _ {origin : Vec3} {b : Bool} (ho : go origin ≡ tryFinite s) (en : b ≡ isNormalizedOf (self .rotation)) where
-      -- what `originOf` does with the origin
-      checked : {r : Result Vec3} {x : Bool} → not b ≡ x
-          → r ≡ (returnIf x arithmeticOverflow >>= λ _. worldCenterOfMassOf origin (self .rotation) (self .«center_of_mass») >>= λ _. go origin) → r ≡ originOf self
+      -- what `originOf` does with the origin, b' the answer of its test
+      abbrev tested : Bool → Result Vec3
+      tested b' = do
+        _ ← returnIf b' arithmeticOverflow
+        _ ← worldCenterOfMassOf origin (self .rotation) (self .«center_of_mass»)
+        go origin
+
+      after-origin : {r : Result Vec3} {b' : Bool} → not b ≡ b' → r ≡ tested b' → r ≡ originOf self
       unfolding originOf
-      checked h e =
-          e ∙ ap (λ (x : Bool). returnIf x arithmeticOverflow >>= λ _. worldCenterOfMassOf origin (self .rotation) (self .«center_of_mass») >>= λ _. go origin) (sym h ∙ ap not en)
-          ∙ then-go _ (ho ∙ ap tryFinite es) ∙ then-go _ turns
+      after-origin h e = e ∙ ap tested (sym h ∙ ap not en) ∙ then-go _ (ho ∙ ap tryFinite es) ∙ then-go _ turns
 
       pub origin-not-normalized : not b ≡ true → over ≡ originOf self
       unfolding _>>=_
-      origin-not-normalized h = checked h refl
+      origin-not-normalized h = after-origin h refl
 
       module _ (hn : not b ≡ false) {w : Vec3} (ew : w ≡ addOf t origin) where
         centers : tryFinite w ≡ worldCenterOfMassOf origin (self .rotation) (self .«center_of_mass»)
@@ -311,11 +316,11 @@ module _ (self : MomentumBody) {unit : Quat} (n : UnitOf (self .rotation) unit) 
 
         pub origin-center-lost : over ≡ tryFinite w → over ≡ originOf self
         unfolding _>>=_
-        origin-center-lost h = checked hn (then-stop _ (h ∙ centers))
+        origin-center-lost h = after-origin hn (then-stop _ (h ∙ centers))
 
         pub origin-found : {x : Vec3} → go x ≡ tryFinite w → go origin ≡ originOf self
         unfolding _>>=_
-        origin-found h = checked hn (then-go _ (h ∙ centers))
+        origin-found h = after-origin hn (then-go _ (h ∙ centers))
 
 module _ (self : MomentumBody) (old : BodyState) where
   pub state-without-unit : quatTryNormalizeOf (self .rotation) ≡ None → over ≡ stateOf self old
@@ -336,14 +341,15 @@ module _ (self : MomentumBody) (old : BodyState) where
       unfolding stateOf
       state-angular-lost h = then-stop _ (h ∙ mass-by-unit self _ n) ∙ then-go _ (hl ∙ ap tryFinite el) ∙ then-go _ ho
 
-      module _ {angular : Vec3} {t : Bool} (ha : go angular ≡ inFrame unit (self .«inverse_inertia») (self .spin)) (et : t ≡ (sameVec3 origin (old .origin) && sameQuat (self .rotation) (old .rotation))) where
-        -- one law for both ways: the old transform where the new one compares equal
-        pub state-found : {x : Bool} → t ≡ x
-            → go (cond x (stateWith (old .origin) (old .rotation) linear angular) (stateWith origin (self .rotation) linear angular)) ≡ stateOf self old
+      module _ {angular : Vec3} {t : Bool} (ha : go angular ≡ inFrame unit (self .«inverse_inertia») (self .spin))
+          (et : t ≡ (sameVec3 origin (old .origin) && sameQuat (self .rotation) (old .rotation))) where
+        -- the old transform where the new one compares equal: one law for both ways
+        abbrev stated : Bool → Result BodyState
+        stated b = go (cond b (stateWith (old .origin) (old .rotation) linear angular) (stateWith origin (self .rotation) linear angular))
+
+        pub state-found : {b : Bool} → t ≡ b → stated b ≡ stateOf self old
         unfolding stateOf
-        state-found h =
-            ap (λ (x : Bool). go (cond x (stateWith (old .origin) (old .rotation) linear angular) (stateWith origin (self .rotation) linear angular))) (sym h ∙ et)
-            ∙ then-go _ (ha ∙ mass-by-unit self _ n) ∙ then-go _ (hl ∙ ap tryFinite el) ∙ then-go _ ho
+        state-found h = ap stated (sym h ∙ et) ∙ then-go _ (ha ∙ mass-by-unit self _ n) ∙ then-go _ (hl ∙ ap tryFinite el) ∙ then-go _ ho
 
 -- ---- all of several tests
 pub both-yes : {r a b : Bool} → a ≡ true → r ≡ b → r ≡ (a && b)

@@ -5,5 +5,6 @@ pub mod SearchLaws
 pub mod LeastLaws
 pub mod GradientLaws
 pub mod BlockLaws
+pub mod WalkLaws
 pub mod FactorLaws
 pub mod RefineLaws

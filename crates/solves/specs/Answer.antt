@@ -28,7 +28,7 @@ use Rattle.solves.specs.Solver.{Search, Prepared, Solve}
 use Rattle.solves.specs.declared.path.PathOrder.{PathOrder}
 use Rattle.solves.specs.Path.{Seen, Ending, declined, ended}
 use Rattle.solves.specs.Region.{vecAt, Does}
-use Rattle.solves.specs.View.{searchAt, preparedAt, orderOf, seenOf, generalizedsAt, Shares, Work, SOLUTION, RESIDUAL, GENERALIZED}
+use Rattle.solves.specs.View.{searchAt, preparedAt, orderOf, generalizedsAt, Shares, Work, SOLUTION, RESIDUAL, GENERALIZED}
 
 abbrev pub sumAs : Sum → Result Float
 sumAs (Sums.Value x) = go x
@@ -88,10 +88,6 @@ solveAs r x = endAs (r .end) (r .passes) x
 abbrev pub edgesAs : Bool → List ℕ → Turn (List ℕ) (Unit {0})
 edgesAs true edges = go edges
 edgesAs false edges = stop tt
-
--- a walk that left visited, or declined
-abbrev pub seenAs : PathOrder → List Bool → Turn Seen (Unit {0})
-seenAs r visited = cond (r .found) (go (seenOf (r .order) visited)) (stop tt)
 
 -- the order along the paths, or declined
 abbrev pub orderAs : PathOrder → Turn (List ℕ) (Unit {0})

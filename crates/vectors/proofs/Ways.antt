@@ -1,10 +1,17 @@
 -- The code's answers are the definitions': one law for each way through a function, over plain variables.
-use Prim.Native.Nat.{_^_}
+use Prim.Native.Nat.{ℕ, _+_, _-_, _*_, _^_, _<_}
+use native.Mathlib.Nat.{mul-pos}
+use native.Mathlib.Omega.{arith}
+use lib.Dec.{lit<}
+use lib.IntN.{pos}
 use lib.Ieee as Ieee
-use lib.Ieee.{Float, ofBits, round}
+use lib.Ieee.{Float, nan, inf, fin, binary64, up, down, ofBits, round}
+use lib.Ieee.Fits.{down-pos}
+use lib.Ieee.Scale.{round-same}
+use borrow.Author.Tests.{le-ltb}
 use mathlib.Core.Path.{_≡_, refl, sym, ap, _∙_}
-use mathlib.Core.Bool.{Bool, true, false, not}
-use Rattle.arith.specs.Real.{_⊗_, F, ratio, isFinite}
+use mathlib.Core.Bool.{Bool, true, false, not, cond, _&&_, Bool·beq}
+use Rattle.arith.specs.Real.{_⊕_, _⊖_, _⊗_, F, ratio, isFinite}
 use Rattle.arith.specs.Angle.{sinCosOf}
 use Rattle.arith.specs.declared.angle.Turn.{Turn}
 use Rattle.arith.specs.declared.angle.SinCos.{SinCos}
@@ -34,8 +41,41 @@ pub half-is : F 0x3fe0_0000_0000_0000 ≡ ratio 1 2
 unfolding ofBits round
 half-is = refl
 
+-- ---- is_finite: x - x is +0 for a finite x, else a NaN, which a sum keeps
+abbrev rest : Bool → Float
+rest b = cond b (fin false 0 (pos 0)) nan
+
+zero-round : (c : ℕ) → 0 < c → round binary64 false 0 c ≡ rest true
+zero-round c C = round-same binary64 false 0 c 0 1 C (lit< tt) (omega arith) ∙ (unfold round in refl)
+
+nothing-left : (s : Bool) (a c : ℕ) → 0 < c → Ieee.sum binary64 s a (not s) a c ≡ rest true
+unfolding Ieee.sum
+nothing-left s a c C = at s (le-ltb a a (omega arith)) (omega arith)
+  where
+    at : (s : Bool) {b : Bool} {d : ℕ} → b ≡ false → d ≡ 0
+        → cond (Bool·beq s (not s)) (round binary64 s (a + a) c) (cond b (round binary64 (not s) d c) (round binary64 (s && b) d c)) ≡ rest true
+    at true h e = rw (h, e) (zero-round c C)
+    at false h e = rw (h, e) (zero-round c C)
+
+minus-self : (x : Float) → x ⊖ x ≡ rest (isFinite x)
+unfolding Ieee.sub Ieee.add Ieee.neg isFinite
+minus-self nan = refl
+minus-self (inf true) = refl
+minus-self (inf false) = refl
+minus-self (fin s m e) = nothing-left s (m * up e * down e) (down e * down e) (mul-pos (down-pos e) (down-pos e))
+
+pub finite-sum : (x y z : Float) → Ieee.eq ((x ⊖ x) ⊕ (y ⊖ y) ⊕ (z ⊖ z)) (F 0) ≡ (isFinite x && isFinite y && isFinite z)
+finite-sum x y z = simp minus-self (at (isFinite x) (isFinite y) (isFinite z))
+  where
+    at : (a b c : Bool) → Ieee.eq (rest a ⊕ rest b ⊕ rest c) (F 0) ≡ (a && b && c)
+    at true true true = unfold Ieee.add Ieee.eq ofBits in refl
+    at true true false = unfold Ieee.add Ieee.eq in refl
+    at true false c = unfold Ieee.add Ieee.eq in refl
+    at false b c = unfold Ieee.add Ieee.eq in refl
+
 -- ---- try_normalize
-module _ {A O : Type 0} (finite : A → Bool) (largest : A → Float) (div : A → Float → A) (length : A → Float) (none : O) (some : A → O) (v : A) {b : Bool} (eb : b ≡ finite v) where
+module _ {A O : Type 0} (finite : A → Bool) (largest : A → Float) (div : A → Float → A)
+    (length : A → Float) (none : O) (some : A → O) (v : A) {b : Bool} (eb : b ≡ finite v) where
   abbrev answer : O
   answer = normalizeBy finite largest div length none some v
 

@@ -52,7 +52,7 @@ quatLargestOf q = maxOf (maxOf (maxOf (absOf (q .x)) (absOf (q .y))) (absOf (q .
 abbrev pub quatTryNormalizeOf : Quat → OptionQuat
 quatTryNormalizeOf q = normalizeBy quatFiniteOf quatLargestOf quatDivOf quatLengthOf None Some q
 
--- document 01's test of a rotation (refusal 6): the squares sum to 1 within 2^-44
+-- refusal 6's test of a rotation (SPECIFICATION §5): the squares sum to 1 within 2^-44
 unfoldable pub isNormalizedOf : Quat → Bool
 isNormalizedOf q = quatFiniteOf q && Ieee.le (absOf (quatLengthSquaredOf q ⊖ ratio 1 1)) (ratio 1 (2 ^ 44))
 

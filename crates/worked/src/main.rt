@@ -52,7 +52,7 @@ fn show(bodies: &mut [f64], joints: usize, dt: f64) -> bool {
     let answer = step::solve(bodies, balls(), joints, dt, &mut scratch);
     let outcome = answer.outcome;
     let number = step::number(outcome);
-    let n = plan::report::report(number, answer.nonlinear, answer.linear, bodies, &mut out);
+    let n = report::text::report(number, answer.nonlinear, answer.linear, bodies, &mut out);
     io::write_all(STDOUT_FILENO, &out[..n])
 }
 

@@ -5,7 +5,7 @@ use mathlib.Core.List.{[], _∷_}
 use Prim.Native.Nat.{_^_}
 use lib.Dec.{T}
 use lib.Ieee.{le}
-use Rattle.exact.specs.Rat.{ℚ, qn, leq, _+q_, _*q_, _-q_, _≤q_, _<q_, ≤q-sub, sub-≤q, cancel-nn}
+use Rattle.exact.specs.Rat.{ℚ, qn, leq, _*q_, _-q_, _≤q_, _<q_, ≤q-sub, sub-≤q, cancel-nn}
 use Rattle.exact.specs.Ring.{var, con, _:-_, _:*_, same, ring}
 use Rattle.exact.specs.Abs.{T-not}
 use Rattle.exact.specs.RingQ.{rv, _⊕_, _⊖_, _⊗_, sameQ, ringQ}

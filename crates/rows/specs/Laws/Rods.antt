@@ -47,11 +47,13 @@ short L l s p h k j =
     let w : Nns ρ H = (k .0, (p, (h, (j .1, (k .1, (j .0, tt)))))) in (
       sub-≤q ((L -q micrometre) *q (L -q micrometre)) s
           (by-nn ρ [] tt H w []
-          (hyp 4 ⊠ (hyp 1 ⊞ hyp 2 ⊞ num 33554431 268435455) ⊞ num 4178679 2097151999999 ⊠ hyp 2 ⊞ hyp 5 ⊞ num 2284492919162096209 17592186044415999999999999)
+          (hyp 4 ⊠ (hyp 1 ⊞ hyp 2 ⊞ num 33554431 268435455) ⊞ num 4178679 2097151999999 ⊠ hyp 2
+          ⊞ hyp 5 ⊞ num 2284492919162096209 17592186044415999999999999)
           (rv 2 ⊖ (rv 0 ⊖ rat μ) ⊗ (rv 0 ⊖ rat μ)) tt),
       sub-≤q s ((L +q micrometre) *q (L +q micrometre))
           (by-nn ρ [] tt H w []
-          (hyp 0 ⊠ (hyp 2 ⊞ num 33554433 268435455 ⊞ hyp 1) ⊞ num 4178679 2097151999999 ⊠ hyp 2 ⊞ hyp 3 ⊞ num 2284528103045903791 17592186044415999999999999)
+          (hyp 0 ⊠ (hyp 2 ⊞ num 33554433 268435455 ⊞ hyp 1) ⊞ num 4178679 2097151999999 ⊠ hyp 2
+          ⊞ hyp 3 ⊞ num 2284528103045903791 17592186044415999999999999)
           ((rv 0 ⊕ rat μ) ⊗ (rv 0 ⊕ rat μ) ⊖ rv 2) tt),
     )
 
@@ -65,11 +67,13 @@ long L l s p h k j =
     let w : Nns ρ H = (k .0, (p, (h, (j .1, (k .1, (j .0, tt)))))) in (
       sub-≤q ((L -q micrometre) *q (L -q micrometre)) s
           (by-nn ρ [] tt H w []
-          (hyp 4 ⊠ (hyp 1 ⊞ hyp 2 ⊞ num 17179869183 268435455) ⊞ num 4178679 2097151999999 ⊠ hyp 2 ⊞ hyp 5 ⊞ num 95927540093306096209 17592186044415999999999999)
+          (hyp 4 ⊠ (hyp 1 ⊞ hyp 2 ⊞ num 17179869183 268435455) ⊞ num 4178679 2097151999999 ⊠ hyp 2
+          ⊞ hyp 5 ⊞ num 95927540093306096209 17592186044415999999999999)
           (rv 2 ⊖ (rv 0 ⊖ rat μ) ⊗ (rv 0 ⊖ rat μ)) tt),
       sub-≤q s ((L +q micrometre) *q (L +q micrometre))
           (by-nn ρ [] tt H w []
-          (hyp 0 ⊠ (hyp 2 ⊞ num 17179869185 268435455 ⊞ hyp 1) ⊞ num 4178679 2097151999999 ⊠ hyp 2 ⊞ hyp 3 ⊞ num 95927575277189903791 17592186044415999999999999)
+          (hyp 0 ⊠ (hyp 2 ⊞ num 17179869185 268435455 ⊞ hyp 1) ⊞ num 4178679 2097151999999 ⊠ hyp 2
+          ⊞ hyp 3 ⊞ num 95927575277189903791 17592186044415999999999999)
           ((rv 0 ⊕ rat μ) ⊗ (rv 0 ⊕ rat μ) ⊖ rv 2) tt),
     )
 

@@ -17,7 +17,8 @@ use Rattle.exact.specs.Grid.{kept-near}
 use Rattle.exact.specs.Val.{val, sg, sgF, has→val, round-has, plus, neg-val, neg-finite}
 
 -- ---- in whole numbers: num / den rounds to g / L, which is at most M / u
-back-whole : (h num den g L u M : ℕ) → num * L * (h * 2) ≤ g * den * (h * 2) + (num * L + h * den) → g * u ≤ M * L → u ≤ L → 0 < h → 0 < L → num * u ≤ (2 * M + 1) * den
+back-whole : (h num den g L u M : ℕ) → num * L * (h * 2) ≤ g * den * (h * 2) + (num * L + h * den)
+    → g * u ≤ M * L → u ≤ L → 0 < h → 0 < L → num * u ≤ (2 * M + 1) * den
 back-whole h num den g L u M a b l H P =
     let a' = mul-le-mul-right u a in
     let b' = mul-le-mul-right (den * (h * 2)) b in
@@ -47,13 +48,16 @@ unfolding iv _+q_ negq
 into false a c C M h = (≤-mk (whole 0 0) (addF (ivF M) (negF (sgF false a c C))) (omega arith), ≤-mk (whole 0 0) (addF (ivF M) (sgF false a c C)) (omega arith))
 into true a c C M h = (≤-mk (whole 0 0) (addF (ivF M) (negF (sgF true a c C))) (omega arith), ≤-mk (whole 0 0) (addF (ivF M) (sgF true a c C)) (omega arith))
 
-pub round-back : (s : Bool) (num den : ℕ) (D : 0 < den) (M : ℕ) → T (finite (round binary64 s num den)) → Abs (val (round binary64 s num den)) M → Abs (sg s num den D) (2 * M + 1)
+pub round-back : (s : Bool) (num den : ℕ) (D : 0 < den) (M : ℕ) → T (finite (round binary64 s num den))
+    → Abs (val (round binary64 s num den)) M → Abs (sg s num den D) (2 * M + 1)
 round-back s num den D M t h =
     let g = grid binary64 num den in
-    let l : g < 2 ^ 2098 = under s (kept 53 (num * 2 ^ 1074) den) (drop 53 (num * 2 ^ 1074) den) (subst (λ (z : Float). T (finite z)) (round-is binary64 s num den) t) in
+    let l : g < 2 ^ 2098 =
+    under s (kept 53 (num * 2 ^ 1074) den) (drop 53 (num * 2 ^ 1074) den) (subst (λ (z : Float). T (finite z)) (round-is binary64 s num den) t) in
     let v = has→val (round binary64 s num den) s g (2 ^ 1074) (pow-pos 1074) (round-has s num den l) in
     let n = kept-near 53 (num * 2 ^ 1074) den (zero-lt-suc 52) D in
-    into s num den D (2 * M + 1) (back-whole (2 ^ 52) num den g (2 ^ 1074) U M (n .1) (out s g (2 ^ 1074) (pow-pos 1074) M (subst (λ z. Abs z M) (v .1) h)) U-le (pow-pos 52) (pow-pos 1074))
+    into s num den D (2 * M + 1) (back-whole (2 ^ 52) num den g (2 ^ 1074) U M (n .1)
+    (out s g (2 ^ 1074) (pow-pos 1074) M (subst (λ z. Abs z M) (v .1) h)) U-le (pow-pos 52) (pow-pos 1074))
 
 -- ---- a sum is such a rounded fraction
 pub record Rounds (z : Float) (v : ℚ) : Type 0 where
@@ -87,15 +91,21 @@ sum-rounds false a false b c C = record { sign = false; num = a + b; den = c; de
 sum-rounds true a true b c C = record { sign = true; num = a + b; den = c; den-pos = C; is = refl; value = plus' a b c C }
 sum-rounds false a true b c C = go (ltb a b) (ltb→lt a b) (nltb→le a b)
   where
-    go : (x : Bool) → (T x → a < b) → (T (not x) → b ≤ a) → Rounds (cond x (round binary64 true (b - a) c) (round binary64 false (a - b) c)) (sg false a c C +q sg true b c C)
+    go : (x : Bool) → (T x → a < b) → (T (not x) → b ≤ a)
+        → Rounds (cond x (round binary64 true (b - a) c) (round binary64 false (a - b) c)) (sg false a c C +q sg true b c C)
     go true p q = let p' = p tt in record { sign = true; num = b - a; den = c; den-pos = C; is = refl; value = less a b (b - a) c C (omega arith) .0 }
     go false p q = let q' = q tt in record { sign = false; num = a - b; den = c; den-pos = C; is = refl; value = more a b (a - b) c C (omega arith) .0 }
 sum-rounds true a false b c C = go (ltb a b) (ltb→lt a b) (nltb→le a b) (ltb b a) (nltb→le b a)
   where
-    go : (x : Bool) → (T x → a < b) → (T (not x) → b ≤ a) → (y : Bool) → (T (not y) → a ≤ b) → Rounds (cond x (round binary64 false (b - a) c) (round binary64 y (a - b) c)) (sg true a c C +q sg false b c C)
+    go : (x : Bool) → (T x → a < b) → (T (not x) → b ≤ a) → (y : Bool) → (T (not y) → a ≤ b)
+        → Rounds (cond x (round binary64 false (b - a) c) (round binary64 y (a - b) c)) (sg true a c C +q sg false b c C)
     go true p q y r = let p' = p tt in record { sign = false; num = b - a; den = c; den-pos = C; is = refl; value = less a b (b - a) c C (omega arith) .1 }
     go false p q true r = let q' = q tt in record { sign = true; num = a - b; den = c; den-pos = C; is = refl; value = more a b (a - b) c C (omega arith) .1 }
-    go false p q false r = let q' = q tt in let r' = r tt in record { sign = false; num = a - b; den = c; den-pos = C; is = refl; value = zero-sign false (a - b) c C (omega arith) ∙ more a b (a - b) c C (omega arith) .1 }
+    go false p q false r =
+        let q' = q tt in
+        let r' = r tt in
+        let v = zero-sign false (a - b) c C (omega arith) ∙ more a b (a - b) c C (omega arith) .1 in
+        record { sign = false; num = a - b; den = c; den-pos = C; is = refl; value = v }
 
 widen-l : (s : Bool) (a x y : ℕ) (X : 0 < x) (Y : 0 < y) → sg s (a * y) (x * y) (mul-pos X Y) ≡ sg s a x X
 widen-l false a x y X Y = Quot·sound (omega arith)
@@ -117,8 +127,13 @@ add-rounds (fin s m e) (fin t n d) p q =
     (sum-rounds s (m * up e * down d) t (n * up d * down e) (down e * down d) (mul-pos (down-pos e) (down-pos d)))
 
 pub rounds-back : (z : Float) (v : ℚ) → Rounds z v → (M : ℕ) → T (finite z) → Abs (val z) M → Abs v (2 * M + 1)
-rounds-back z v r M t h = subst (λ w. Abs w (2 * M + 1)) (r .value) (round-back (r .sign) (r .num) (r .den) (r .den-pos) M (subst (λ w. T (finite w)) (r .is) t) (subst (λ w. Abs (val w) M) (r .is) h))
+rounds-back z v r M t h =
+    subst (λ w. Abs w (2 * M + 1)) (r .value)
+    (round-back (r .sign) (r .num) (r .den) (r .den-pos) M (subst (λ w. T (finite w)) (r .is) t) (subst (λ w. Abs (val w) M) (r .is) h))
 
-pub sub-back : (x y : Float) (M : ℕ) → T (finite x) → T (finite y) → T (finite (sub binary64 x y)) → Abs (val (sub binary64 x y)) M → Abs (val x -q val y) (2 * M + 1)
+pub sub-back : (x y : Float) (M : ℕ) → T (finite x) → T (finite y) → T (finite (sub binary64 x y))
+    → Abs (val (sub binary64 x y)) M → Abs (val x -q val y) (2 * M + 1)
 unfolding sub
-sub-back x y M p q t h = subst (λ w. Abs (val x +q w) (2 * M + 1)) (neg-val y) (rounds-back (add binary64 x (neg y)) (val x +q val (neg y)) (add-rounds x (neg y) p (neg-finite y q)) M t h)
+sub-back x y M p q t h =
+    subst (λ w. Abs (val x +q w) (2 * M + 1)) (neg-val y)
+    (rounds-back (add binary64 x (neg y)) (val x +q val (neg y)) (add-rounds x (neg y) p (neg-finite y q)) M t h)

@@ -30,7 +30,8 @@ returns c =
     let at-local = c .before .before .before in
     let at-rotate-as-unit = at-local .before .before in
     let at-conjugate = at-rotate-as-unit .before in
-    framed _ _ _ (at-conjugate .conjugate .ensures) (some-go arithmeticOverflow (at-rotate-as-unit .rotate-as-unit .ensures) (at-local .local .given .1)) (c .before .apply .ensures)
+    framed _ _ _ (at-conjugate .conjugate .ensures) (some-go arithmeticOverflow (at-rotate-as-unit .rotate-as-unit .ensures) (at-local .local .given .1))
+    (c .before .apply .ensures)
     (ap (vectorOr arithmeticOverflow) (c .rotate-as-unit2 .ensures))
 
 returns-2 : tie.Need-returns-2

@@ -25,7 +25,8 @@ returns : tie.Need-returns
 returns c =
     let at-turned = c .before .before .before in
     let at-rotate-as-unit = at-turned .before .before in
-    centered _ _ _ (some-go arithmeticOverflow (at-rotate-as-unit .rotate-as-unit .ensures) (at-turned .turned .given .1)) (c .before .add .ensures) (c .finite .ensures)
+    centered _ _ _ (some-go arithmeticOverflow (at-rotate-as-unit .rotate-as-unit .ensures) (at-turned .turned .given .1)) (c .before .add .ensures)
+    (c .finite .ensures)
 
 returns-2 : tie.Need-returns-2
 returns-2 c =

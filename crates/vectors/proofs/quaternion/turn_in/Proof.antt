@@ -24,8 +24,9 @@ turn-of-requires c κs = search needs
 
 returns-3 : tie.Need-returns-3
 returns-3 c =
-    let at-is-finite = c .before .before .before .before .before in
-    turn-for _ _ (at-is-finite .is-finite .ensures) (c .before .before .before .before .if1 .left) (c .before .before .before .is-finite2 .ensures) (c .before .before .if2 .left) (c .before .scale .ensures) (c .turn-of .ensures)
+    let at-is-finite2 = c .before .before .before in
+    turn-for _ _ (at-is-finite2 .before .before .is-finite .ensures) (at-is-finite2 .before .if1 .left)
+    (at-is-finite2 .is-finite2 .ensures) (c .before .before .if2 .left) (c .before .scale .ensures) (c .turn-of .ensures)
 
 pub turn-in-spec : {M : Type 1} → statement M
 turn-in-spec =

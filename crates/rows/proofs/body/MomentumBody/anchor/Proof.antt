@@ -29,7 +29,8 @@ returns c =
     let at-arm = c .before .before .before in
     let at-rotate-vector = at-arm .before .before in
     let at-sub = at-rotate-vector .before in
-    anchored _ _ (at-sub .sub .ensures) (some-go arithmeticOverflow (at-rotate-vector .rotate-vector .ensures) (at-arm .arm .given .1)) (c .before .add .ensures) (c .finite .ensures)
+    anchored _ _ (at-sub .sub .ensures) (some-go arithmeticOverflow (at-rotate-vector .rotate-vector .ensures) (at-arm .arm .given .1))
+    (c .before .add .ensures) (c .finite .ensures)
 
 returns-2 : tie.Need-returns-2
 returns-2 c =

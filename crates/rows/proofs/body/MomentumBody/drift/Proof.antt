@@ -83,7 +83,8 @@ returns-3 c =
     let at-scale = at-add .before in
     lost _ (c .overflow3 .ensures) refl
     (drift-omega-lost _ _ (at-scale .scale .ensures) (at-add .add .ensures) (vector-go (at-finite .finite .ensures) (at-center .center .given .1))
-    (unit-of (at-try-normalize .try-normalize .ensures) (at-unit .unit .given .1)) (vector-stop (at-in-frame .in-frame .ensures) (c .before .enum-told3 .given .1)))
+    (unit-of (at-try-normalize .try-normalize .ensures) (at-unit .unit .given .1))
+    (vector-stop (at-in-frame .in-frame .ensures) (c .before .enum-told3 .given .1)))
 
 passes-requires : tie.Need-passes-requires
 passes-requires c κs =

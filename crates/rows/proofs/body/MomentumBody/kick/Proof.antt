@@ -27,7 +27,8 @@ unfolding answerOf
 returns c =
     let at-finite = c .before .before .before in
     let at-add = at-finite .before in
-    lost _ (c .overflow .ensures) refl (kick-momentum-lost _ _ _ (at-add .add .ensures) (vector-stop (at-finite .finite .ensures) (c .before .enum-told .given .1)))
+    lost _ (c .overflow .ensures) refl
+    (kick-momentum-lost _ _ _ (at-add .add .ensures) (vector-stop (at-finite .finite .ensures) (c .before .enum-told .given .1)))
 
 add-requires-2 : tie.Need-add-requires-2
 add-requires-2 c κs = search needs

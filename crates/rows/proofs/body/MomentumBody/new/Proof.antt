@@ -28,7 +28,8 @@ unfolding answerOf
 returns c =
     let at-enum-told = c .before .before in
     let at-try-normalize = at-enum-told .before .before in
-    lost _ (c .overflow .ensures) (c .before .standing .ensures) (new-without-unit _ _ (sym (at-try-normalize .try-normalize .ensures) ∙ at-enum-told .enum-told .given .1))
+    lost _ (c .overflow .ensures) (c .before .standing .ensures)
+    (new-without-unit _ _ (sym (at-try-normalize .try-normalize .ensures) ∙ at-enum-told .enum-told .given .1))
 
 in-frame-requires : tie.Need-in-frame-requires
 in-frame-requires c κs = search needs
@@ -53,7 +54,8 @@ returns-2 c =
     let at-unit = at-in-frame .before .before in
     let at-try-normalize = at-unit .before .before in
     lost _ (c .overflow2 .ensures) (c .before .standing2 .ensures)
-    (new-spin-lost _ _ (unit-of (at-try-normalize .try-normalize .ensures) (at-unit .unit .given .1)) (vector-stop (at-in-frame .in-frame .ensures) (at-enum-told2 .enum-told2 .given .1)))
+    (new-spin-lost _ _ (unit-of (at-try-normalize .try-normalize .ensures) (at-unit .unit .given .1))
+    (vector-stop (at-in-frame .in-frame .ensures) (at-enum-told2 .enum-told2 .given .1)))
 
 scale-requires : tie.Need-scale-requires
 scale-requires c κs = search needs
@@ -84,7 +86,8 @@ returns-3 c =
     let at-unit = at-in-frame .before .before in
     let at-try-normalize = at-unit .before .before in
     lost _ (c .overflow3 .ensures) (c .before .standing3 .ensures)
-    (new-momentum-lost _ _ (unit-of (at-try-normalize .try-normalize .ensures) (at-unit .unit .given .1)) (vector-go (at-in-frame .in-frame .ensures) (at-spin .spin .given .1)) (at-scale .scale .ensures)
+    (new-momentum-lost _ _ (unit-of (at-try-normalize .try-normalize .ensures) (at-unit .unit .given .1))
+    (vector-go (at-in-frame .in-frame .ensures) (at-spin .spin .given .1)) (at-scale .scale .ensures)
     (vector-stop (at-finite .finite .ensures) (at-enum-told3 .enum-told3 .given .1)))
 
 world-center-of-mass-requires : tie.Need-world-center-of-mass-requires
@@ -115,7 +118,9 @@ returns-4 c =
     let at-unit = at-in-frame .before .before in
     let at-try-normalize = at-unit .before .before in
     lost _ (c .overflow4 .ensures) (c .before .standing4 .ensures)
-    (new-center-lost _ _ (unit-of (at-try-normalize .try-normalize .ensures) (at-unit .unit .given .1)) (vector-go (at-in-frame .in-frame .ensures) (at-spin .spin .given .1)) (at-scale .scale .ensures) (vector-go (at-finite .finite .ensures) (at-momentum .momentum .given .1))
+    (new-center-lost _ _ (unit-of (at-try-normalize .try-normalize .ensures) (at-unit .unit .given .1))
+    (vector-go (at-in-frame .in-frame .ensures) (at-spin .spin .given .1)) (at-scale .scale .ensures)
+    (vector-go (at-finite .finite .ensures) (at-momentum .momentum .given .1))
     (vector-stop (at-world-center-of-mass .world-center-of-mass .ensures) (at-enum-told4 .enum-told4 .given .1)))
 
 returns-5 : tie.Need-returns-5
@@ -131,7 +136,9 @@ returns-5 c =
     let at-unit = at-in-frame .before .before in
     let at-try-normalize = at-unit .before .before in
     found _ _
-    (new-made _ _ (unit-of (at-try-normalize .try-normalize .ensures) (at-unit .unit .given .1)) (vector-go (at-in-frame .in-frame .ensures) (at-spin .spin .given .1)) (at-scale .scale .ensures) (vector-go (at-finite .finite .ensures) (at-momentum .momentum .given .1))
+    (new-made _ _ (unit-of (at-try-normalize .try-normalize .ensures) (at-unit .unit .given .1))
+    (vector-go (at-in-frame .in-frame .ensures) (at-spin .spin .given .1)) (at-scale .scale .ensures)
+    (vector-go (at-finite .finite .ensures) (at-momentum .momentum .given .1))
     (vector-go (at-world-center-of-mass .world-center-of-mass .ensures) (at-center .center .given .1)))
 
 pub new-spec : {M : Type 1} → statement M

@@ -54,7 +54,8 @@ returns-3 c =
     let at-turned = at-sub .before .before in
     let at-rotate-as-unit = at-turned .before .before in
     let at-entry = at-rotate-as-unit .before in
-    origin-not-normalized _ (at-entry .pre) (some-go arithmeticOverflow (at-rotate-as-unit .rotate-as-unit .ensures) (at-turned .turned .given .1)) (at-sub .sub .ensures) (vector-go (at-finite .finite .ensures) (at-origin .origin .given .1))
+    origin-not-normalized _ (at-entry .pre) (some-go arithmeticOverflow (at-rotate-as-unit .rotate-as-unit .ensures) (at-turned .turned .given .1))
+    (at-sub .sub .ensures) (vector-go (at-finite .finite .ensures) (at-origin .origin .given .1))
     (c .before .is-normalized .ensures) (c .if1 .taken)
 
 add-requires : tie.Need-add-requires
@@ -81,7 +82,8 @@ returns-4 c =
     let at-turned = at-sub .before .before in
     let at-rotate-as-unit = at-turned .before .before in
     let at-entry = at-rotate-as-unit .before in
-    origin-found _ (at-entry .pre) (some-go arithmeticOverflow (at-rotate-as-unit .rotate-as-unit .ensures) (at-turned .turned .given .1)) (at-sub .sub .ensures) (vector-go (at-finite .finite .ensures) (at-origin .origin .given .1))
+    origin-found _ (at-entry .pre) (some-go arithmeticOverflow (at-rotate-as-unit .rotate-as-unit .ensures) (at-turned .turned .given .1))
+    (at-sub .sub .ensures) (vector-go (at-finite .finite .ensures) (at-origin .origin .given .1))
     (at-is-normalized .is-normalized .ensures) (at-if1 .if1 .left) (at-add .add .ensures) (vector-go (at-finite2 .finite2 .ensures) (c .enum-told3 .given .1))
 
 returns-5 : tie.Need-returns-5
@@ -96,7 +98,8 @@ returns-5 c =
     let at-turned = at-sub .before .before in
     let at-rotate-as-unit = at-turned .before .before in
     let at-entry = at-rotate-as-unit .before in
-    origin-center-lost _ (at-entry .pre) (some-go arithmeticOverflow (at-rotate-as-unit .rotate-as-unit .ensures) (at-turned .turned .given .1)) (at-sub .sub .ensures) (vector-go (at-finite .finite .ensures) (at-origin .origin .given .1))
+    origin-center-lost _ (at-entry .pre) (some-go arithmeticOverflow (at-rotate-as-unit .rotate-as-unit .ensures) (at-turned .turned .given .1))
+    (at-sub .sub .ensures) (vector-go (at-finite .finite .ensures) (at-origin .origin .given .1))
     (at-is-normalized .is-normalized .ensures) (at-if1 .if1 .left) (at-add .add .ensures) (vector-stop (at-finite2 .finite2 .ensures) (c .enum-told4 .given .1))
 
 pub origin-spec : {M : Type 1} → statement M

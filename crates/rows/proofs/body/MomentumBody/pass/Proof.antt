@@ -19,7 +19,8 @@ returns : tie.Need-returns
 returns c =
     let at-integrate-as-unit = c .before .before in
     let at-entry = at-integrate-as-unit .before in
-    pass-half-lost _ _ _ (quat-stop arithmeticOverflow (half-turn _ _ _ (at-entry .pre) (at-integrate-as-unit .integrate-as-unit .ensures)) (c .enum-told .given .1))
+    pass-half-lost _ _ _
+    (quat-stop arithmeticOverflow (half-turn _ _ _ (at-entry .pre) (at-integrate-as-unit .integrate-as-unit .ensures)) (c .enum-told .given .1))
 
 turned-requires : tie.Need-turned-requires
 turned-requires c κs = search needs
@@ -40,7 +41,8 @@ returns-2 c =
     let at-half = at-turned .before .before in
     let at-integrate-as-unit = at-half .before .before in
     let at-entry = at-integrate-as-unit .before in
-    pass-omega-lost _ _ _ (quat-go arithmeticOverflow (half-turn _ _ _ (at-entry .pre) (at-integrate-as-unit .integrate-as-unit .ensures)) (at-half .half .given .1))
+    pass-omega-lost _ _ _
+    (quat-go arithmeticOverflow (half-turn _ _ _ (at-entry .pre) (at-integrate-as-unit .integrate-as-unit .ensures)) (at-half .half .given .1))
     (at-turned .turned .ensures) (vector-stop (at-omega .omega .ensures) (c .enum-told2 .given .1))
 
 sub-requires : tie.Need-sub-requires
@@ -65,7 +67,8 @@ returns-3 c =
     let at-half = at-turned .before .before in
     let at-integrate-as-unit = at-half .before .before in
     let at-entry = at-integrate-as-unit .before in
-    pass-residual-lost _ _ _ (quat-go arithmeticOverflow (half-turn _ _ _ (at-entry .pre) (at-integrate-as-unit .integrate-as-unit .ensures)) (at-half .half .given .1))
+    pass-residual-lost _ _ _
+    (quat-go arithmeticOverflow (half-turn _ _ _ (at-entry .pre) (at-integrate-as-unit .integrate-as-unit .ensures)) (at-half .half .given .1))
     (at-turned .turned .ensures) (vector-go (at-omega .omega .ensures) (at-next .next .given .1)) (at-sub .sub .ensures)
     (number-stop arithmeticOverflow (at-checked-length .checked-length .ensures) (c .enum-told3 .given .1))
 
@@ -90,7 +93,8 @@ returns-4 c =
     let at-half = at-turned .before .before in
     let at-integrate-as-unit = at-half .before .before in
     let at-entry = at-integrate-as-unit .before in
-    pass-size-lost _ _ _ (quat-go arithmeticOverflow (half-turn _ _ _ (at-entry .pre) (at-integrate-as-unit .integrate-as-unit .ensures)) (at-half .half .given .1))
+    pass-size-lost _ _ _
+    (quat-go arithmeticOverflow (half-turn _ _ _ (at-entry .pre) (at-integrate-as-unit .integrate-as-unit .ensures)) (at-half .half .given .1))
     (at-turned .turned .ensures) (vector-go (at-omega .omega .ensures) (at-next .next .given .1)) (at-sub .sub .ensures)
     (number-go arithmeticOverflow (at-checked-length .checked-length .ensures) (at-residual .residual .given .1))
     (number-stop arithmeticOverflow (at-checked-length2 .checked-length2 .ensures) (c .enum-told4 .given .1))
@@ -111,7 +115,8 @@ returns-5 c =
     let at-half = at-turned .before .before in
     let at-integrate-as-unit = at-half .before .before in
     let at-entry = at-integrate-as-unit .before in
-    pass-settles _ _ _ (quat-go arithmeticOverflow (half-turn _ _ _ (at-entry .pre) (at-integrate-as-unit .integrate-as-unit .ensures)) (at-half .half .given .1))
+    pass-settles _ _ _
+    (quat-go arithmeticOverflow (half-turn _ _ _ (at-entry .pre) (at-integrate-as-unit .integrate-as-unit .ensures)) (at-half .half .given .1))
     (at-turned .turned .ensures) (vector-go (at-omega .omega .ensures) (at-next .next .given .1)) (at-sub .sub .ensures)
     (number-go arithmeticOverflow (at-checked-length .checked-length .ensures) (at-residual .residual .given .1))
     (number-go arithmeticOverflow (at-checked-length2 .checked-length2 .ensures) (at-size .size .given .1))
@@ -130,7 +135,8 @@ returns-6 c =
     let at-half = at-turned .before .before in
     let at-integrate-as-unit = at-half .before .before in
     let at-entry = at-integrate-as-unit .before in
-    pass-goes-on _ _ _ (quat-go arithmeticOverflow (half-turn _ _ _ (at-entry .pre) (at-integrate-as-unit .integrate-as-unit .ensures)) (at-half .half .given .1))
+    pass-goes-on _ _ _
+    (quat-go arithmeticOverflow (half-turn _ _ _ (at-entry .pre) (at-integrate-as-unit .integrate-as-unit .ensures)) (at-half .half .given .1))
     (at-turned .turned .ensures) (vector-go (at-omega .omega .ensures) (at-next .next .given .1)) (at-sub .sub .ensures)
     (number-go arithmeticOverflow (at-checked-length .checked-length .ensures) (at-residual .residual .given .1))
     (number-go arithmeticOverflow (at-checked-length2 .checked-length2 .ensures) (at-size .size .given .1))

@@ -56,7 +56,8 @@ returns-3 c =
     let at-origin2 = at-div .before .before in
     let at-origin = at-origin2 .before .before in
     state-answered _
-    (state-linear-lost _ _ (vector-go (at-origin .origin .ensures) (at-origin2 .origin2 .given .1)) (at-div .div .ensures) (vector-stop (at-finite .finite .ensures) (c .enum-told3 .given .1)))
+    (state-linear-lost _ _ (vector-go (at-origin .origin .ensures) (at-origin2 .origin2 .given .1)) (at-div .div .ensures)
+    (vector-stop (at-finite .finite .ensures) (c .enum-told3 .given .1)))
 
 in-frame-requires : tie.Need-in-frame-requires
 in-frame-requires c κs = search needs
@@ -78,7 +79,8 @@ returns-4 c =
     let at-unit = at-origin .before .before in
     let at-try-normalize = at-unit .before .before in
     state-answered _
-    (state-angular-lost _ _ (vector-go (at-origin .origin .ensures) (at-origin2 .origin2 .given .1)) (at-div .div .ensures) (vector-go (at-finite .finite .ensures) (at-linear .linear .given .1))
+    (state-angular-lost _ _ (vector-go (at-origin .origin .ensures) (at-origin2 .origin2 .given .1)) (at-div .div .ensures)
+    (vector-go (at-finite .finite .ensures) (at-linear .linear .given .1))
     (unit-of (at-try-normalize .try-normalize .ensures) (at-unit .unit .given .1)) (vector-stop (at-in-frame .in-frame .ensures) (c .enum-told4 .given .1)))
 
 same-transform-requires : tie.Need-same-transform-requires
@@ -96,8 +98,10 @@ returns-5 c =
     let at-unit = at-origin .before .before in
     let at-try-normalize = at-unit .before .before in
     state-answered _
-    (state-found _ _ (vector-go (at-origin .origin .ensures) (at-origin2 .origin2 .given .1)) (at-div .div .ensures) (vector-go (at-finite .finite .ensures) (at-linear .linear .given .1))
-    (unit-of (at-try-normalize .try-normalize .ensures) (at-unit .unit .given .1)) (vector-go (at-in-frame .in-frame .ensures) (at-angular .angular .given .1)) (c .before .same-transform .ensures) (c .if1 .taken))
+    (state-found _ _ (vector-go (at-origin .origin .ensures) (at-origin2 .origin2 .given .1)) (at-div .div .ensures)
+    (vector-go (at-finite .finite .ensures) (at-linear .linear .given .1))
+    (unit-of (at-try-normalize .try-normalize .ensures) (at-unit .unit .given .1)) (vector-go (at-in-frame .in-frame .ensures) (at-angular .angular .given .1))
+    (c .before .same-transform .ensures) (c .if1 .taken))
 
 returns-6 : tie.Need-returns-6
 returns-6 c =
@@ -111,8 +115,10 @@ returns-6 c =
     let at-unit = at-origin .before .before in
     let at-try-normalize = at-unit .before .before in
     state-answered _
-    (state-found _ _ (vector-go (at-origin .origin .ensures) (at-origin2 .origin2 .given .1)) (at-div .div .ensures) (vector-go (at-finite .finite .ensures) (at-linear .linear .given .1))
-    (unit-of (at-try-normalize .try-normalize .ensures) (at-unit .unit .given .1)) (vector-go (at-in-frame .in-frame .ensures) (at-angular .angular .given .1)) (c .before .same-transform .ensures) (c .if1 .left))
+    (state-found _ _ (vector-go (at-origin .origin .ensures) (at-origin2 .origin2 .given .1)) (at-div .div .ensures)
+    (vector-go (at-finite .finite .ensures) (at-linear .linear .given .1))
+    (unit-of (at-try-normalize .try-normalize .ensures) (at-unit .unit .given .1)) (vector-go (at-in-frame .in-frame .ensures) (at-angular .angular .given .1))
+    (c .before .same-transform .ensures) (c .if1 .left))
 
 pub state-spec : {M : Type 1} → statement M
 state-spec =

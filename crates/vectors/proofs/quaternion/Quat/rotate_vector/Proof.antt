@@ -24,12 +24,15 @@ enum-told c = search needs
 
 returns-2 : tie.Need-returns-2
 returns-2 c =
-    let at-if1 = c .before .before .before .before .before in
-    let at-is-finite = at-if1 .before in
-    rotate-by _ _ (at-is-finite .is-finite .ensures) (at-if1 .if1 .left) (c .before .before .before .before .try-normalize .ensures) (c .before .before .rotation .given .1) (c .rotated .ensures)
+    let at-try-normalize = c .before .before .before .before in
+    rotate-by _ _ (at-try-normalize .before .before .is-finite .ensures) (at-try-normalize .before .if1 .left)
+    (at-try-normalize .try-normalize .ensures) (c .before .before .rotation .given .1) (c .rotated .ensures)
 
 returns-3 : tie.Need-returns-3
-returns-3 c = rotate-none _ _ (c .before .before .before .before .is-finite .ensures) (c .before .before .before .if1 .left) (c .before .before .try-normalize .ensures) (c .enum-told .given .1)
+returns-3 c =
+    let at-if1 = c .before .before .before in
+    rotate-none _ _ (at-if1 .before .is-finite .ensures) (at-if1 .if1 .left)
+    (c .before .before .try-normalize .ensures) (c .enum-told .given .1)
 
 pub rotate-vector-spec : {M : Type 1} → statement M
 rotate-vector-spec =
