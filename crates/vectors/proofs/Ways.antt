@@ -27,19 +27,12 @@ use Rattle.vectors.specs.declared.quaternion.OptionQuat.the-variants.{So
 use Rattle.vectors.specs.Vector.{finiteOf, lengthOf, scaleOf, divOf, normalizeBy, checkedLengthOf}
 use Rattle.vectors.specs.Matrix.{zeroMat}
 use Rattle.vectors.specs.Quaternion.{quat, productOf, quatTryNormalizeOf, turnedOf, rotatedOf, rotateVectorOf, rotateAsUnitOf, columnsOf, toMat3Of, smallTurn, deltaOf, deltaIn, turnedBy, integrated, integrateOf, integrateAsUnitOf}
-
 -- ---- the literals of the code
-pub zero-is : F 0 ≡ ratio 0 1
-unfolding ofBits round
-zero-is = refl
+pub use Rattle.arith.specs.Laws.Constants.{zero-is, half-is}
 
 pub tiny-is : F 0x3e45_798e_e230_8c3a ≡ ratio 1 (10 ^ 8)
 unfolding ofBits round
 tiny-is = refl
-
-pub half-is : F 0x3fe0_0000_0000_0000 ≡ ratio 1 2
-unfolding ofBits round
-half-is = refl
 
 -- ---- is_finite: x - x is +0 for a finite x, else a NaN, which a sum keeps
 abbrev rest : Bool → Float

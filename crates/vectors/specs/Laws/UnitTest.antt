@@ -4,7 +4,6 @@ use mathlib.Core.List.{List, [], _∷_}
 use mathlib.Core.Bool.{Bool, true, false, not, cond, _&&_, Bool·beq}
 use mathlib.Core.Quot.{Quot·sound}
 use Prim.Native.Nat.{ℕ, _+_, _*_, _^_}
-use native.Mathlib.Nat.{mul-pos}
 use lib.Dec.{T, leb, leb→le}
 use lib.Ieee.{Float, nan, inf, fin, binary64, up, down, round, neg, add, sub, mul, le}
 use lib.Ieee.Exact.{HasValue}
@@ -14,8 +13,8 @@ use lib.Ieee.Scale.{finite, grid}
 use Rattle.exact.specs.Rat.{ℚ, qn, leq, _+q_, _-q_, _*q_, negq}
 use Rattle.exact.specs.Abs.{U, iv, 0≤, Abs, abs-eq, abs-mono, abs-add, abs-sub}
 use Rattle.exact.specs.RingQ.{Rx, rv, _⊕_, _⊖_, _⊗_, sameQ, ringQ}
-use Rattle.exact.specs.Cert.{nat, Nns, comb, den, by-nn, hyp, num, _⊞_}
-use Rattle.exact.specs.Val.{val, round-has, times}
+use Rattle.exact.specs.Cert.{nat, Nns, comb, den, by-nn, hyp, _⊞_}
+use Rattle.exact.specs.Val.{val, round-has, add-rounds, mul-rounds}
 use Rattle.exact.specs.Sign.{sg-nn}
 use Rattle.exact.specs.Relative.{unsigned}
 use Rattle.exact.specs.Check.{Fx, fv, _+f_, _*f_, err, chk, sound}
@@ -24,7 +23,7 @@ use Rattle.arith.specs.Real.{isFinite, absOf, ratio}
 use Rattle.vectors.specs.declared.quaternion.Quat.{Quat}
 use Rattle.vectors.specs.Quaternion.{quatFiniteOf, isNormalizedOf}
 use Rattle.vectors.specs.Laws.Tests.{finite-of, both, abs-within}
-use Rattle.vectors.specs.Laws.Back.{under, add-rounds, rounds-back, sub-back}
+use Rattle.vectors.specs.Laws.Back.{under, rounds-back, sub-back}
 use Rattle.vectors.specs.Laws.Length.{root-abs}
 use Rattle.vectors.specs.Laws.Fractions.{norm}
 
@@ -83,18 +82,7 @@ unsigned-nn (fin true m e) p = absurd p
 
 -- ---- from a rounded sum of squares back to the squares
 square-back : (x : Float) (M : ℕ) → T (finite x) → T (finite (mul binary64 x x)) → Abs (val (mul binary64 x x)) M → Abs (val x *q val x) (2 * M + 1)
-unfolding mul
-square-back nan M p t h = absurd p
-square-back (inf s) M p t h = absurd p
-square-back (fin s m e) M p t h = rounds-back (mul binary64 (fin s m e) (fin s m e)) (val (fin s m e) *q val (fin s m e))
-    (record {
-      sign = lib.Ieee.unlike s s;
-      num = m * up e * (m * up e);
-      den = down e * down e;
-      den-pos = mul-pos (down-pos e) (down-pos e);
-      is = refl;
-      value = times s s (m * up e) (m * up e) (down e) (down e) (down-pos e) (down-pos e);
-    }) M t h
+square-back x M p t h = rounds-back (mul binary64 x x) (val x *q val x) (mul-rounds x x p p) M t h
 
 shares : (a b : ℚ) (M : ℕ) → 0≤ a → 0≤ b → Abs (a +q b) M → Abs a M × Abs b M
 unfolding sameQ den comb
