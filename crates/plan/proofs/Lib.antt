@@ -1,5 +1,5 @@
 pub mod Bytes
 pub mod Examples
 pub mod Heads
-pub mod Records
+pub mod RecordLaws
 pub mod Readings

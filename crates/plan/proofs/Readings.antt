@@ -4,7 +4,6 @@ use mathlib.Core.Path.{_≡_, refl, sym, _∙_, ap, subst}
 use mathlib.Core.Bool.{Bool, true, false, cond}
 use mathlib.Core.List.{List}
 use native.Mathlib.Omega.{arith}
-use native.Mathlib.Numerals.{add-one}
 use native.Mathlib.Decide.{ℕ-discrete}
 use lib.Dec.{eqb}
 use lib.ListN.{length, getD, set, take, drop, replicate, length-drop, length-set, length-replicate}
@@ -15,7 +14,6 @@ use Rattle.arith.specs.Flow.{turns}
 use Rattle.arith.specs.FlowLaws.{turns-more}
 use Rattle.rows.specs.declared.geometry.Joint.{Joint}
 use Rattle.plan.specs.declared.reader.Plan.{Plan}
-use Rattle.plan.specs.declared.reader.Reading.{Reading}
 use Rattle.plan.specs.declared.reader.ReadOutcome.{ReadOutcome}
 use Rattle.plan.specs.declared.reader.ReadOutcome.the-variants.{Read, NoTimeStep}
 use Rattle.plan.specs.declared.reader.Found.{Found}

@@ -1,6 +1,6 @@
 -- The plan file of SPECIFICATION §12: what a file says, the refusals 13 to 18, and the tables that are read from it.
 -- A file is a list of bytes. The tests and the records below look at its head; what comes after a record is read in the same way.
-use Prim.Native.Nat.{ℕ, zero, suc, _+_, _*_, _≤_, _<_}
+use Prim.Native.Nat.{ℕ, zero, suc, _+_, _*_, _≤_}
 use mathlib.Core.List.{List, [], _∷_}
 use mathlib.Core.Bool.{Bool, true, false, cond, _&&_}
 use lib.Dec.{ltb, leb, eqb}
@@ -8,8 +8,6 @@ use lib.ListN.{length, getD, set, drop, replicate}
 use lib.Seq.{paste}
 use lib.Ieee.{Float, binary64, ofBits}
 use Rattle.arith.specs.Flow.{tab}
-use Rattle.vectors.specs.declared.vector.Vec3.{Vec3}
-use Rattle.vectors.specs.declared.quaternion.Quat.{Quat}
 use Rattle.rows.specs.declared.geometry.JointFrame.{JointFrame}
 use Rattle.rows.specs.declared.geometry.Kind.{Kind}
 use Rattle.rows.specs.declared.geometry.Kind.the-variants.{Ball, Hinge, Cylindrical, Planar, Distance, ConeTwist}
@@ -114,6 +112,9 @@ frameAt s i =
       «local_rotation» = record { x = double s (i + 24); y = double s (i + 32); z = double s (i + 40); w = double s (i + 48) };
     }
 
+abbrev pub coneTwistOf : List ℕ → Kind
+coneTwistOf s = ConeTwist (double s SWING-X) (double s SWING-Y) (double s TWIST-LOWER) (double s TWIST-UPPER)
+
 unfoldable pub kindOf : List ℕ → Kind
 kindOf s =
     cond (eqb (byte s KIND) 0) Ball
@@ -121,7 +122,7 @@ kindOf s =
     (cond (eqb (byte s KIND) 2) Cylindrical
     (cond (eqb (byte s KIND) 3) Planar
     (cond (eqb (byte s KIND) 4) (Distance (double s LENGTH))
-    (ConeTwist (double s SWING-X) (double s SWING-Y) (double s TWIST-LOWER) (double s TWIST-UPPER))))))
+    (coneTwistOf s)))))
 
 unfoldable pub jointOf : List ℕ → Joint
 jointOf s =

@@ -1,3 +1,4 @@
-// The plan file.
+// The plan file: its layout, its records, and its reader.
 mod layout;
 pub mod reader;
+mod records;

@@ -5,13 +5,13 @@ use lib.ListN.{replicate}
 use lib.Ieee.{Float, binary64, ofBits, toBits}
 use Rattle.arith.specs.Flow.{turns}
 use Rattle.plan.specs.File.{readOf, readOn, nextOf, headOf, emptyOf}
-use Rattle.report.specs.Text.{places, decimalOf, hexOf, numberOf, countsOf, bodyLines, acceptedOf, refusedOf, reportOf}
+use Rattle.report.specs.Text.{places, decimalOf, hexOf, numberOf, countsOf, bodyLines, okLine, noLine, headLine, reportOf}
 use Rattle.report.specs.Pose.{poseOf}
 
 -- "NO 10 32 0" and "OK 1 0" with a line end
 texts : reportOf 10 32 0 [] ++ reportOf 0 1 0 []
     ≡ 78 ∷ 79 ∷ 32 ∷ 49 ∷ 48 ∷ 32 ∷ 51 ∷ 50 ∷ 32 ∷ 48 ∷ 10 ∷ 79 ∷ 75 ∷ 32 ∷ 49 ∷ 32 ∷ 48 ∷ 10 ∷ []
-unfolding reportOf acceptedOf refusedOf countsOf decimalOf places bodyLines turns
+unfolding reportOf headLine okLine noLine countsOf decimalOf places bodyLines turns
 texts = refl
 
 -- " bff0000000000000"
@@ -21,5 +21,5 @@ minus-one = refl
 
 -- a file with no time step: "NO 18 0 0" with a line end
 nothing : (scratch : List Float) → poseOf [] scratch .text ≡ 78 ∷ 79 ∷ 32 ∷ 49 ∷ 56 ∷ 32 ∷ 48 ∷ 32 ∷ 48 ∷ 10 ∷ []
-unfolding poseOf readOf readOn nextOf headOf emptyOf reportOf refusedOf countsOf decimalOf places
+unfolding poseOf readOf readOn nextOf headOf emptyOf reportOf headLine noLine countsOf decimalOf places
 nothing scratch = refl

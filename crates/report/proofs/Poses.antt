@@ -36,7 +36,8 @@ module _ (plan : Plan) (scratch : List Float) (few : plan .«body_count» ≤ 16
     pub step-scratch : left ≡ posedAfter (stepOf plan scratch) .scratch
     step-scratch = ap (λ (t : Stepped). t .scratch) stepped
 
-    step-text : {n : ℕ} {b : List Float} → n ≡ stepNumber (s .outcome) → b ≡ part → reportOf n (s .nonlinear) (s .linear) b ≡ posedAfter (stepOf plan scratch) .text
+    step-text : {n : ℕ} {b : List Float} → n ≡ stepNumber (s .outcome) → b ≡ part
+        → reportOf n (s .nonlinear) (s .linear) b ≡ posedAfter (stepOf plan scratch) .text
     step-text {n} {b} e same =
         ap (λ (k : ℕ). reportOf k (s .nonlinear) (s .linear) b) e
         ∙ ap (reportOf (stepNumber (s .outcome)) (s .nonlinear) (s .linear)) same
@@ -44,7 +45,8 @@ module _ (plan : Plan) (scratch : List Float) (few : plan .«body_count» ≤ 16
 
     -- the report is of the bodies that the step left
     pub step-puts : {n : ℕ} {out after : List ℕ} {r : ℕ} → ROOM ≤ length out → n ≡ stepNumber (s .outcome)
-        → Reports n (s .nonlinear) (s .linear) (take used (part ++ drop used (plan .bodies))) out after r → Puts out 0 (posedAfter (stepOf plan scratch) .text) after r
+        → Reports n (s .nonlinear) (s .linear) (take used (part ++ drop used (plan .bodies))) out after r
+        → Puts out 0 (posedAfter (stepOf plan scratch) .text) after r
     step-puts {n} {out} room e h =
         let b : List Float = take used (part ++ drop used (plan .bodies)) in
         let same : b ≡ part = back-part (plan .bodies) (plan .«body_count») long few part kept in
@@ -83,13 +85,15 @@ module _ (file : List ℕ) (scratch : List Float) (out : List ℕ) where
         )
 
     module _ {reading : Reading} {n : ℕ} (e : reading ≡ readOf file emptyOf) (i : n ≡ numberOf (reading .outcome)) where
-      pub poses-read : n ≡ 0 → Puts out 0 (posedAfter (stepOf (reading .plan) scratch) .text) after r → left ≡ posedAfter (stepOf (reading .plan) scratch) .scratch → Poses left after r
+      pub poses-read : n ≡ 0 → Puts out 0 (posedAfter (stepOf (reading .plan) scratch) .text) after r
+          → left ≡ posedAfter (stepOf (reading .plan) scratch) .scratch → Poses left after r
       poses-read z h l =
           let way : posedAfter (stepOf (reading .plan) scratch) ≡ posedBy reading scratch = simp (eq-eqb _ _ (sym i ∙ z)) in
           poses-some (way ∙ posed-by file scratch e) h l
 
       pub poses-refused : (n ≡ 0 → ⊥) → Reports n 0 0 [] out after r → left ≡ scratch → Poses left after r
       poses-refused z h l =
-          let way : record { text = reportOf (numberOf (reading .outcome)) 0 0 []; scratch = scratch } ≡ posedBy reading scratch = simp (ne-eqb _ _ (λ q. z (i ∙ q))) in
+          let way : record { text = reportOf (numberOf (reading .outcome)) 0 0 []; scratch = scratch } ≡ posedBy reading scratch =
+          simp (ne-eqb _ _ (λ q. z (i ∙ q))) in
           let fit : roomOf [] ≤ length out = omega arith in
           poses-some (way ∙ posed-by file scratch e) (puts-as (ap (λ (k : ℕ). reportOf k 0 0 []) i) (report-puts n 0 0 [] out fit h)) l

@@ -1,8 +1,8 @@
 -- Text put into a slice piece by piece.
-use Prim.Native.Nat.{ℕ, zero, suc, _+_, _-_, _*_, _/_, _%_, _^_, _≤_, _<_}
+use Prim.Native.Nat.{ℕ, zero, suc, _+_, _-_, _*_, _/_, _^_, _≤_, _<_}
 use mathlib.Core.Path.{_≡_, refl, sym, _∙_, ap, subst}
-use mathlib.Core.Bool.{Bool, true, false, cond, not, _&&_, _||_, Bool·beq}
-use mathlib.Core.List.{List, [], _∷_, _++_, append-assoc}
+use mathlib.Core.Bool.{Bool, true, false, not, Bool·beq}
+use mathlib.Core.List.{List, [], _∷_, _++_, append-assoc, append-nil}
 use native.Mathlib.Nat.{add-assoc, add-zero, zero-add, le-trans, pow-suc, pow-le-pow-right, div-lt-iff-lt-mul, le-div-iff-mul-le}
 use native.Mathlib.Decide.{decLt}
 use mathlib.Core.Logic.{_⊎_, inl, inr}
@@ -14,10 +14,11 @@ use lib.Seq.{paste, paste-zero, paste-suc, take-all, take-at, drop-at, drop-drop
 use lib.Ieee.{Float, nan, inf, fin, up, down, isNan, eq, binary64, toBits}
 use borrow.Author.Tests.{lt-ltb, le-ltb, lt-leb, le-leb, eq-eqb, ne-eqb}
 use Rattle.io.specs.Counts.{Counts}
-use Rattle.io.specs.Digits.{digits, glyph, Fewest}
-use Rattle.report.specs.Text.{written, Puts, places, decimalOf, hexOf, numberOf, countsOf, numbersOf, bodyLine, bodyLines, acceptedOf, refusedOf, reportOf, roomOf, lengthIn, textIn}
+use Rattle.io.specs.Digits.{digits, Fewest}
+use Rattle.report.specs.Text.{written, Puts, places, decimalOf, hexOf, numberOf, countsOf, numbersOf, bodyLine, bodyLines, okLine}
+use Rattle.report.specs.Text.{noLine, headLine, HEAD-LINE, BODY-LINE, reportOf, roomOf, reportLength, reportOut}
 use Rattle.arith.specs.Flow.{turns}
-use Rattle.report.specs.TextLaws.{places-most, decimal-length, hex-length, counts-length, numbers-more, numbers-length, lines-more, lines-length, report-fits}
+use Rattle.report.specs.TextLaws.{decimal-length, hex-length, numbers-more, numbers-length, lines-more, lines-length, head-length, report-fits}
 
 -- ---- a NaN is what does not equal itself
 
@@ -54,31 +55,35 @@ module _ (out : List ℕ) (at : ℕ) (text : List ℕ) where
   copy-more i h g e =
       ap (λ (l : List ℕ). set l (at + i) (getD text i 0)) e ∙ paste-suc out at text i 0 (omega arith) g ∙ ap (paste out at text) (sym (add-one i))
 
-  pub copy-end : (i : ℕ) {now : List ℕ} → at + length text ≤ length out → i ≤ length text → length text ≤ i → now ≡ paste out at text i → Puts out at text now (at + length text)
+  pub copy-end : (i : ℕ) {now : List ℕ} → at + length text ≤ length out → i ≤ length text → length text ≤ i → now ≡ paste out at text i
+      → Puts out at text now (at + length text)
   copy-end i fit h g e =
       let all : i ≡ length text = omega arith in
       record {
         ends = refl;
         within = fit;
-        holds = e ∙ ap (paste out at text) all ∙ ap (λ (l : List ℕ). take at out ++ l ++ drop (at + length text) out) (take-all (length text) text (omega arith));
+        holds =
+            e ∙ ap (paste out at text) all
+            ∙ ap (λ (l : List ℕ). take at out ++ l ++ drop (at + length text) out) (take-all (length text) text (omega arith));
       }
 
 -- ---- one text after another
 
 module _ (out : List ℕ) (at : ℕ) (s : List ℕ) (h : at + length s ≤ length out) where
-  head-length : length (take at out ++ s) ≡ at + length s
-  head-length = length-append (take at out) s ∙ ap (λ (k : ℕ). k + length s) (length-take-le at out (omega arith))
+  front-length : length (take at out ++ s) ≡ at + length s
+  front-length = length-append (take at out) s ∙ ap (λ (k : ℕ). k + length s) (length-take-le at out (omega arith))
 
   written-length : length (written out at s) ≡ length out
-  written-length = length-append (take at out ++ s) (drop (at + length s) out) ∙ ap (λ (k : ℕ). k + length (drop (at + length s) out)) head-length
+  written-length = length-append (take at out ++ s) (drop (at + length s) out) ∙ ap (λ (k : ℕ). k + length (drop (at + length s) out)) front-length
       ∙ omega (arith, length-drop (at + length s) out)
 
   written-more : (t : List ℕ) → written (written out at s) (at + length s) t ≡ written out at (s ++ t)
   written-more t =
-      ap (λ (l : List ℕ). l ++ t ++ drop (at + length s + length t) (written out at s)) (take-at (take at out ++ s) (drop (at + length s) out) (at + length s) head-length)
+      ap (λ (l : List ℕ). l ++ t ++ drop (at + length s + length t) (written out at s))
+      (take-at (take at out ++ s) (drop (at + length s) out) (at + length s) front-length)
       ∙ ap (λ (l : List ℕ). take at out ++ s ++ t ++ l)
       (sym (drop-drop (length t) (at + length s) (written out at s))
-      ∙ ap (drop (length t)) (drop-at (take at out ++ s) (drop (at + length s) out) (at + length s) head-length)
+      ∙ ap (drop (length t)) (drop-at (take at out ++ s) (drop (at + length s) out) (at + length s) front-length)
       ∙ drop-drop (length t) (at + length s) out)
       ∙ ap (λ (l : List ℕ). l ++ drop (at + length s + length t) out) (append-assoc (take at out) s t)
       ∙ ap (λ (k : ℕ). take at out ++ (s ++ t) ++ drop k out) (add-assoc at (length s) (length t) ∙ ap (λ (k : ℕ). at + k) (sym (length-append s t)))
@@ -103,7 +108,9 @@ module _ {out : List ℕ} {at : ℕ} {s now : List ℕ} {a : ℕ} (p : Puts out 
       record {
         ends = omega (arith, p .ends, q .ends, length-append s t);
         within = omega (arith, q .within, same-length);
-        holds = q .holds ∙ ap (λ (k : ℕ). written now k t) (p .ends) ∙ ap (λ (l : List ℕ). written l (at + length s) t) (p .holds) ∙ written-more out at s fits t;
+        holds =
+            q .holds ∙ ap (λ (k : ℕ). written now k t) (p .ends) ∙ ap (λ (l : List ℕ). written l (at + length s) t) (p .holds)
+            ∙ written-more out at s fits t;
       }
 
 -- ---- digits
@@ -142,7 +149,8 @@ unfolding places
 places-is zero n k h g = omega (arith, g .0)
 places-is (suc f) n k h g = by k h g (split n 10) (places-is f (n / 10))
   where
-    by : (k : ℕ) → k ≤ suc (suc f) → Fewest 10 1 n k → (n < 10) ⊎ (10 ≤ n) → ((j : ℕ) → j ≤ suc f → Fewest 10 1 (n / 10) j → j ≡ places f (n / 10)) → k ≡ places (suc f) n
+    by : (k : ℕ) → k ≤ suc (suc f) → Fewest 10 1 n k → (n < 10) ⊎ (10 ≤ n) → ((j : ℕ) → j ≤ suc f → Fewest 10 1 (n / 10) j → j ≡ places f (n / 10))
+        → k ≡ places (suc f) n
     by k h g (inl l) ih = simp (lt-ltb _ _ l) (one-place n k g l)
     by zero h g (inr l) ih = absurd (omega (arith, g .0))
     by (suc zero) h g (inr l) ih = absurd (let q : n < 10 ^ 1 = g .1 in omega arith)
@@ -186,7 +194,8 @@ module _ (x : Float) {n k : ℕ} {t : List ℕ} (h : n < 2 ^ 64) (i : n ≡ toBi
 pub left : {out : List ℕ} {at : ℕ} {s now : List ℕ} {a : ℕ} → Puts out at s now a → (m k : ℕ) → length s ≤ m → at + (m + k) ≤ length out → a + k ≤ length now
 left p m k h g = omega (arith, p .ends, same-length p)
 
-pub number-puts : (x : Float) {out : List ℕ} {at : ℕ} {one two : List ℕ} {a r : ℕ} → Puts out at (32 ∷ []) one a → Puts one a (hexOf x) two r → Puts out at (numberOf x) two r
+pub number-puts : (x : Float) {out : List ℕ} {at : ℕ} {one two : List ℕ} {a r : ℕ} → Puts out at (32 ∷ []) one a → Puts one a (hexOf x) two r
+    → Puts out at (numberOf x) two r
 unfolding numberOf
 number-puts x p q = puts-then p q
 
@@ -206,37 +215,41 @@ module _ (n m : ℕ) {out : List ℕ} {at : ℕ} (room : at + 42 ≤ length out)
       unfolding countsOf
       counts-puts l = puts-then (puts-then (puts-then p q) r) l
 
-module _ (number n m : ℕ) {out : List ℕ} (room : 66 ≤ length out) {one : List ℕ} {a : ℕ} (p : Puts out 0 (78 ∷ 79 ∷ 32 ∷ []) one a) where
-  pub refused-1 : a + 20 ≤ length one
-  refused-1 = left p 3 20 (omega arith) (omega arith)
+module _ (number n m : ℕ) {out : List ℕ} (room : HEAD-LINE ≤ length out) {one : List ℕ} {a : ℕ} (p : Puts out 0 (78 ∷ 79 ∷ 32 ∷ []) one a) where
+  pub no-1 : a + 20 ≤ length one
+  no-1 = left p 3 20 (omega arith) (omega arith)
 
   module _ {two : List ℕ} {b : ℕ} (q : Puts one a (decimalOf number) two b) where
-    pub refused-2 : b + 1 ≤ length two
-    refused-2 = left (puts-then p q) 23 1 (simp length-append (omega (arith, decimal-length number))) (omega arith)
+    pub no-2 : b + 1 ≤ length two
+    no-2 = left (puts-then p q) 23 1 (simp length-append (omega (arith, decimal-length number))) (omega arith)
 
     module _ {three : List ℕ} {d : ℕ} (r : Puts two b (32 ∷ []) three d) where
-      pub refused-3 : d + 42 ≤ length three
-      refused-3 = left (puts-then (puts-then p q) r) 24 42 (simp length-append (omega (arith, decimal-length number))) (omega arith)
+      pub no-3 : d + 42 ≤ length three
+      no-3 = left (puts-then (puts-then p q) r) 24 42 (simp length-append (omega (arith, decimal-length number))) (omega arith)
 
-      pub refused-puts : {four : List ℕ} {e : ℕ} → Puts three d (countsOf n m) four e → Puts out 0 (refusedOf number n m) four e
-      unfolding refusedOf
-      refused-puts l = puts-then (puts-then (puts-then p q) r) l
+      pub no-puts : {four : List ℕ} {e : ℕ} → Puts three d (countsOf n m) four e → Puts out 0 (noLine number n m) four e
+      unfolding noLine
+      no-puts l = puts-then (puts-then (puts-then p q) r) l
 
-module _ (n m : ℕ) (bodies : List Float) {count : ℕ} (whole : count ≡ length bodies / 26) {out : List ℕ} (room : 66 + 242 * count ≤ length out) {one : List ℕ} {a : ℕ}
-    (p : Puts out 0 (79 ∷ 75 ∷ 32 ∷ []) one a) where
-  pub accepted-1 : a + 42 ≤ length one
-  accepted-1 = left p 3 42 (omega arith) (omega arith)
+module _ (n m : ℕ) {out : List ℕ} (room : HEAD-LINE ≤ length out) {one : List ℕ} {a : ℕ} (p : Puts out 0 (79 ∷ 75 ∷ 32 ∷ []) one a) where
+  pub ok-1 : a + 42 ≤ length one
+  ok-1 = left p 3 42 (omega arith) (omega arith)
 
-  module _ {two : List ℕ} {b : ℕ} (q : Puts one a (countsOf n m) two b) where
-    pub accepted-2 : b + 242 * count ≤ length two
-    accepted-2 = left (puts-then p q) 45 (242 * count) (simp length-append (omega (arith, counts-length n m))) (omega arith)
+  pub ok-puts : {two : List ℕ} {b : ℕ} → Puts one a (countsOf n m) two b → Puts out 0 (okLine n m) two b
+  unfolding okLine
+  ok-puts q = puts-then p q
 
-    pub accepted-puts : {three : List ℕ} {d : ℕ} → Puts two b (bodyLines bodies count) three d → Puts out 0 (acceptedOf n m bodies) three d
-    unfolding acceptedOf
-    accepted-puts l = rw (← whole) (puts-then (puts-then p q) l)
+module _ (number n m : ℕ) {out after : List ℕ} {r : ℕ} where
+  pub head-ok : number ≡ 0 → Puts out 0 (okLine n m) after r → Puts out 0 (headLine number n m) after r
+  unfolding headLine
+  head-ok e p = puts-as (simp (eq-eqb _ _ e)) p
+
+  pub head-no : (number ≡ 0 → ⊥) → Puts out 0 (noLine number n m) after r → Puts out 0 (headLine number n m) after r
+  unfolding headLine
+  head-no e p = puts-as (simp (ne-eqb _ _ e)) p
 
 module _ (bodies : List Float) where
-  module _ (i : ℕ) {out : List ℕ} {at : ℕ} (room : at + 242 ≤ length out) {one : List ℕ} {a : ℕ} (p : Puts out at (decimalOf i) one a) where
+  module _ (i : ℕ) {out : List ℕ} {at : ℕ} (room : at + BODY-LINE ≤ length out) {one : List ℕ} {a : ℕ} (p : Puts out at (decimalOf i) one a) where
     pub line-1 : a + 221 ≤ length one
     line-1 = left p 20 221 (decimal-length i) (omega arith)
 
@@ -258,20 +271,21 @@ module _ (bodies : List Float) where
       pub numbers-room : k < 13 → next + 17 ≤ length now
       numbers-room h = left p (17 * k) 17 (omega (arith, numbers-length bodies from k)) (omega arith)
 
-      pub numbers-puts : {after : List ℕ} {r : ℕ} → Puts now next (numberOf (getD bodies (from + k) nan)) after r → Puts out at (numbersOf bodies from (k + 1)) after r
+      pub numbers-puts : {after : List ℕ} {r : ℕ} → Puts now next (numberOf (getD bodies (from + k) nan)) after r
+          → Puts out at (numbersOf bodies from (k + 1)) after r
       numbers-puts q = puts-as (numbers-more bodies from k) (puts-then p q)
 
       pub numbers-end : k ≤ 13 → 13 ≤ k → Puts out at (numbersOf bodies from 13) now next
       numbers-end h g = let all : k ≡ 13 = omega arith in puts-as (ap (numbersOf bodies from) all) p
 
-  module _ (count : ℕ) {out : List ℕ} {at : ℕ} (room : at + 242 * count ≤ length out) where
+  module _ (count : ℕ) {out : List ℕ} {at : ℕ} (room : at + BODY-LINE * count ≤ length out) where
     pub lines-none : Puts out at (bodyLines bodies 0) out at
     unfolding bodyLines turns
     lines-none = puts-none out at (omega arith)
 
     module _ (i : ℕ) {now : List ℕ} {next : ℕ} (p : Puts out at (bodyLines bodies i) now next) where
-      pub lines-room : i < count → next + 242 ≤ length now
-      lines-room h = left p (242 * i) 242 (lines-length bodies i) (omega arith)
+      pub lines-room : i < count → next + BODY-LINE ≤ length now
+      lines-room h = left p (BODY-LINE * i) BODY-LINE (lines-length bodies i) (omega arith)
 
       pub lines-puts : {after : List ℕ} {r : ℕ} → Puts now next (bodyLine bodies i) after r → Puts out at (bodyLines bodies (i + 1)) after r
       lines-puts q = puts-as (lines-more bodies i) (puts-then p q)
@@ -284,12 +298,14 @@ module _ (bodies : List Float) where
 module _ (number n m : ℕ) (bodies : List Float) (out : List ℕ) where
   -- what `report` ensures of its answer r and of out as it leaves it
   abbrev pub Reports : List ℕ → ℕ → Type 0
-  Reports after r =
-      Counts r after
-      × ((r ≡ lengthIn out (roomOf bodies) (reportOf number n m bodies)) × (after ≡ textIn out (roomOf bodies) (reportOf number n m bodies)))
+  Reports after r = Counts r after × ((r ≡ reportLength number n m bodies out) × (after ≡ reportOut number n m bodies out))
 
   pub report-none : length out < roomOf bodies → Reports out 0
   report-none h = ((omega arith, refl), (simp (lt-leb (roomOf bodies) (length out) h), simp (lt-leb (roomOf bodies) (length out) h)))
+
+  pub report-room : roomOf bodies ≤ length out → {one : List ℕ} {a : ℕ} → Puts out 0 (headLine number n m) one a
+      → a + BODY-LINE * (length bodies / 26) ≤ length one
+  report-room room p = left p HEAD-LINE (BODY-LINE * (length bodies / 26)) (head-length number n m) (omega arith)
 
   module _ (room : roomOf bodies ≤ length out) {after : List ℕ} {r : ℕ} where
     report-some : Puts out 0 (reportOf number n m bodies) after r → Reports after r
@@ -303,13 +319,14 @@ module _ (number n m : ℕ) (bodies : List Float) (out : List ℕ) where
           ),
         )
 
-    pub report-accepted : number ≡ 0 → Puts out 0 (acceptedOf n m bodies) after r → Reports after r
+    pub report-bodies : number ≡ 0 → {one : List ℕ} {a : ℕ} → Puts out 0 (headLine number n m) one a
+        → Puts one a (bodyLines bodies (length bodies / 26)) after r → Reports after r
     unfolding reportOf
-    report-accepted e p = report-some (puts-as (simp (eq-eqb _ _ e)) p)
+    report-bodies e p q = report-some (puts-as (simp (eq-eqb _ _ e)) (puts-then p q))
 
-    pub report-refused : (number ≡ 0 → ⊥) → Puts out 0 (refusedOf number n m) after r → Reports after r
+    pub report-head : (number ≡ 0 → ⊥) → Puts out 0 (headLine number n m) after r → Reports after r
     unfolding reportOf
-    report-refused e p = report-some (puts-as (simp (ne-eqb _ _ e)) p)
+    report-head e p = report-some (puts-as (simp (ne-eqb _ _ e) (sym (append-nil (headLine number n m)))) p)
 
   -- where there is room for it, the report is put whole
   pub report-puts : roomOf bodies ≤ length out → {after : List ℕ} {r : ℕ} → Reports after r → Puts out 0 (reportOf number n m bodies) after r

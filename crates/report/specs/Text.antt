@@ -1,7 +1,7 @@
 -- The text that answers a plan, as ASCII codes: one line of the outcome and the counts, then a line for each body.
-use Prim.Native.Nat.{ℕ, zero, suc, _+_, _*_, _/_, _≤_, _<_}
+use Prim.Native.Nat.{ℕ, zero, suc, _+_, _*_, _/_, _≤_}
 use mathlib.Core.List.{List, [], _∷_, _++_}
-use mathlib.Core.Bool.{Bool, cond}
+use mathlib.Core.Bool.{cond}
 use mathlib.Core.Path.{_≡_}
 use lib.Dec.{ltb, leb, eqb}
 use lib.ListN.{length, getD, take, drop}
@@ -41,23 +41,35 @@ bodyLine bodies i = decimalOf i ++ numbersOf bodies (26 * i) 13 ++ (10 ∷ [])
 unfoldable pub bodyLines : List Float → ℕ → List ℕ
 bodyLines bodies n = turns (λ i text. text ++ bodyLine bodies i) n []
 
--- "OK 3 5\n" and the bodies' lines
-unfoldable pub acceptedOf : ℕ → ℕ → List Float → List ℕ
-acceptedOf nonlinear linear bodies = (79 ∷ 75 ∷ 32 ∷ []) ++ countsOf nonlinear linear ++ bodyLines bodies (length bodies / 26)
+-- "OK 3 5\n"
+unfoldable pub okLine : ℕ → ℕ → List ℕ
+okLine nonlinear linear = (79 ∷ 75 ∷ 32 ∷ []) ++ countsOf nonlinear linear
 
 -- "NO 10 3 5\n"
-unfoldable pub refusedOf : ℕ → ℕ → ℕ → List ℕ
-refusedOf number nonlinear linear = (78 ∷ 79 ∷ 32 ∷ []) ++ decimalOf number ++ (32 ∷ []) ++ countsOf nonlinear linear
+unfoldable pub noLine : ℕ → ℕ → ℕ → List ℕ
+noLine number nonlinear linear = (78 ∷ 79 ∷ 32 ∷ []) ++ decimalOf number ++ (32 ∷ []) ++ countsOf nonlinear linear
 
--- the report: accepted where the number is 0
+-- the first line: accepted where the number is 0
+unfoldable pub headLine : ℕ → ℕ → ℕ → List ℕ
+headLine number nonlinear linear = cond (eqb number 0) (okLine nonlinear linear) (noLine number nonlinear linear)
+
+-- the lines of the bodies, of which an accepted step has some
 unfoldable pub reportOf : ℕ → ℕ → ℕ → List Float → List ℕ
-reportOf number nonlinear linear bodies = cond (eqb number 0) (acceptedOf nonlinear linear bodies) (refusedOf number nonlinear linear)
+reportOf number nonlinear linear bodies =
+    headLine number nonlinear linear ++ cond (eqb number 0) (bodyLines bodies (length bodies / 26)) []
 
 -- ---- where it goes
 
+-- the longest first line, and the longest line of a body
+abbrev pub HEAD-LINE : ℕ
+HEAD-LINE = 66
+
+abbrev pub BODY-LINE : ℕ
+BODY-LINE = 242
+
 -- the space that any report of these bodies fits
 abbrev pub roomOf : List Float → ℕ
-roomOf bodies = 66 + 242 * (length bodies / 26)
+roomOf bodies = HEAD-LINE + BODY-LINE * (length bodies / 26)
 
 -- out with the text at a place in it
 abbrev pub written : List ℕ → ℕ → List ℕ → List ℕ
@@ -75,3 +87,9 @@ lengthIn out room text = cond (leb room (length out)) (length text) 0
 
 abbrev pub textIn : List ℕ → ℕ → List ℕ → List ℕ
 textIn out room text = cond (leb room (length out)) (text ++ drop (length text) out) out
+
+abbrev pub reportLength : ℕ → ℕ → ℕ → List Float → List ℕ → ℕ
+reportLength number nonlinear linear bodies out = lengthIn out (roomOf bodies) (reportOf number nonlinear linear bodies)
+
+abbrev pub reportOut : ℕ → ℕ → ℕ → List Float → List ℕ → List ℕ
+reportOut number nonlinear linear bodies out = textIn out (roomOf bodies) (reportOf number nonlinear linear bodies)

@@ -1,6 +1,6 @@
 -- Laws of the report's text: how long each piece is, and that the room for a report is enough.
-use Prim.Native.Nat.{ℕ, zero, suc, _+_, _*_, _/_, _%_, _≤_, _<_}
-use mathlib.Core.Path.{_≡_, refl, sym, _∙_, ap}
+use Prim.Native.Nat.{ℕ, zero, suc, _+_, _*_, _/_, _%_, _≤_}
+use mathlib.Core.Path.{_≡_, refl, _∙_, ap}
 use mathlib.Core.Bool.{Bool, true, false, cond}
 use mathlib.Core.List.{List, [], _∷_, _++_}
 use native.Mathlib.Numerals.{add-one}
@@ -10,7 +10,8 @@ use lib.ListN.{length, getD, length-append}
 use lib.Ieee.{Float, nan, binary64, toBits}
 use Rattle.io.specs.Digits.{digits, glyph}
 use Rattle.arith.specs.Flow.{turns}
-use Rattle.report.specs.Text.{places, decimalOf, hexOf, numberOf, countsOf, numbersOf, bodyLine, bodyLines, acceptedOf, refusedOf, reportOf, roomOf}
+use Rattle.report.specs.Text.{places, decimalOf, hexOf, numberOf, countsOf, numbersOf, bodyLine, bodyLines, okLine, noLine, headLine, reportOf}
+use Rattle.report.specs.Text.{roomOf, HEAD-LINE, BODY-LINE}
 
 -- ---- digits
 
@@ -56,7 +57,7 @@ module _ (bodies : List Float) where
   numbers-length i (suc k) =
       length-append (numbersOf bodies i k) (numberOf (getD bodies (i + k) nan)) ∙ omega (arith, numbers-length i k, number-length (getD bodies (i + k) nan))
 
-  pub line-length : (i : ℕ) → length (bodyLine bodies i) ≤ 242
+  pub line-length : (i : ℕ) → length (bodyLine bodies i) ≤ BODY-LINE
   unfolding bodyLine
   line-length i = simp length-append (omega (arith, decimal-length i, numbers-length (26 * i) 13))
 
@@ -64,25 +65,33 @@ module _ (bodies : List Float) where
   unfolding bodyLines turns
   lines-more n = rw (add-one n) refl
 
-  pub lines-length : (n : ℕ) → length (bodyLines bodies n) ≤ 242 * n
+  pub lines-length : (n : ℕ) → length (bodyLines bodies n) ≤ BODY-LINE * n
   unfolding bodyLines turns
   lines-length zero = omega arith
   lines-length (suc n) = simp length-append (omega (arith, lines-length n, line-length n))
 
 -- ---- the room for a report is enough
 
-accepted-length : (n m : ℕ) (bodies : List Float) → length (acceptedOf n m bodies) ≤ roomOf bodies
-unfolding acceptedOf
-accepted-length n m bodies = simp length-append (omega (arith, counts-length n m, lines-length bodies (length bodies / 26)))
+ok-length : (n m : ℕ) → length (okLine n m) ≤ HEAD-LINE
+unfolding okLine
+ok-length n m = simp length-append (omega (arith, counts-length n m))
 
-refused-length : (number n m : ℕ) → length (refusedOf number n m) ≤ 66
-unfolding refusedOf
-refused-length number n m = simp length-append (omega (arith, decimal-length number, counts-length n m))
+no-length : (number n m : ℕ) → length (noLine number n m) ≤ HEAD-LINE
+unfolding noLine
+no-length number n m = simp length-append (omega (arith, decimal-length number, counts-length n m))
+
+pub head-length : (number n m : ℕ) → length (headLine number n m) ≤ HEAD-LINE
+unfolding headLine
+head-length number n m = by (eqb number 0)
+  where
+    by : (b : Bool) → length (cond b (okLine n m) (noLine number n m)) ≤ HEAD-LINE
+    by true = ok-length n m
+    by false = no-length number n m
 
 pub report-fits : (number n m : ℕ) (bodies : List Float) → length (reportOf number n m bodies) ≤ roomOf bodies
 unfolding reportOf
 report-fits number n m bodies = by (eqb number 0)
   where
-    by : (b : Bool) → length (cond b (acceptedOf n m bodies) (refusedOf number n m)) ≤ roomOf bodies
-    by true = accepted-length n m bodies
-    by false = omega (arith, refused-length number n m)
+    by : (b : Bool) → length (headLine number n m ++ cond b (bodyLines bodies (length bodies / 26)) []) ≤ roomOf bodies
+    by true = simp length-append (omega (arith, head-length number n m, lines-length bodies (length bodies / 26)))
+    by false = simp length-append (omega (arith, head-length number n m))

@@ -1,13 +1,13 @@
 // The text that answers a plan: one line of the outcome and the counts, then a line for each body.
 ghost use Prim.Native.Nat.{_+_, _*_, _/_, _≤_, _<_};
 ghost use mathlib.Core.Path.{_≡_};
-ghost use lib.ListN.{length, getD};
+ghost use lib.ListN.{length};
 ghost use lib.Ieee.{binary64, toBits};
 ghost use Rattle.io.specs.Counts.{Counts};
 ghost use Rattle.report.specs.Text as Text;
 
 // The longest first line, and the longest line of a body: a count has at most 20 digits.
-const FIRST_LINE: usize = 66;
+const HEAD_LINE: usize = 66;
 
 const BODY_LINE: usize = 242;
 
@@ -22,40 +22,45 @@ pub fn report(
     out: &mut [u8],
 ) -> usize
     ensures { λ r. ⌜ Counts r (now (out .exit)) ⌝ }
-    ensures { λ r. ⌜ r ≡ Text.lengthIn (now (out .entry)) (Text.roomOf (now (bodies .entry))) (Text.reportOf number nonlinear linear (now (bodies .entry))) ⌝ }
-    ensures { λ _. ⌜ now (out .exit) ≡ Text.textIn (now (out .entry)) (Text.roomOf (now (bodies .entry))) (Text.reportOf number nonlinear linear (now (bodies .entry))) ⌝ }
+    ensures { λ r. ⌜ r ≡ Text.reportLength number nonlinear linear (now (bodies .entry)) (now (out .entry)) ⌝ }
+    ensures { λ _. ⌜ now (out .exit) ≡ Text.reportOut number nonlinear linear (now (bodies .entry)) (now (out .entry)) ⌝ }
 {
     let count = bodies.len() / 26;
-    if out.len() < FIRST_LINE {
+    if out.len() < HEAD_LINE {
         return 0;
     }
-    if (out.len() - FIRST_LINE) / BODY_LINE < count {
+    if (out.len() - HEAD_LINE) / BODY_LINE < count {
         return 0;
     }
+    let next = put_head(out, number, nonlinear, linear);
     if number == 0 {
-        return put_accepted(out, nonlinear, linear, bodies, count);
+        return put_bodies(out, next, bodies, count);
     }
-    put_refused(out, number, nonlinear, linear)
+    next
 }
 
-fn put_accepted(
-    out: &mut [u8],
-    nonlinear: usize,
-    linear: usize,
-    bodies: &[f64],
-    count: usize,
-) -> usize
-    requires { ⌜ (66 + 242 * count ≤ length (now out)) × (count ≡ length (now bodies) / 26) ⌝ }
-    ensures { λ r. ⌜ Text.Puts (now (out .entry)) 0 (Text.acceptedOf nonlinear linear (now (bodies .entry))) (now (out .exit)) r ⌝ }
+// The first line.
+fn put_head(out: &mut [u8], number: usize, nonlinear: usize, linear: usize) -> usize
+    requires { ⌜ Text.HEAD-LINE ≤ length (now out) ⌝ }
+    ensures { λ r. ⌜ Text.Puts (now (out .entry)) 0 (Text.headLine number nonlinear linear) (now (out .exit)) r ⌝ }
+{
+    if number == 0 {
+        return put_ok(out, nonlinear, linear);
+    }
+    put_no(out, number, nonlinear, linear)
+}
+
+fn put_ok(out: &mut [u8], nonlinear: usize, linear: usize) -> usize
+    requires { ⌜ Text.HEAD-LINE ≤ length (now out) ⌝ }
+    ensures { λ r. ⌜ Text.Puts (now (out .entry)) 0 (Text.okLine nonlinear linear) (now (out .exit)) r ⌝ }
 {
     let a = put(out, 0, b"OK ");
-    let b = put_counts(out, a, nonlinear, linear);
-    put_bodies(out, b, bodies, count)
+    put_counts(out, a, nonlinear, linear)
 }
 
-fn put_refused(out: &mut [u8], number: usize, nonlinear: usize, linear: usize) -> usize
-    requires { ⌜ 66 ≤ length (now out) ⌝ }
-    ensures { λ r. ⌜ Text.Puts (now (out .entry)) 0 (Text.refusedOf number nonlinear linear) (now (out .exit)) r ⌝ }
+fn put_no(out: &mut [u8], number: usize, nonlinear: usize, linear: usize) -> usize
+    requires { ⌜ Text.HEAD-LINE ≤ length (now out) ⌝ }
+    ensures { λ r. ⌜ Text.Puts (now (out .entry)) 0 (Text.noLine number nonlinear linear) (now (out .exit)) r ⌝ }
 {
     let a = put(out, 0, b"NO ");
     let b = put_decimal(out, a, number as u64);
@@ -74,7 +79,7 @@ fn put_counts(out: &mut [u8], at: usize, nonlinear: usize, linear: usize) -> usi
 }
 
 fn put_bodies(out: &mut [u8], at: usize, bodies: &[f64], count: usize) -> usize
-    requires { ⌜ (at + 242 * count ≤ length (now out)) × (26 * count ≤ length (now bodies)) ⌝ }
+    requires { ⌜ (at + Text.BODY-LINE * count ≤ length (now out)) × (26 * count ≤ length (now bodies)) ⌝ }
     ensures { λ r. ⌜ Text.Puts (now (out .entry)) at (Text.bodyLines (now (bodies .entry)) count) (now (out .exit)) r ⌝ }
 {
     let mut next = at;
@@ -86,8 +91,9 @@ fn put_bodies(out: &mut [u8], at: usize, bodies: &[f64], count: usize) -> usize
     next
 }
 
+// The line of body `i`.
 fn put_body(out: &mut [u8], at: usize, bodies: &[f64], i: usize) -> usize
-    requires { ⌜ (at + 242 ≤ length (now out)) × (26 * i + 26 ≤ length (now bodies)) ⌝ }
+    requires { ⌜ (at + Text.BODY-LINE ≤ length (now out)) × (26 * i + 26 ≤ length (now bodies)) ⌝ }
     ensures { λ r. ⌜ Text.Puts (now (out .entry)) at (Text.bodyLine (now (bodies .entry)) i) (now (out .exit)) r ⌝ }
 {
     let a = put_decimal(out, at, i as u64);
@@ -129,7 +135,7 @@ fn put_decimal(out: &mut [u8], at: usize, n: u64) -> usize
     put(out, at, &digits[..k])
 }
 
-// `to_bits` is not defined at a NaN, which is written as the pattern of document 01.
+// `to_bits` is not defined at a NaN, which is written as the pattern of SPECIFICATION §13.
 fn bits_of(x: f64) -> u64
     ensures { λ r. ⌜ r ≡ toBits binary64 x ⌝ }
 {

@@ -1,4 +1,4 @@
-// Document 01's worked examples that are not starred: each is stepped, and its report written.
+// The worked examples of SPECIFICATION §15 that are not starred: each is stepped, and its report written.
 ghost use Prim.Native.Nat.{_+_, _≤_};
 ghost use lib.ListN.{length};
 use libc::STDOUT_FILENO;

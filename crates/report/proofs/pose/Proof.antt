@@ -30,7 +30,8 @@ step-and-report-requires c κs =
     let at-empty = at-read .before in
     let at-if1 = at-empty .before in
     let start = at-if1 .before .before .before .before in
-    ((read-few _ (at-read .read .ensures ∙ ap (readOf (now (start .args .file))) (at-empty .empty .ensures)) (at-number .number .ensures) (at-if2 .if2 .taken)) .0, at-if1 .if1 .left)
+    let reading = at-read .read .ensures ∙ ap (readOf (now (start .args .file))) (at-empty .empty .ensures) in
+    (read-few _ reading (at-number .number .ensures) (at-if2 .if2 .taken) .0, at-if1 .if1 .left)
 
 same-length : tie.Need-same-length
 same-length c = search needs

@@ -34,13 +34,15 @@ number-requires c κs = search needs
 array-share-prefix-bodies : tie.Need-array-share-prefix-bodies
 array-share-prefix-bodies c =
     let at-solve = c .before .before .before .before in
-    let start = at-solve .before .before .before .before .before .before .before .before in
+    let at-used = at-solve .before .before .before .before in
+    let start = at-used .before .before .before .before in
     back-within (start .args .plan .bodies) (start .args .plan .«body_count») (long start) (start .pre .0) (at-solve .solve .last .0) (at-solve .solve .kept .0)
 
 slice-aggregate-report : tie.Need-slice-aggregate-report
 slice-aggregate-report c =
     let at-solve = c .before .before .before .before .before in
-    let start = at-solve .before .before .before .before .before .before .before .before in
+    let at-used = at-solve .before .before .before .before in
+    let start = at-used .before .before .before .before in
     back-length (start .args .plan .bodies) (start .args .plan .«body_count») (long start) (start .pre .0) (at-solve .solve .last .0) (at-solve .solve .kept .0)
 
 report-requires : tie.Need-report-requires
@@ -57,7 +59,8 @@ returns c =
     let at-report = c .before .before in
     let at-number = at-report .before .before .before in
     let at-solve = at-number .before .before .before .before in
-    let start = at-solve .before .before .before .before .before .before .before .before in
+    let at-used = at-solve .before .before .before .before in
+    let start = at-used .before .before .before .before in
     let plan = start .args .plan in
     let scratch = now (start .args .scratch) in
     let kept = at-solve .solve .kept .0 in

@@ -15,7 +15,7 @@ use Rattle.plan.proofs.reader.+read_on.Lts-read_on as read-on-lts
 use Rattle.plan.proofs.reader.Notes.with_body.Reads as with-body-reads
 use Rattle.plan.proofs.reader.Notes.with_joint.Reads as with-joint-reads
 use Rattle.plan.proofs.reader.Notes.with_time_step.Reads as with-time-step-reads
-use Rattle.plan.proofs.reader.double_at.Reads as double-at-reads
+use Rattle.plan.proofs.records.double_at.Reads as double-at-reads
 use Rattle.plan.proofs.reader.ended.Reads as ended-reads
 use Rattle.plan.proofs.reader.head.Reads as head-reads
 use Rattle.plan.proofs.reader.+read_on.{statement}

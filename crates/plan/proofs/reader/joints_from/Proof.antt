@@ -2,7 +2,7 @@
 use denote.Ref.{now}
 use native.Mathlib.Omega.{arith}
 use Prim.Native.Nat.{_-_, _≤_}
-use mathlib.Core.Path.{_≡_, refl, _∙_}
+use mathlib.Core.Path.{_≡_}
 use lib.ListN.{getD}
 use Rattle.arith.specs.FlowLaws.{turns-none, turns-end}
 use Rattle.plan.specs.Noting.{jointsFrom}

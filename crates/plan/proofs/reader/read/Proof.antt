@@ -1,5 +1,4 @@
 -- `read`: the notes of the whole file, and the tables that are written from them where it was read.
-use denote.Ref.{now}
 use Rattle.plan.proofs.Readings.{read-there, read-filled, read-kept}
 use borrow.Author.Needs.{needs}
 use Rattle.plan.proofs.reader.read.Statement.{statement}

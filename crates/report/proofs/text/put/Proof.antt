@@ -38,7 +38,12 @@ loop-again c =
     let at-loop-test = c .before in
     let at-loop = at-loop-test .before in
     let start = at-loop .before in
-    (omega arith, simp length-set (at-loop .loop .inv .1), copy-more (now (start .args .out)) (start .args .at) (now (start .args .text)) (at-loop .loop .i) (start .pre) (at-loop-test .loop-test .taken) (at-loop .loop .inv .2))
+    let inv = at-loop .loop .inv in (
+      omega arith,
+      simp length-set (inv .1),
+      copy-more (now (start .args .out)) (start .args .at) (now (start .args .text)) (at-loop .loop .i) (start .pre)
+          (at-loop-test .loop-test .taken) (inv .2),
+    )
 
 add-result : tie.Need-add-result Inv-loop μ-loop
 add-result c = omega arith
@@ -50,7 +55,8 @@ returns : tie.Need-returns Inv-loop μ-loop
 returns c =
     let at-loop = c .before in
     let start = at-loop .before in
-    copy-end (now (start .args .out)) (start .args .at) (now (start .args .text)) (at-loop .loop .i) (start .pre) (at-loop .loop .inv .0) (c .loop-test .left) (at-loop .loop .inv .2)
+    copy-end (now (start .args .out)) (start .args .at) (now (start .args .text)) (at-loop .loop .i) (start .pre) (at-loop .loop .inv .0)
+    (c .loop-test .left) (at-loop .loop .inv .2)
 
 pub put-spec : {M : Type 1} → statement M
 put-spec =

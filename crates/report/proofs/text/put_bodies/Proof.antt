@@ -21,7 +21,9 @@ put-body-requires c κs =
     let at-loop-test = c .before in
     let at-loop = at-loop-test .before in
     let start = at-loop .before .before .before in
-    (lines-room (now (start .args .bodies)) (start .args .count) (start .pre .0) (at-loop .loop .i) (at-loop .loop .inv .1) (at-loop-test .loop-test .taken), omega arith)
+    let loop = at-loop .loop in
+    let taken = at-loop-test .loop-test .taken in
+    (lines-room (now (start .args .bodies)) (start .args .count) (start .pre .0) (loop .i) (loop .inv .1) taken, omega arith)
 
 add-i : tie.Need-add-i Inv-loop μ-loop
 add-i c = omega arith
@@ -34,7 +36,9 @@ loop-again c =
     let at-put-body = c .before .before in
     let at-loop = at-put-body .before .before .before in
     let start = at-loop .before .before .before in
-    (omega arith, lines-puts (now (start .args .bodies)) (start .args .count) (start .pre .0) (at-loop .loop .i) (at-loop .loop .inv .1) (at-put-body .put-body .ensures))
+    let loop = at-loop .loop in
+    let line = at-put-body .put-body .ensures in
+    (omega arith, lines-puts (now (start .args .bodies)) (start .args .count) (start .pre .0) (loop .i) (loop .inv .1) line)
 
 same-length : tie.Need-same-length Inv-loop μ-loop
 same-length c = kept (c .before .loop .inv .1)
@@ -43,7 +47,8 @@ returns : tie.Need-returns Inv-loop μ-loop
 returns c =
     let at-loop = c .before in
     let start = at-loop .before .before .before in
-    lines-end (now (start .args .bodies)) (start .args .count) (start .pre .0) (at-loop .loop .i) (at-loop .loop .inv .1) (at-loop .loop .inv .0) (c .loop-test .left)
+    lines-end (now (start .args .bodies)) (start .args .count) (start .pre .0) (at-loop .loop .i) (at-loop .loop .inv .1) (at-loop .loop .inv .0)
+    (c .loop-test .left)
 
 pub put-bodies-spec : {M : Type 1} → statement M
 put-bodies-spec =

@@ -37,7 +37,8 @@ returns c =
     let at-put-state = at-put .before .before .before .before .before in
     let at-put-decimal = at-put-state .before .before .before .before in
     let start = at-put-decimal .before .before .before .before in
-    line-puts (now (start .args .bodies)) (start .args .i) (start .pre .0) (at-put-decimal .put-decimal .ensures) (at-put-state .put-state .ensures) (at-put .put .ensures)
+    line-puts (now (start .args .bodies)) (start .args .i) (start .pre .0) (at-put-decimal .put-decimal .ensures) (at-put-state .put-state .ensures)
+    (at-put .put .ensures)
 
 pub put-body-spec : {M : Type 1} → statement M
 put-body-spec =

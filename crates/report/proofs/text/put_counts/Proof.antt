@@ -32,7 +32,8 @@ put-requires-2 c κs =
     let at-put = at-put-decimal2 .before .before .before .before in
     let at-put-decimal = at-put .before .before .before .before .before in
     let start = at-put-decimal .before .before .before in
-    counts-3 (start .args .nonlinear) (start .args .linear) (start .pre) (at-put-decimal .put-decimal .ensures) (at-put .put .ensures) (at-put-decimal2 .put-decimal2 .ensures)
+    counts-3 (start .args .nonlinear) (start .args .linear) (start .pre) (at-put-decimal .put-decimal .ensures) (at-put .put .ensures)
+    (at-put-decimal2 .put-decimal2 .ensures)
 
 same-length : tie.Need-same-length
 same-length c = search needs
@@ -44,7 +45,8 @@ returns c =
     let at-put = at-put-decimal2 .before .before .before .before in
     let at-put-decimal = at-put .before .before .before .before .before in
     let start = at-put-decimal .before .before .before in
-    counts-puts (start .args .nonlinear) (start .args .linear) (start .pre) (at-put-decimal .put-decimal .ensures) (at-put .put .ensures) (at-put-decimal2 .put-decimal2 .ensures) (at-put2 .put2 .ensures)
+    counts-puts (start .args .nonlinear) (start .args .linear) (start .pre) (at-put-decimal .put-decimal .ensures) (at-put .put .ensures)
+    (at-put-decimal2 .put-decimal2 .ensures) (at-put2 .put2 .ensures)
 
 pub put-counts-spec : {M : Type 1} → statement M
 put-counts-spec =

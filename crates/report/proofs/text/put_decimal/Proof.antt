@@ -28,7 +28,8 @@ returns c =
     let at-put = c .before .before in
     let at-decimal = at-put .before .before .before in
     let start = at-decimal .before .before .before in
-    puts-as (decimal-text (start .args .n) (start .fits .n .fits) (at-decimal .decimal .ensures .1 .0) (at-decimal .decimal .ensures .1 .1)) (at-put .put .ensures)
+    puts-as (decimal-text (start .args .n) (start .fits .n .fits) (at-decimal .decimal .ensures .1 .0) (at-decimal .decimal .ensures .1 .1))
+    (at-put .put .ensures)
 
 pub put-decimal-spec : {M : Type 1} → statement M
 put-decimal-spec =

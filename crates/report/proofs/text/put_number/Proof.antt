@@ -29,7 +29,9 @@ put-requires-2 c κs =
     let at-hex = at-put .before .before .before in
     let at-bits-of = at-hex .before .before in
     let start = at-bits-of .before .before in
-    omega (arith, hex-short (start .args .x) (at-bits-of .bits-of .ok) (at-bits-of .bits-of .ensures) (at-hex .hex .ensures .1 .0) (at-hex .hex .ensures .1 .1), left (at-put .put .ensures) 1 16 (omega arith) (start .pre))
+    let bits = at-bits-of .bits-of in
+    let hex = at-hex .hex .ensures .1 in
+    omega (arith, hex-short (start .args .x) (bits .ok) (bits .ensures) (hex .0) (hex .1), left (at-put .put .ensures) 1 16 (omega arith) (start .pre))
 
 same-length : tie.Need-same-length
 same-length c = search needs
@@ -41,7 +43,10 @@ returns c =
     let at-hex = at-put .before .before .before in
     let at-bits-of = at-hex .before .before in
     let start = at-bits-of .before .before in
-    number-puts (start .args .x) (at-put .put .ensures) (puts-as (hex-text (start .args .x) (at-bits-of .bits-of .ok) (at-bits-of .bits-of .ensures) (at-hex .hex .ensures .1 .0) (at-hex .hex .ensures .1 .1)) (at-put2 .put2 .ensures))
+    let bits = at-bits-of .bits-of in
+    let hex = at-hex .hex .ensures .1 in
+    let text = hex-text (start .args .x) (bits .ok) (bits .ensures) (hex .0) (hex .1) in
+    number-puts (start .args .x) (at-put .put .ensures) (puts-as text (at-put2 .put2 .ensures))
 
 pub put-number-spec : {M : Type 1} → statement M
 put-number-spec =

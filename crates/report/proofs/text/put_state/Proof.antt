@@ -43,7 +43,9 @@ loop-again c =
     let at-put-number = c .before .before in
     let at-loop = at-put-number .before .before .before .before in
     let start = at-loop .before .before .before in
-    (omega arith, numbers-puts (now (start .args .bodies)) (start .args .from) (start .pre .0) (at-loop .loop .k) (at-loop .loop .inv .1) (at-put-number .put-number .ensures))
+    let loop = at-loop .loop in
+    let text = at-put-number .put-number .ensures in
+    (omega arith, numbers-puts (now (start .args .bodies)) (start .args .from) (start .pre .0) (loop .k) (loop .inv .1) text)
 
 same-length : tie.Need-same-length Inv-loop μ-loop
 same-length c = kept (c .before .loop .inv .1)
@@ -52,7 +54,8 @@ returns : tie.Need-returns Inv-loop μ-loop
 returns c =
     let at-loop = c .before in
     let start = at-loop .before .before .before in
-    numbers-end (now (start .args .bodies)) (start .args .from) (start .pre .0) (at-loop .loop .k) (at-loop .loop .inv .1) (at-loop .loop .inv .0) (c .loop-test .left)
+    numbers-end (now (start .args .bodies)) (start .args .from) (start .pre .0) (at-loop .loop .k) (at-loop .loop .inv .1) (at-loop .loop .inv .0)
+    (c .loop-test .left)
 
 pub put-state-spec : {M : Type 1} → statement M
 put-state-spec =

@@ -1,7 +1,7 @@
--- `report`: nothing where there is no room, else one of the two texts.
+-- `report`: nothing where there is no room, else the first line, and the bodies' lines where the step was accepted.
 use denote.Ref.{now}
 use native.Mathlib.Omega.{arith}
-use Rattle.report.proofs.Texts.{report-none, report-accepted, report-refused}
+use Rattle.report.proofs.Texts.{report-none, report-room, report-bodies, report-head}
 use borrow.Author.Needs.{needs}
 use Rattle.report.proofs.text.report.Statement.{statement}
 use Rattle.report.proofs.text.report.Tie as tie
@@ -9,7 +9,8 @@ use Rattle.report.proofs.text.report.Tie as tie
 returns : tie.Need-returns
 returns c =
     let start = c .before .before .before in
-    report-none (start .args .number) (start .args .nonlinear) (start .args .linear) (now (start .args .bodies)) (now (start .args .out)) (omega arith)
+    let args = start .args in
+    report-none (args .number) (args .nonlinear) (args .linear) (now (args .bodies)) (now (args .out)) (omega arith)
 
 sub-if2 : tie.Need-sub-if2
 sub-if2 c = search needs
@@ -17,33 +18,43 @@ sub-if2 c = search needs
 returns-2 : tie.Need-returns-2
 returns-2 c =
     let start = c .before .before .before .before in
-    report-none (start .args .number) (start .args .nonlinear) (start .args .linear) (now (start .args .bodies)) (now (start .args .out)) (omega arith)
+    let args = start .args in
+    report-none (args .number) (args .nonlinear) (args .linear) (now (args .bodies)) (now (args .out)) (omega arith)
 
-put-accepted-requires : tie.Need-put-accepted-requires
-put-accepted-requires c κs = search needs
+put-head-requires : tie.Need-put-head-requires
+put-head-requires c κs = search needs
+
+put-bodies-requires : tie.Need-put-bodies-requires
+put-bodies-requires c κs =
+    let at-put-head = c .before .before .before .before in
+    let start = at-put-head .before .before .before .before .before .before in
+    let args = start .args in
+    let line = at-put-head .put-head .ensures in
+    (report-room (args .number) (args .nonlinear) (args .linear) (now (args .bodies)) (now (args .out)) (omega arith) line, omega arith)
 
 same-length : tie.Need-same-length
 same-length c = search needs
 
 returns-3 : tie.Need-returns-3
 returns-3 c =
-    let at-put-accepted = c .before .before in
-    let at-if3 = at-put-accepted .before .before in
-    let start = at-if3 .before .before .before .before .before in
-    report-accepted (start .args .number) (start .args .nonlinear) (start .args .linear) (now (start .args .bodies)) (now (start .args .out)) (omega arith) (at-if3 .if3 .taken) (at-put-accepted .put-accepted .ensures)
-
-put-refused-requires : tie.Need-put-refused-requires
-put-refused-requires c κs = search needs
+    let at-put-bodies = c .before .before in
+    let at-if3 = at-put-bodies .before .before in
+    let at-put-head = at-if3 .before .before .before in
+    let start = at-put-head .before .before .before .before .before .before in
+    let args = start .args in
+    report-bodies (args .number) (args .nonlinear) (args .linear) (now (args .bodies)) (now (args .out)) (omega arith) (at-if3 .if3 .taken)
+    (at-put-head .put-head .ensures) (at-put-bodies .put-bodies .ensures)
 
 same-length-2 : tie.Need-same-length-2
 same-length-2 c = search needs
 
 returns-4 : tie.Need-returns-4
 returns-4 c =
-    let at-put-refused = c .before .before in
-    let at-if3 = at-put-refused .before .before in
-    let start = at-if3 .before .before .before .before .before in
-    report-refused (start .args .number) (start .args .nonlinear) (start .args .linear) (now (start .args .bodies)) (now (start .args .out)) (omega arith) (at-if3 .if3 .left) (at-put-refused .put-refused .ensures)
+    let at-put-head = c .before .before .before in
+    let start = at-put-head .before .before .before .before .before .before in
+    let args = start .args in
+    report-head (args .number) (args .nonlinear) (args .linear) (now (args .bodies)) (now (args .out)) (omega arith) (c .if3 .left)
+    (at-put-head .put-head .ensures)
 
 pub report-spec : {M : Type 1} → statement M
 report-spec =
@@ -52,9 +63,9 @@ report-spec =
     returns
     sub-if2
     returns-2
-    put-accepted-requires
+    put-head-requires
+    put-bodies-requires
     same-length
     returns-3
-    put-refused-requires
     same-length-2
     returns-4)

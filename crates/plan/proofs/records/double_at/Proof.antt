@@ -1,8 +1,8 @@
 -- `double_at`: the double of the word.
 use Rattle.plan.proofs.Bytes.{double-is}
 use borrow.Author.Needs.{needs}
-use Rattle.plan.proofs.reader.double_at.Statement.{statement}
-use Rattle.plan.proofs.reader.double_at.Tie as tie
+use Rattle.plan.proofs.records.double_at.Statement.{statement}
+use Rattle.plan.proofs.records.double_at.Tie as tie
 
 word-at-requires : tie.Need-word-at-requires
 word-at-requires c κs = search needs

@@ -1,8 +1,8 @@
--- `put_refused`: four pieces one after the other.
-use Rattle.report.proofs.Texts.{refused-1, refused-2, refused-3, refused-puts}
+-- `put_no`: four pieces one after the other.
+use Rattle.report.proofs.Texts.{no-1, no-2, no-3, no-puts}
 use borrow.Author.Needs.{needs}
-use Rattle.report.proofs.text.put_refused.Statement.{statement}
-use Rattle.report.proofs.text.put_refused.Tie as tie
+use Rattle.report.proofs.text.put_no.Statement.{statement}
+use Rattle.report.proofs.text.put_no.Tie as tie
 
 slice-aggregate-put : tie.Need-slice-aggregate-put
 slice-aggregate-put c = search needs
@@ -14,7 +14,7 @@ put-decimal-requires : tie.Need-put-decimal-requires
 put-decimal-requires c κs =
     let at-put = c .before .before .before in
     let start = at-put .before .before .before .before in
-    refused-1 (start .args .number) (start .args .nonlinear) (start .args .linear) (start .pre) (at-put .put .ensures)
+    no-1 (start .args .number) (start .args .nonlinear) (start .args .linear) (start .pre) (at-put .put .ensures)
 
 slice-aggregate-put-2 : tie.Need-slice-aggregate-put-2
 slice-aggregate-put-2 c = search needs
@@ -24,7 +24,7 @@ put-requires-2 c κs =
     let at-put-decimal = c .before .before .before .before in
     let at-put = at-put-decimal .before .before .before .before in
     let start = at-put .before .before .before .before in
-    refused-2 (start .args .number) (start .args .nonlinear) (start .args .linear) (start .pre) (at-put .put .ensures) (at-put-decimal .put-decimal .ensures)
+    no-2 (start .args .number) (start .args .nonlinear) (start .args .linear) (start .pre) (at-put .put .ensures) (at-put-decimal .put-decimal .ensures)
 
 put-counts-requires : tie.Need-put-counts-requires
 put-counts-requires c κs =
@@ -32,7 +32,8 @@ put-counts-requires c κs =
     let at-put-decimal = at-put2 .before .before .before .before .before in
     let at-put = at-put-decimal .before .before .before .before in
     let start = at-put .before .before .before .before in
-    refused-3 (start .args .number) (start .args .nonlinear) (start .args .linear) (start .pre) (at-put .put .ensures) (at-put-decimal .put-decimal .ensures) (at-put2 .put2 .ensures)
+    no-3 (start .args .number) (start .args .nonlinear) (start .args .linear) (start .pre) (at-put .put .ensures)
+    (at-put-decimal .put-decimal .ensures) (at-put2 .put2 .ensures)
 
 same-length : tie.Need-same-length
 same-length c = search needs
@@ -44,10 +45,11 @@ returns c =
     let at-put-decimal = at-put2 .before .before .before .before .before in
     let at-put = at-put-decimal .before .before .before .before in
     let start = at-put .before .before .before .before in
-    refused-puts (start .args .number) (start .args .nonlinear) (start .args .linear) (start .pre) (at-put .put .ensures) (at-put-decimal .put-decimal .ensures) (at-put2 .put2 .ensures) (at-put-counts .put-counts .ensures)
+    no-puts (start .args .number) (start .args .nonlinear) (start .args .linear) (start .pre) (at-put .put .ensures)
+    (at-put-decimal .put-decimal .ensures) (at-put2 .put2 .ensures) (at-put-counts .put-counts .ensures)
 
-pub put-refused-spec : {M : Type 1} → statement M
-put-refused-spec =
+pub put-no-spec : {M : Type 1} → statement M
+put-no-spec =
     tie.close
     (tie.spec
     slice-aggregate-put

@@ -1,8 +1,8 @@
 -- `double_of`: a pattern above the infinity's is a NaN's.
 use Rattle.plan.proofs.Bytes.{nan-of, not-nan}
 use borrow.Author.Needs.{needs}
-use Rattle.plan.proofs.reader.double_of.Statement.{statement}
-use Rattle.plan.proofs.reader.double_of.Tie as tie
+use Rattle.plan.proofs.records.double_of.Statement.{statement}
+use Rattle.plan.proofs.records.double_of.Tie as tie
 
 returns : tie.Need-returns
 returns c = nan-of _ (c .if1 .taken)

@@ -1,8 +1,8 @@
 -- `frame_at`: seven doubles in their places.
-use Rattle.plan.proofs.Records.{frame-is}
+use Rattle.plan.proofs.RecordLaws.{frame-is}
 use borrow.Author.Needs.{needs}
-use Rattle.plan.proofs.reader.frame_at.Statement.{statement}
-use Rattle.plan.proofs.reader.frame_at.Tie as tie
+use Rattle.plan.proofs.records.frame_at.Statement.{statement}
+use Rattle.plan.proofs.records.frame_at.Tie as tie
 
 double-at-requires : tie.Need-double-at-requires
 double-at-requires c κs = search needs
@@ -51,7 +51,8 @@ returns c =
     let at-double-at3 = at-double-at4 .before in
     let at-double-at2 = at-double-at3 .before in
     let at-double-at = at-double-at2 .before in
-    frame-is _ _ (at-double-at .double-at .ensures) (at-double-at2 .double-at2 .ensures) (at-double-at3 .double-at3 .ensures) (at-double-at4 .double-at4 .ensures) (at-double-at5 .double-at5 .ensures) (at-double-at6 .double-at6 .ensures) (c .double-at7 .ensures)
+    frame-is _ _ (at-double-at .double-at .ensures) (at-double-at2 .double-at2 .ensures) (at-double-at3 .double-at3 .ensures)
+    (at-double-at4 .double-at4 .ensures) (at-double-at5 .double-at5 .ensures) (at-double-at6 .double-at6 .ensures) (c .double-at7 .ensures)
 
 pub frame-at-spec : {M : Type 1} → statement M
 frame-at-spec =

@@ -2,10 +2,10 @@
 use denote.Ref.{now}
 use native.Mathlib.Omega.{arith}
 use Rattle.plan.specs.FileLaws.{there}
-use Rattle.plan.proofs.Records.{joint-is}
+use Rattle.plan.proofs.RecordLaws.{joint-is}
 use borrow.Author.Needs.{needs}
-use Rattle.plan.proofs.reader.joint_at.Statement.{statement}
-use Rattle.plan.proofs.reader.joint_at.Tie as tie
+use Rattle.plan.proofs.records.joint_at.Statement.{statement}
+use Rattle.plan.proofs.records.joint_at.Tie as tie
 
 shared-slice-read-t3 : tie.Need-shared-slice-read-t3
 shared-slice-read-t3 c = omega (arith, there (now (c .before .before .args .file)) (c .before .before .pre))

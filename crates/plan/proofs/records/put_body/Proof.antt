@@ -1,14 +1,14 @@
 -- `put_body`: after i turns the table has i of the body's doubles.
 use denote.Ref.{now}
 use native.Mathlib.Omega.{arith}
-use Rattle.plan.proofs.Records.{put-none, put-more, put-end}
+use Rattle.plan.proofs.RecordLaws.{put-none, put-more, put-end}
 use Prim.Native.Nat.{_-_, _≤_}
 use mathlib.Core.Path.{_≡_, refl}
 use lib.ListN.{length, length-set}
 use lib.Seq.{paste}
 use Rattle.plan.specs.File.{bodyOf}
-use Rattle.plan.proofs.reader.put_body.Statement.{statement}
-use Rattle.plan.proofs.reader.put_body.Tie as tie
+use Rattle.plan.proofs.records.put_body.Statement.{statement}
+use Rattle.plan.proofs.records.put_body.Tie as tie
 
 abbrev Inv-loop : tie.InvT-loop
 Inv-loop bodies₀ at file i₀ bodies i = (i ≤ 26) × (length bodies ≡ length bodies₀) × (bodies ≡ paste bodies₀ at (bodyOf file) i)
@@ -48,7 +48,12 @@ loop-again c =
     let at-loop-test = c .before in
     let at-loop = at-loop-test .before in
     let start = at-loop .before .before .before in
-    (omega arith, simp length-set (at-loop .loop .inv .1), put-more (now (start .args .bodies)) (start .args .at) (now (start .args .file)) (at-loop .loop .i) (omega arith) (at-loop-test .loop-test .taken) (at-loop .loop .inv .2) (c .double-at .ensures))
+    let inv = at-loop .loop .inv in (
+      omega arith,
+      simp length-set (inv .1),
+      put-more (now (start .args .bodies)) (start .args .at) (now (start .args .file)) (at-loop .loop .i) (omega arith)
+          (at-loop-test .loop-test .taken) (inv .2) (c .double-at .ensures),
+    )
 
 same-length : tie.Need-same-length Inv-loop μ-loop
 same-length c = omega arith
@@ -57,7 +62,8 @@ returns : tie.Need-returns Inv-loop μ-loop
 returns c =
     let at-loop = c .before in
     let start = at-loop .before .before .before in
-    put-end (now (start .args .bodies)) (start .args .at) (now (start .args .file)) (at-loop .loop .i) (at-loop .loop .inv .0) (c .loop-test .left) (at-loop .loop .inv .2)
+    put-end (now (start .args .bodies)) (start .args .at) (now (start .args .file)) (at-loop .loop .i) (at-loop .loop .inv .0) (c .loop-test .left)
+    (at-loop .loop .inv .2)
 
 pub put-body-spec : {M : Type 1} → statement M
 put-body-spec =
