@@ -28,7 +28,7 @@ pub fn abs(x: f64) -> f64
     if x <= 0.0 { 0.0 - x } else { x }
 }
 
-// The larger of two numbers, neither of them a NaN.
+// The larger of two numbers; the first where neither is larger.
 pub fn max(a: f64, b: f64) -> f64
     ensures { λ r. ⌜ r ≡ maxOf a b ⌝ }
 {

@@ -53,7 +53,7 @@ noLine number nonlinear linear = (78 ∷ 79 ∷ 32 ∷ []) ++ decimalOf number +
 unfoldable pub headLine : ℕ → ℕ → ℕ → List ℕ
 headLine number nonlinear linear = cond (eqb number 0) (okLine nonlinear linear) (noLine number nonlinear linear)
 
--- the lines of the bodies, of which an accepted step has some
+-- the lines of the bodies, which an accepted step has
 unfoldable pub reportOf : ℕ → ℕ → ℕ → List Float → List ℕ
 reportOf number nonlinear linear bodies =
     headLine number nonlinear linear ++ cond (eqb number 0) (bodyLines bodies (length bodies / 26)) []

@@ -135,7 +135,7 @@ fn put_decimal(out: &mut [u8], at: usize, n: u64) -> usize
     put(out, at, &digits[..k])
 }
 
-// `to_bits` is not defined at a NaN, which is written as the pattern of SPECIFICATION §13.
+// `to_bits` is not defined at a NaN, which is written as the pattern of SPECIFICATION §1.1.
 fn bits_of(x: f64) -> u64
     ensures { λ r. ⌜ r ≡ toBits binary64 x ⌝ }
 {

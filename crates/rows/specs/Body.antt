@@ -22,7 +22,7 @@ worldCenterOfMassOf origin rotation centerOfMass = do
   turned ← tryRotate rotation centerOfMass
   tryFinite (addOf turned origin)
 
--- fn new. The inverse of the inertia is found before any body is made (refusal 7).
+-- fn new. That the inertia has an inverse is tested before any body is made (refusal 7).
 unfoldable pub newOf : RigidBody → Mat3 → Result MomentumBody
 newOf body inverse = do
   localOmega ← tryRotate (conjugateOf (body .rotation)) (body .«angular_velocity»)

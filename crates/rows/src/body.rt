@@ -124,7 +124,7 @@ fn standing(body: RigidBody, inverse_inertia: Mat3) -> MomentumBody
 }
 
 impl MomentumBody {
-    // The body of a record. The inverse of its inertia was found before any body is made.
+    // The body of a record. That its inertia has an inverse was tested before any body is made (refusal 7).
     pub fn new(body: RigidBody, inverse_inertia: Mat3) -> BodyAnswer
         ensures { λ r. ⌜ BodyAnswered (standing body «inverse_inertia») (newOf body «inverse_inertia») r ⌝ }
     {

@@ -1,5 +1,5 @@
-// Joints and their equality rows (geometry.rs). A row lies in the lent slice as 14 doubles: the two linear and angular
-// parts of a, those of b, value and tolerance. The bodies that it joins are kept beside the slice.
+// Joints and their equality rows (geometry.rs). A row lies in the lent slice as 14 doubles: the linear and
+// the angular part of a, those of b, value and tolerance. The bodies that it joins are kept beside the slice.
 use crate::body::MomentumBody;
 use crate::body::finite;
 use arith::angle::Angle;
@@ -145,7 +145,7 @@ struct Axes {
     pub z: bool,
 }
 
-// The rotation of frame b seen from frame a, with the square and the root of w * w + z * z.
+// The rotation of frame b seen from frame a, with w * w + z * z and its root.
 struct Relative {
     pub rotation: Quat,
     pub norm_squared: f64,

@@ -26,7 +26,7 @@ use Rattle.vectors.specs.declared.quaternion.OptionQuat.{OptionQuat}
 use Rattle.vectors.specs.declared.quaternion.OptionQuat.the-variants.{Some, None}
 use Rattle.vectors.specs.Vector.{finiteOf, lengthOf, scaleOf, divOf, normalizeBy, checkedLengthOf}
 use Rattle.vectors.specs.Matrix.{zeroMat}
-use Rattle.vectors.specs.Quaternion.{quat, productOf, quatTryNormalizeOf, turnedOf, rotatedOf, rotateVectorOf, rotateAsUnitOf, columnsOf, toMat3Of, smallTurn, deltaOf, deltaIn, turnedBy, integrated, integrateOf, integrateAsUnitOf}
+use Rattle.vectors.specs.Quaternion.{quat, productOf, quatTryNormalizeOf, turnedOf, rotatedOf, rotateVectorOf, rotateAsUnitOf, columnsOf, toMat3Of, smallTurn, deltaOf, deltaIn, integrated, integrateAsUnitOf}
 -- ---- the literals of the code
 pub use Rattle.arith.specs.Laws.Constants.{zero-is, half-is}
 
@@ -181,29 +181,12 @@ module _ (v : Vec3) (dt : Float) {b : Bool} (eb : b ≡ finiteOf v) where
     pub turn-for : not f ≡ false → {s : Vec3} {r : OptionQuat} → s ≡ scaleOf v dt → r ≡ deltaOf s → r ≡ deltaIn v dt
     turn-for h es er = cc
 
--- ---- integrate_world_angular_velocity, and integrate_as_unit of a quaternion already normalized
+-- ---- integrate_as_unit
 module _ (q : Quat) (v : Vec3) (dt : Float) {d : OptionQuat} (ed : d ≡ deltaIn v dt) where
-  pub integrate-far : d ≡ None → None ≡ integrateOf q v dt
-  unfolding integrateOf
-  integrate-far h = ap (λ (d : OptionQuat). integrated d (quatTryNormalizeOf q)) (sym h ∙ ed)
-
   pub unit-far : d ≡ None → None ≡ integrateAsUnitOf q v dt
   unfolding integrateAsUnitOf
   unit-far h = ap (λ (d : OptionQuat). integrated d (Some q)) (sym h ∙ ed)
 
-  module _ {u : Quat} (hu : d ≡ Some u) where
-    pub integrate-none : {o : OptionQuat} → o ≡ quatTryNormalizeOf q → o ≡ None → None ≡ integrateOf q v dt
-    unfolding integrateOf
-    integrate-none eo h = ap (turnedBy u) (sym h ∙ eo) ∙ ap (λ (d : OptionQuat). integrated d (quatTryNormalizeOf q)) (sym hu ∙ ed)
-
-    turned-by : {w : Quat} {r : OptionQuat} (p : Quat) → w ≡ productOf u p → r ≡ quatTryNormalizeOf w → r ≡ integrated (deltaIn v dt) (Some p)
-    turned-by p ew er = er ∙ ap quatTryNormalizeOf ew ∙ ap (λ (d : OptionQuat). integrated d (Some p)) (sym hu ∙ ed)
-
-    pub integrate-by : {o : OptionQuat} {p w : Quat} {r : OptionQuat} → o ≡ quatTryNormalizeOf q → o ≡ Some p
-        → w ≡ productOf u p → r ≡ quatTryNormalizeOf w → r ≡ integrateOf q v dt
-    unfolding integrateOf
-    integrate-by {p = p} eo h ew er = turned-by p ew er ∙ ap (integrated (deltaIn v dt)) (sym h ∙ eo)
-
-    pub unit-turned : {w : Quat} {r : OptionQuat} → w ≡ productOf u q → r ≡ quatTryNormalizeOf w → r ≡ integrateAsUnitOf q v dt
-    unfolding integrateAsUnitOf
-    unit-turned ew er = turned-by q ew er
+  pub unit-turned : {u w : Quat} {r : OptionQuat} → d ≡ Some u → w ≡ productOf u q → r ≡ quatTryNormalizeOf w → r ≡ integrateAsUnitOf q v dt
+  unfolding integrateAsUnitOf
+  unit-turned hu ew er = er ∙ ap quatTryNormalizeOf ew ∙ ap (λ (d : OptionQuat). integrated d (Some q)) (sym hu ∙ ed)

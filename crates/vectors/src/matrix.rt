@@ -9,7 +9,10 @@ ghost use mathlib.Core.Path.{_≡_};
 ghost use mathlib.Core.Bool.{not};
 ghost use Prim.Native.Nat.{_<_, min};
 ghost use Rattle.vectors.specs.Matrix as Matrix;
-ghost use Rattle.vectors.specs.Matrix.{matOf, zeroMat, fromCols, turned, transposeOf, finiteMat, applyOf, matProductOf, solvedBy, factorSpdOf, matLargestOf, columnOf, solveOf, notSymmetric, correctionOf, aboveZero, ranOf, placeOf, factorRowOf, factorOf, forwardOf, backwardOf, inverseSpdOf};
+ghost use Rattle.vectors.specs.Matrix.{matOf, zeroMat, fromCols, turned, transposeOf, finiteMat, applyOf, matProductOf};
+ghost use Rattle.vectors.specs.Matrix.{solvedBy, factorSpdOf, matLargestOf, columnOf, solveOf, notSymmetric, correctionOf};
+ghost use Rattle.vectors.specs.Matrix.{aboveZero, ranOf, placeOf, factorRowOf, factorOf, forwardOf, backwardOf};
+ghost use Rattle.vectors.specs.Matrix.{inverseSpdOf};
 
 // 32 times epsilon, which is 2^-47.
 const SYMMETRY_TOLERANCE: f64 = 7.105427357601002e-15;

@@ -9,7 +9,10 @@ use arith::number::is_finite;
 use arith::number::max;
 use arith::root::hypot;
 ghost use mathlib.Core.Path.{_≡_};
-ghost use Rattle.vectors.specs.Quaternion.{quat, conjugateOf, productOf, quatLengthSquaredOf, quatLengthOf, quatDivOf, quatLargestOf, quatTryNormalizeOf, quatFiniteOf, isNormalizedOf, rotateVectorOf, rotateAsUnitOf, rotatedOf, turnedOf, toMat3Of, columnsOf, integrateOf, integrateAsUnitOf, deltaIn, deltaOf, smallTurn};
+ghost use Rattle.vectors.specs.Quaternion.{conjugateOf, productOf, quatLengthSquaredOf, quatLengthOf, quatDivOf};
+ghost use Rattle.vectors.specs.Quaternion.{quatLargestOf, quatTryNormalizeOf, quatFiniteOf, isNormalizedOf, rotateVectorOf};
+ghost use Rattle.vectors.specs.Quaternion.{rotateAsUnitOf, rotatedOf, turnedOf, toMat3Of, columnsOf, integrateAsUnitOf};
+ghost use Rattle.vectors.specs.Quaternion.{deltaIn, deltaOf, smallTurn};
 
 // 2^-44: how far the squares of a rotation may sum from 1.
 const ROTATION_TOLERANCE: f64 = 5.684341886080802e-14;
@@ -33,19 +36,6 @@ pub struct OptionMat3 {
 }
 
 impl Quat {
-    pub const IDENTITY: Quat = Quat {
-        x: 0.0,
-        y: 0.0,
-        z: 0.0,
-        w: 1.0,
-    };
-
-    pub fn new(x: f64, y: f64, z: f64, w: f64) -> Quat
-        ensures { λ r. ⌜ r ≡ quat x y z w ⌝ }
-    {
-        Quat { x, y, z, w }
-    }
-
     pub fn conjugate(self) -> Quat
         ensures { λ r. ⌜ r ≡ conjugateOf self ⌝ }
     {
@@ -230,20 +220,8 @@ impl Quat {
         ])
     }
 
-    // This rotation after `angular_velocity` of the world has turned it for the time dt.
-    pub fn integrate_world_angular_velocity(self, angular_velocity: Vec3, dt: f64) -> OptionQuat
-        ensures { λ r. ⌜ r ≡ integrateOf self «angular_velocity» dt ⌝ }
-    {
-        let OptionQuat::Some(delta) = turn_in(angular_velocity, dt) else {
-            return OptionQuat::None;
-        };
-        match self.try_normalize() {
-            OptionQuat::Some(rotation) => delta.product(rotation).try_normalize(),
-            OptionQuat::None => OptionQuat::None,
-        }
-    }
-
-    // `integrate_world_angular_velocity` of every quaternion that normalizes to self.
+    // This rotation after `angular_velocity` of the world has turned it for the time dt: the Rust's
+    // `integrate_world_angular_velocity`, of every quaternion that normalizes to self.
     pub fn integrate_as_unit(self, angular_velocity: Vec3, dt: f64) -> OptionQuat
         ensures { λ r. ⌜ r ≡ integrateAsUnitOf self «angular_velocity» dt ⌝ }
     {

@@ -4,7 +4,8 @@ use arith::number::is_finite;
 use arith::number::max;
 use arith::root::hypot;
 ghost use mathlib.Core.Path.{_≡_};
-ghost use Rattle.vectors.specs.Vector.{vec, dotOf, crossOf, lengthOf, largestOf, tryNormalizeOf, finiteOf, checkedLengthOf, addOf, subOf, scaleOf, divOf, negOf};
+ghost use Rattle.vectors.specs.Vector.{vec, dotOf, crossOf, lengthOf, largestOf, tryNormalizeOf, finiteOf, checkedLengthOf};
+ghost use Rattle.vectors.specs.Vector.{addOf, subOf, scaleOf, divOf, negOf};
 
 pub struct Vec3 {
     pub x: f64,
