@@ -9,6 +9,7 @@ use borrow.Author.Tests.{lt-ltb, le-ltb, lt-leb, le-leb, eq-eqb, ne-eqb}
 use Rattle.plan.specs.declared.reader.ReadOutcome.the-variants.{Mark, SecondTimeStep, TooMany, KindByte, Truncated}
 use Rattle.plan.specs.declared.reader.Found.{Found}
 use Rattle.plan.specs.declared.reader.Found.the-variants as found
+use Rattle.plan.specs.File.{TIME-STEP, BODY, KIND, FRAME-A}
 use Rattle.plan.specs.File.{byte, marked, jointSize, DT, BD, JT, timeStepHead, bodyHead, jointHead, headOf}
 
 pub marked-second : (s mark : List ℕ) → byte s 0 ≡ byte mark 0 → eqb (byte s 1) (byte mark 1) ≡ marked s mark
@@ -22,11 +23,11 @@ module _ (s : List ℕ) where
   unfolding timeStepHead
   time-step-second seen h = rw h refl
 
-  pub time-step-short : (seen : Bool) → seen ≡ false → length s < 10 → found.Refused Truncated ≡ timeStepHead s seen
+  pub time-step-short : (seen : Bool) → seen ≡ false → length s < TIME-STEP → found.Refused Truncated ≡ timeStepHead s seen
   unfolding timeStepHead
   time-step-short seen h g = rw h (simp (lt-ltb _ _ g))
 
-  pub time-step-there : (seen : Bool) → seen ≡ false → 10 ≤ length s → found.TimeStep ≡ timeStepHead s seen
+  pub time-step-there : (seen : Bool) → seen ≡ false → TIME-STEP ≤ length s → found.TimeStep ≡ timeStepHead s seen
   unfolding timeStepHead
   time-step-there seen h g = rw h (simp (le-ltb _ _ g))
 
@@ -34,11 +35,11 @@ module _ (s : List ℕ) where
   unfolding bodyHead
   body-full n h = simp (le-leb _ _ h)
 
-  pub body-short : (n : ℕ) → n < 16 → length s < 210 → found.Refused Truncated ≡ bodyHead s n
+  pub body-short : (n : ℕ) → n < 16 → length s < BODY → found.Refused Truncated ≡ bodyHead s n
   unfolding bodyHead
   body-short n h g = simp (lt-leb _ _ h, lt-ltb _ _ g)
 
-  pub body-there : (n : ℕ) → n < 16 → 210 ≤ length s → found.Body ≡ bodyHead s n
+  pub body-there : (n : ℕ) → n < 16 → BODY ≤ length s → found.Body ≡ bodyHead s n
   unfolding bodyHead
   body-there n h g = simp (lt-leb _ _ h, le-ltb _ _ g)
 
@@ -47,24 +48,24 @@ module _ (s : List ℕ) where
   joint-full n h = simp (le-leb _ _ h)
 
   module _ (n : ℕ) (room : n < 16) where
-    pub joint-lone : length s < 5 → found.Refused Truncated ≡ jointHead s n
+    pub joint-lone : length s < FRAME-A → found.Refused Truncated ≡ jointHead s n
     unfolding jointHead
     joint-lone g = simp (lt-leb _ _ room, lt-ltb _ _ g)
 
-    module _ (bytes : 5 ≤ length s) where
-      pub joint-kind : 5 < byte s 4 → found.Refused KindByte ≡ jointHead s n
+    module _ (bytes : FRAME-A ≤ length s) where
+      pub joint-kind : 5 < byte s KIND → found.Refused KindByte ≡ jointHead s n
       unfolding jointHead
       joint-kind g = simp (lt-leb _ _ room, le-ltb _ _ bytes, lt-ltb _ _ g)
 
-      module _ (kind : byte s 4 ≤ 5) {k : ℕ} (size : k ≡ jointSize (byte s 4)) where
+      module _ (kind : byte s KIND ≤ 5) {k : ℕ} (size : k ≡ jointSize (byte s KIND)) where
         pub joint-short : length s < k → found.Refused Truncated ≡ jointHead s n
         unfolding jointHead
-        joint-short g = let h : length s < jointSize (byte s 4) = rw size at g in simp (lt-leb _ _ room, le-ltb _ _ bytes, le-ltb _ _ kind, lt-ltb _ _ h)
+        joint-short g = let h : length s < jointSize (byte s KIND) = rw size at g in simp (lt-leb _ _ room, le-ltb _ _ bytes, le-ltb _ _ kind, lt-ltb _ _ h)
 
         pub joint-there : k ≤ length s → found.Joint k ≡ jointHead s n
         unfolding jointHead
         joint-there g =
-            let h : jointSize (byte s 4) ≤ length s = rw size at g in rw size
+            let h : jointSize (byte s KIND) ≤ length s = rw size at g in rw size
             (simp (lt-leb _ _ room, le-ltb _ _ bytes, le-ltb _ _ kind, le-ltb _ _ h))
 
 module _ (s : List ℕ) (seen : Bool) (bodies joints : ℕ) where

@@ -82,9 +82,18 @@ TWIST-LOWER = 133
 abbrev pub TWIST-UPPER : ℕ
 TWIST-UPPER = 141
 
--- a joint of kind 4, of kind 5, or of any other
+-- a joint of one of these, kinds 4 and 5, and of any other kind
+abbrev pub DISTANCE : ℕ
+DISTANCE = 125
+
+abbrev pub CONE-TWIST : ℕ
+CONE-TWIST = 149
+
+abbrev pub JOINT : ℕ
+JOINT = 117
+
 abbrev pub jointSize : ℕ → ℕ
-jointSize kind = cond (eqb kind 4) 125 (cond (eqb kind 5) 149 117)
+jointSize kind = cond (eqb kind 4) DISTANCE (cond (eqb kind 5) CONE-TWIST JOINT)
 
 -- ---- bytes and doubles
 

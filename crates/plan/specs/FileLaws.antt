@@ -17,46 +17,47 @@ use Rattle.plan.specs.declared.reader.ReadOutcome.the-variants.{Read, No
 use Rattle.plan.specs.declared.reader.Found.{Found}
 use Rattle.arith.specs.Flow.{tab}
 use Rattle.plan.specs.declared.reader.Found.the-variants as found
+use Rattle.plan.specs.File.{TIME-STEP, BODY, KIND, FRAME-A, DISTANCE, CONE-TWIST, JOINT}
 use Rattle.plan.specs.File.{numberOf, byte, marked, jointSize, JointThere, DT, BD, JT, timeStepHead, bodyHead, jointHead, headOf, endedOf}
 use Rattle.plan.specs.File.{nextOf, readOn, readOf, cleared, withTimeStep, withBody, withJoint, bodyOf, jointOf, emptyOf}
 
 -- ---- the length of a joint's record by its kind
 
-pub size-4 : (k : ℕ) → k ≡ 4 → 125 ≡ jointSize k
+pub size-4 : (k : ℕ) → k ≡ 4 → DISTANCE ≡ jointSize k
 size-4 k h = simp (eq-eqb _ _ h)
 
-pub size-5 : (k : ℕ) → k ≡ 5 → 149 ≡ jointSize k
+pub size-5 : (k : ℕ) → k ≡ 5 → CONE-TWIST ≡ jointSize k
 size-5 k h = rw h refl
 
-pub size-other : (k : ℕ) → (k ≡ 4 → ⊥) → (k ≡ 5 → ⊥) → 117 ≡ jointSize k
+pub size-other : (k : ℕ) → (k ≡ 4 → ⊥) → (k ≡ 5 → ⊥) → JOINT ≡ jointSize k
 size-other k h g = simp (ne-eqb _ _ h, ne-eqb _ _ g)
 
-pub size-within : (k : ℕ) → (117 ≤ jointSize k) × (jointSize k ≤ 149)
+pub size-within : (k : ℕ) → (JOINT ≤ jointSize k) × (jointSize k ≤ CONE-TWIST)
 size-within k = by (eqb k 4) (eqb k 5)
   where
-    by : (a b : Bool) → (117 ≤ cond a 125 (cond b 149 117)) × (cond a 125 (cond b 149 117) ≤ 149)
+    by : (a b : Bool) → let size = cond a DISTANCE (cond b CONE-TWIST JOINT) in (JOINT ≤ size) × (size ≤ CONE-TWIST)
     by true b = (omega arith, omega arith)
     by false true = (omega arith, omega arith)
     by false false = (omega arith, omega arith)
 
 module _ (s : List ℕ) (h : JointThere s) where
-  pub there : 117 ≤ length s
-  there = omega (arith, size-within (byte s 4) .0)
+  pub there : JOINT ≤ length s
+  there = omega (arith, size-within (byte s KIND) .0)
 
-  pub there-distance : byte s 4 ≡ 4 → 125 ≤ length s
-  there-distance e = omega (arith, size-4 (byte s 4) e)
+  pub there-distance : byte s KIND ≡ 4 → DISTANCE ≤ length s
+  there-distance e = omega (arith, size-4 (byte s KIND) e)
 
-  pub there-cone : (byte s 4 ≡ 0 → ⊥) → (byte s 4 ≡ 1 → ⊥) → (byte s 4 ≡ 2 → ⊥) → (byte s 4 ≡ 3 → ⊥) → (byte s 4 ≡ 4 → ⊥) → 149 ≤ length s
-  there-cone h0 h1 h2 h3 h4 = let e : byte s 4 ≡ 5 = omega arith in omega (arith, size-5 (byte s 4) e)
+  pub there-cone : (byte s KIND ≡ 0 → ⊥) → (byte s KIND ≡ 1 → ⊥) → (byte s KIND ≡ 2 → ⊥) → (byte s KIND ≡ 3 → ⊥) → (byte s KIND ≡ 4 → ⊥) → CONE-TWIST ≤ length s
+  there-cone h0 h1 h2 h3 h4 = let e : byte s KIND ≡ 5 = omega arith in omega (arith, size-5 (byte s KIND) e)
 
 -- ---- what stands at the head is there to its end, and the tables have room for it; a refusal has a number
 
 unfoldable pub Room : List ℕ → Bool → ℕ → ℕ → Found → Type 0
 Room s seen bodies joints found.End = Unit {0}
 Room s seen bodies joints (found.Refused e) = numberOf e ≡ 0 → ⊥
-Room s seen bodies joints found.TimeStep = (10 ≤ length s) × (seen ≡ false)
-Room s seen bodies joints found.Body = (210 ≤ length s) × (bodies < 16)
-Room s seen bodies joints (found.Joint n) = JointThere s × (joints < 16) × (n ≡ jointSize (byte s 4))
+Room s seen bodies joints found.TimeStep = (TIME-STEP ≤ length s) × (seen ≡ false)
+Room s seen bodies joints found.Body = (BODY ≤ length s) × (bodies < 16)
+Room s seen bodies joints (found.Joint n) = JointThere s × (joints < 16) × (n ≡ jointSize (byte s KIND))
 
 if : (P : Found → Type 0) (b : Bool) {x y : Found} → P x → (b ≡ false → P y) → P (cond b x y)
 if P true p q = p
@@ -68,19 +69,19 @@ module _ (s : List ℕ) (seen : Bool) (bodies joints : ℕ) where
 
   time-step-room : Fits (timeStepHead s seen)
   unfolding Room timeStepHead
-  time-step-room = if Fits seen (λ e. omega arith) λ g. if Fits (ltb (length s) 10) (λ e. omega arith) λ h. (ltb-false _ _ h, g)
+  time-step-room = if Fits seen (λ e. omega arith) λ g. if Fits (ltb (length s) TIME-STEP) (λ e. omega arith) λ h. (ltb-false _ _ h, g)
 
   body-room : Fits (bodyHead s bodies)
   unfolding Room bodyHead
-  body-room = if Fits (leb 16 bodies) (λ e. omega arith) λ g. if Fits (ltb (length s) 210) (λ e. omega arith) λ h. (ltb-false _ _ h, leb-false _ _ g)
+  body-room = if Fits (leb 16 bodies) (λ e. omega arith) λ g. if Fits (ltb (length s) BODY) (λ e. omega arith) λ h. (ltb-false _ _ h, leb-false _ _ g)
 
   joint-room : Fits (jointHead s joints)
   unfolding Room jointHead
   joint-room =
       if Fits (leb 16 joints) (λ e. omega arith) λ g.
-      if Fits (ltb (length s) 5) (λ e. omega arith) λ _.
-      if Fits (ltb 5 (byte s 4)) (λ e. omega arith) λ k.
-      if Fits (ltb (length s) (jointSize (byte s 4))) (λ e. omega arith) λ h. ((ltb-false _ _ k, ltb-false _ _ h), leb-false _ _ g, refl)
+      if Fits (ltb (length s) FRAME-A) (λ e. omega arith) λ _.
+      if Fits (ltb 5 (byte s KIND)) (λ e. omega arith) λ k.
+      if Fits (ltb (length s) (jointSize (byte s KIND))) (λ e. omega arith) λ h. ((ltb-false _ _ k, ltb-false _ _ h), leb-false _ _ g, refl)
 
   pub head-room : Room s seen bodies joints (headOf s seen bodies joints)
   unfolding Room headOf
@@ -96,20 +97,20 @@ module _ (s : List ℕ) (seen : Bool) (bodies joints : ℕ) where
     unfolding Room
     room-refused g = subst Fits (sym e ∙ g) head-room
 
-    pub room-time-step : h ≡ found.TimeStep → 10 ≤ length s
+    pub room-time-step : h ≡ found.TimeStep → TIME-STEP ≤ length s
     unfolding Room
     room-time-step g = (subst Fits (sym e ∙ g) head-room) .0
 
-    pub room-body : h ≡ found.Body → (210 ≤ length s) × (bodies < 16)
+    pub room-body : h ≡ found.Body → (BODY ≤ length s) × (bodies < 16)
     unfolding Room
     room-body g = subst Fits (sym e ∙ g) head-room
 
-    pub room-joint : {n : ℕ} → h ≡ found.Joint n → JointThere s × (joints < 16) × (n ≡ jointSize (byte s 4))
+    pub room-joint : {n : ℕ} → h ≡ found.Joint n → JointThere s × (joints < 16) × (n ≡ jointSize (byte s KIND))
     unfolding Room
     room-joint g = subst Fits (sym e ∙ g) head-room
 
-    pub length-joint : {n : ℕ} → h ≡ found.Joint n → (n ≤ length s) × (117 ≤ n)
-    length-joint g = let r = room-joint g in omega (arith, r .0 .1, r .2, size-within (byte s 4) .0)
+    pub length-joint : {n : ℕ} → h ≡ found.Joint n → (n ≤ length s) × (JOINT ≤ n)
+    length-joint g = let r = room-joint g in omega (arith, r .0 .1, r .2, size-within (byte s KIND) .0)
 
 -- ---- what a reading keeps
 
@@ -195,8 +196,8 @@ module _ (tables : Plan) where
   unfolding Room nextOf
   kept-next found.End s t more r k ih = kept-end t k
   kept-next (found.Refused e) s t more r k ih = record { read = λ h. absurd (r h); refused = λ _. refl }
-  kept-next found.TimeStep s t more r k ih = ih 10 (withTimeStep s t) (kept-time-step s t k)
-  kept-next found.Body s t more r k ih = ih 210 (withBody s t) (kept-body s t (r .1) k)
+  kept-next found.TimeStep s t more r k ih = ih TIME-STEP (withTimeStep s t) (kept-time-step s t k)
+  kept-next found.Body s t more r k ih = ih BODY (withBody s t) (kept-body s t (r .1) k)
   kept-next (found.Joint n) s t more r k ih = ih n (withJoint s t) (kept-joint s t (r .1) k)
 
   kept-on : (n : ℕ) (s : List ℕ) (t : Plan) → Kept tables t → Kept-or-same tables (readOn n s tables t)

@@ -17,13 +17,14 @@ use Rattle.plan.specs.declared.reader.Reading.{Reading}
 use Rattle.plan.specs.declared.reader.ReadOutcome.the-variants.{SecondTimeStep, TooMany, Truncated}
 use Rattle.plan.specs.declared.reader.Found.{Found}
 use Rattle.plan.specs.declared.reader.Found.the-variants as found
+use Rattle.plan.specs.File.{NUMBERS, TIME-STEP, BODY, SIDE-A, SIDE-B, KIND, FRAME-A, FRAME-B, SWING-X, SWING-Y, TWIST-LOWER, TWIST-UPPER, CONE-TWIST}
 use Rattle.plan.specs.File.{byte, double, bodyOf, frameAt, kindOf, jointOf, jointSize, marked, DT, BD, JT, timeStepHead, bodyHead, jointHead}
 use Rattle.plan.specs.File.{headOf, withTimeStep, withBody, withJoint, nextOf, readOn, readOf, cleared}
 use Rattle.plan.specs.FileLaws.{Room, head-room, size-within}
 
 -- the bytes that can still matter, where these were read
 needed : Bool → ℕ → ℕ → ℕ
-needed seen bodies joints = 2 + cond seen 0 10 + 210 * (16 - bodies) + 149 * (16 - joints)
+needed seen bodies joints = 2 + cond seen 0 TIME-STEP + BODY * (16 - bodies) + CONE-TWIST * (16 - joints)
 
 split : (a b : ℕ) → (a < b) ⊎ (b ≤ a)
 split a b = by (decLt a b)
@@ -57,9 +58,9 @@ module _ (m : ℕ) (s : List ℕ) where
       let b7 : byte (take m s) (i + 7) ≡ byte s (i + 7) = byte-cut (i + 7) (omega arith) in
       cc
 
-  body-cut : 210 ≤ m → bodyOf (take m s) ≡ bodyOf s
+  body-cut : BODY ≤ m → bodyOf (take m s) ≡ bodyOf s
   unfolding bodyOf
-  body-cut h = tab-ext 26 (λ k l. double-cut (2 + 8 * k) (omega arith))
+  body-cut h = tab-ext 26 (λ k l. double-cut (NUMBERS + 8 * k) (omega arith))
 
   frame-cut : (i : ℕ) → i + 56 ≤ m → frameAt (take m s) i ≡ frameAt s i
   frame-cut i h =
@@ -72,18 +73,18 @@ module _ (m : ℕ) (s : List ℕ) where
       let d6 : double (take m s) (i + 48) ≡ double s (i + 48) = double-cut (i + 48) (omega arith) in
       cc
 
-  joint-cut : 149 ≤ m → jointOf (take m s) ≡ jointOf s
+  joint-cut : CONE-TWIST ≤ m → jointOf (take m s) ≡ jointOf s
   unfolding jointOf kindOf
   joint-cut h =
-      let b2 : byte (take m s) 2 ≡ byte s 2 = byte-cut 2 (omega arith) in
-      let b3 : byte (take m s) 3 ≡ byte s 3 = byte-cut 3 (omega arith) in
-      let b4 : byte (take m s) 4 ≡ byte s 4 = byte-cut 4 (omega arith) in
-      let fa : frameAt (take m s) 5 ≡ frameAt s 5 = frame-cut 5 (omega arith) in
-      let fb : frameAt (take m s) 61 ≡ frameAt s 61 = frame-cut 61 (omega arith) in
-      let d0 : double (take m s) 117 ≡ double s 117 = double-cut 117 (omega arith) in
-      let d1 : double (take m s) 125 ≡ double s 125 = double-cut 125 (omega arith) in
-      let d2 : double (take m s) 133 ≡ double s 133 = double-cut 133 (omega arith) in
-      let d3 : double (take m s) 141 ≡ double s 141 = double-cut 141 (omega arith) in
+      let b2 : byte (take m s) SIDE-A ≡ byte s SIDE-A = byte-cut SIDE-A (omega arith) in
+      let b3 : byte (take m s) SIDE-B ≡ byte s SIDE-B = byte-cut SIDE-B (omega arith) in
+      let b4 : byte (take m s) KIND ≡ byte s KIND = byte-cut KIND (omega arith) in
+      let fa : frameAt (take m s) FRAME-A ≡ frameAt s FRAME-A = frame-cut FRAME-A (omega arith) in
+      let fb : frameAt (take m s) FRAME-B ≡ frameAt s FRAME-B = frame-cut FRAME-B (omega arith) in
+      let d0 : double (take m s) SWING-X ≡ double s SWING-X = double-cut SWING-X (omega arith) in
+      let d1 : double (take m s) SWING-Y ≡ double s SWING-Y = double-cut SWING-Y (omega arith) in
+      let d2 : double (take m s) TWIST-LOWER ≡ double s TWIST-LOWER = double-cut TWIST-LOWER (omega arith) in
+      let d3 : double (take m s) TWIST-UPPER ≡ double s TWIST-UPPER = double-cut TWIST-UPPER (omega arith) in
       cc
 
 -- ---- the tests, where the cut leaves something out
@@ -115,25 +116,25 @@ module _ (m : ℕ) (s : List ℕ) (long : m < length s) where
     unfolding timeStepHead needed
     time-step-cut =
         same-if seen (found.Refused SecondTimeStep) λ e.
-        let l : 10 ≤ m = omega (arith, rw e at h) in
-        ap (λ (b : Bool). cond b (found.Refused Truncated) found.TimeStep) (long-enough 10 l)
+        let l : TIME-STEP ≤ m = omega (arith, rw e at h) in
+        ap (λ (b : Bool). cond b (found.Refused Truncated) found.TimeStep) (long-enough TIME-STEP l)
 
     body-head-cut : bodyHead (take m s) bodies ≡ bodyHead s bodies
     unfolding bodyHead needed
     body-head-cut =
         same-if (leb 16 bodies) (found.Refused TooMany) λ e.
-        let l : 210 ≤ m = omega (arith, leb-false 16 bodies e) in
-        ap (λ (b : Bool). cond b (found.Refused Truncated) found.Body) (long-enough 210 l)
+        let l : BODY ≤ m = omega (arith, leb-false 16 bodies e) in
+        ap (λ (b : Bool). cond b (found.Refused Truncated) found.Body) (long-enough BODY l)
 
     joint-head-cut : jointHead (take m s) joints ≡ jointHead s joints
     unfolding jointHead needed
     joint-head-cut =
         same-if (leb 16 joints) (found.Refused TooMany) λ e.
-        let l : 149 ≤ m = omega (arith, leb-false 16 joints e) in
-        let b4 : byte (take m s) 4 ≡ byte s 4 = byte-cut m s 4 (omega arith) in
-        let l5 : ltb (length (take m s)) 5 ≡ ltb (length s) 5 = long-enough 5 (omega arith) in
-        let size : ℕ = jointSize (byte s 4) in
-        let ls : ltb (length (take m s)) size ≡ ltb (length s) size = long-enough size (omega (arith, size-within (byte s 4) .1)) in
+        let l : CONE-TWIST ≤ m = omega (arith, leb-false 16 joints e) in
+        let b4 : byte (take m s) KIND ≡ byte s KIND = byte-cut m s KIND (omega arith) in
+        let l5 : ltb (length (take m s)) FRAME-A ≡ ltb (length s) FRAME-A = long-enough FRAME-A (omega arith) in
+        let size : ℕ = jointSize (byte s KIND) in
+        let ls : ltb (length (take m s)) size ≡ ltb (length s) size = long-enough size (omega (arith, size-within (byte s KIND) .1)) in
         rw (b4, l5, ls) refl
 
     head-cut : headOf (take m s) seen bodies joints ≡ headOf s seen bodies joints
@@ -178,15 +179,15 @@ module _ (tables : Plan) (m : ℕ) (s : List ℕ) (t : Plan) (h : neededBy t ≤
   with-joint-cut l = let j : jointOf (take m s) ≡ jointOf s = joint-cut m s (omega arith) in cc
 
   -- the tables with a record need so many bytes less
-  less-time-step : t .«has_dt» ≡ false → neededBy (withTimeStep s t) ≤ m - 10
+  less-time-step : t .«has_dt» ≡ false → neededBy (withTimeStep s t) ≤ m - TIME-STEP
   unfolding withTimeStep needed neededBy
   less-time-step e = omega (arith, rw e at h)
 
-  less-body : t .«body_count» < 16 → neededBy (withBody s t) ≤ m - 210
+  less-body : t .«body_count» < 16 → neededBy (withBody s t) ≤ m - BODY
   unfolding withBody needed neededBy
   less-body l = omega arith
 
-  less-joint : (n : ℕ) → t .«joint_count» < 16 → n ≤ 149 → neededBy (withJoint s t) ≤ m - n
+  less-joint : (n : ℕ) → t .«joint_count» < 16 → n ≤ CONE-TWIST → neededBy (withJoint s t) ≤ m - n
   unfolding withJoint needed neededBy
   less-joint n l k = omega arith
 
@@ -195,10 +196,10 @@ module _ (tables : Plan) (m : ℕ) (s : List ℕ) (t : Plan) (h : neededBy t ≤
     unfolding nextOf Room
     next-cut found.End r = refl
     next-cut (found.Refused e) r = refl
-    next-cut found.TimeStep r = ap (more 10) (with-time-step-cut (r .1)) ∙ ih 10 (withTimeStep s t) (omega arith) (r .0) (less-time-step (r .1))
-    next-cut found.Body r = ap (more 210) (with-body-cut (r .1)) ∙ ih 210 (withBody s t) (omega arith) (r .0) (less-body (r .1))
+    next-cut found.TimeStep r = ap (more TIME-STEP) (with-time-step-cut (r .1)) ∙ ih TIME-STEP (withTimeStep s t) (omega arith) (r .0) (less-time-step (r .1))
+    next-cut found.Body r = ap (more BODY) (with-body-cut (r .1)) ∙ ih BODY (withBody s t) (omega arith) (r .0) (less-body (r .1))
     next-cut (found.Joint n) r =
-        let q = size-within (byte s 4) in
+        let q = size-within (byte s KIND) in
         ap (more n) (with-joint-cut (r .1))
         ∙ ih n (withJoint s t) (omega (arith, r .2, q .0)) (omega (arith, r .2, r .0 .1)) (less-joint n (r .1) (omega (arith, r .2, q .1)))
 

@@ -1,7 +1,7 @@
 // Reads a plan file: records in any order, each under a two-byte mark. What it says is in specs/File.antt.
-ghost use Prim.Native.Nat.{ℕ, _+_, _^_, _≤_, _<_};
+ghost use Prim.Native.Nat.{_+_, _^_, _≤_, _<_};
 ghost use mathlib.Core.Path.{_≡_};
-ghost use lib.ListN.{length, getD, drop};
+ghost use lib.ListN.{length};
 ghost use Rattle.plan.specs.File as File;
 ghost use Rattle.plan.specs.Noting as Noting;
 use crate::layout;
@@ -230,6 +230,32 @@ fn filled(file: &[u8], tables: Plan, notes: Notes) -> Plan
     }
 }
 
+// The bodies that begin at these places of the file.
+fn put_bodies(table: &mut [f64], file: &[u8], places: [usize; 16], count: usize)
+    requires { ⌜ (count ≤ 16) × (length (now table) ≡ 416) ⌝ }
+    requires { ⌜ Noting.All (Noting.BodyAt (now file)) places count ⌝ }
+    ensures { λ _. ⌜ now (table .exit) ≡ Noting.bodiesFrom (now (file .entry)) places count (now (table .entry)) ⌝ }
+{
+    for k in 0..count {
+        let at = places[k];
+        put_body(table, 26 * k, &file[at..]);
+    }
+}
+
+// The joints likewise.
+fn joints_from(table: [Joint; 16], file: &[u8], places: [usize; 16], count: usize) -> [Joint; 16]
+    requires { ⌜ count ≤ 16 ⌝ }
+    requires { ⌜ Noting.All (Noting.JointAt (now file)) places count ⌝ }
+    ensures { λ r. ⌜ r ≡ Noting.jointsFrom (now (file .entry)) places count table ⌝ }
+{
+    let mut joints = table;
+    for k in 0..count {
+        let at = places[k];
+        joints[k] = joint_at(&file[at..]);
+    }
+    joints
+}
+
 // The tests at a record, in the order of SPECIFICATION §12.
 fn head(file: &[u8], has_dt: bool, bodies: usize, joints: usize) -> Found
     ensures { λ r. ⌜ r ≡ File.headOf (now (file .entry)) «has_dt» bodies joints ⌝ }
@@ -315,28 +341,4 @@ fn joint_length(kind: u8) -> usize
         5 => layout::CONE_TWIST,
         _ => layout::JOINT,
     }
-}
-
-fn put_bodies(table: &mut [f64], file: &[u8], places: [usize; 16], count: usize)
-    requires { ⌜ (count ≤ 16) × (length (now table) ≡ 416) ⌝ }
-    requires { ⌜ ((k : ℕ) → k < count → File.BODY ≤ length (drop (getD places k 0) (now file))) ⌝ }
-    ensures { λ _. ⌜ now (table .exit) ≡ Noting.bodiesFrom (now (file .entry)) places count (now (table .entry)) ⌝ }
-{
-    for k in 0..count {
-        let at = places[k];
-        put_body(table, 26 * k, &file[at..]);
-    }
-}
-
-fn joints_from(table: [Joint; 16], file: &[u8], places: [usize; 16], count: usize) -> [Joint; 16]
-    requires { ⌜ count ≤ 16 ⌝ }
-    requires { ⌜ ((k : ℕ) → k < count → File.JointThere (drop (getD places k 0) (now file))) ⌝ }
-    ensures { λ r. ⌜ r ≡ Noting.jointsFrom (now (file .entry)) places count table ⌝ }
-{
-    let mut joints = table;
-    for k in 0..count {
-        let at = places[k];
-        joints[k] = joint_at(&file[at..]);
-    }
-    joints
 }

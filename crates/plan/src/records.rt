@@ -72,7 +72,7 @@ fn kind_at(file: &[u8]) -> Kind
 }
 
 fn cone_twist_at(file: &[u8]) -> Kind
-    requires { ⌜ File.jointSize 5 ≤ length (now file) ⌝ }
+    requires { ⌜ File.CONE-TWIST ≤ length (now file) ⌝ }
     ensures { λ r. ⌜ r ≡ File.coneTwistOf (now (file .entry)) ⌝ }
 {
     Kind::ConeTwist {
