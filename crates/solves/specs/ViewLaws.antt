@@ -13,9 +13,11 @@ use Rattle.rows.specs.View.{at, Out, Kept}
 use Rattle.rows.specs.Region.{tab-ext, tab-at, is-tab, tab-set, tab-more, Over, kept-vec3, kept-row}
 use Rattle.solves.specs.declared.places.Generalized.{Generalized}
 use Rattle.solves.specs.declared.places.MassResponse.{MassResponse}
+use Rattle.solves.specs.declared.Table.{Table}
 use Rattle.solves.specs.Region.{Filled}
 use Rattle.solves.specs.Solver.{noShare, noRow, noGeneralized, noMass, rowIn, generalizedIn, massIn}
-use Rattle.solves.specs.View.{rowOn, rowsOn, generalizedAt, generalizedsAt, massAt, massesAt, Work, Tables, SOLUTION, RESIDUAL, DIRECTION, PRODUCT, DIAGONAL, NORMAL, GENERALIZED, PATH-BAND, PATH-SCALE}
+use Rattle.solves.specs.View.{rowOn, rowsOn, generalizedAt, generalizedsAt, massAt, massesAt, systemOn, Work, Tables, ROWS, RHS, ROWS-MOST, BODIES-MOST, MASSES, SOLUTION}
+use Rattle.solves.specs.View.{RESIDUAL, DIRECTION, PRODUCT, DIAGONAL, NORMAL, GENERALIZED, PATH-BAND, PATH-SCALE, PATH-RHS, VECTOR, SHARES, BAND, END}
 
 -- views that a write keeps, and elements of them
 module _ {P : ℕ → Type 0} {s t : List Float} (kept : Kept P s t) where
@@ -117,11 +119,20 @@ out-join a m n i p q = by (decLt i a)
 
 pub tables-work : (i : ℕ) → Tables i → Work i
 tables-work i t =
-    out-join SOLUTION 96 1920 i (t .solution)
-    (out-join RESIDUAL 96 1824 i (t .residual)
-    (out-join DIRECTION 96 1728 i (t .direction)
-    (out-join PRODUCT 96 1632 i (t .product)
-    (out-join DIAGONAL 96 1536 i (t .diagonal)
-    (out-join NORMAL 96 1440 i (t .normal)
-    (out-join GENERALIZED 96 1344 i (t .shares)
-    (out-join PATH-BAND 1152 192 i (t .band) (out-join PATH-SCALE 96 96 i (t .scale) (t .side)))))))))
+    out-join SOLUTION VECTOR (END - RESIDUAL) i (t .solution)
+    (out-join RESIDUAL VECTOR (END - DIRECTION) i (t .residual)
+    (out-join DIRECTION VECTOR (END - PRODUCT) i (t .direction)
+    (out-join PRODUCT VECTOR (END - DIAGONAL) i (t .product)
+    (out-join DIAGONAL VECTOR (END - NORMAL) i (t .diagonal)
+    (out-join NORMAL VECTOR (END - GENERALIZED) i (t .normal)
+    (out-join GENERALIZED SHARES (END - PATH-BAND) i (t .shares)
+    (out-join PATH-BAND BAND (END - PATH-SCALE) i (t .band)
+    (out-join PATH-SCALE VECTOR (END - PATH-RHS) i (t .scale) (t .side)))))))))
+
+-- what a solve leaves of the system that it began with
+pub system-kept : {P : ℕ → Type 0} {s t : List Float} (ia ib : List ℕ) (table : Table) → Over P 0 RHS → table .place ≤ ROWS → table .rows ≤ ROWS-MOST
+    → table .bodies ≤ BODIES-MOST → Kept P s t → systemOn ia ib t table ≡ systemOn ia ib s table
+system-kept ia ib table w place rows bodies k = λ j. record {
+  rows = kept-rows k ia ib (table .place) (table .rows) (λ i x y. w i (omega arith) (omega arith)) j;
+  masses = kept-masses k MASSES (table .bodies) (λ i x y. w i (omega arith) (omega arith)) j;
+}
