@@ -123,3 +123,7 @@ does-eq e f = record { kept = f .kept; is = e ∙ f .is }
 -- under a wider frame
 pub does-more : {A : Type 0} {P Q : ℕ → Type 0} {s t : List Float} {x d : A} → ((i : ℕ) → Q i → P i) → Does P s t x d → Does Q s t x d
 does-more w f = record { kept = kept-more (f .kept) w; is = f .is }
+
+-- a definition by another name
+pub does-is : {A : Type 0} {P : ℕ → Type 0} {s t : List Float} {x d e : A} → Does P s t x d → d ≡ e → Does P s t x e
+does-is f e = record { kept = f .kept; is = f .is ∙ e }

@@ -16,7 +16,7 @@ use Rattle.solves.specs.declared.places.MassResponse.{MassResponse}
 use Rattle.solves.specs.declared.Table.{Table}
 use Rattle.solves.specs.Region.{Filled}
 use Rattle.solves.specs.Solver.{noShare, noRow, noGeneralized, noMass, rowIn, generalizedIn, massIn}
-use Rattle.solves.specs.View.{rowOn, rowsOn, generalizedAt, generalizedsAt, massAt, massesAt, systemOn, Work, Tables, ROWS, RHS, ROWS-MOST, BODIES-MOST, MASSES, SOLUTION}
+use Rattle.solves.specs.View.{rowOn, rowsOn, generalizedAt, generalizedsAt, massAt, massesAt, systemOn, Beside, Moves, Passing, Testing, Refining, Work, Tables, ROWS, RHS, ROWS-MOST, BODIES-MOST, MASSES, SOLUTION}
 use Rattle.solves.specs.View.{RESIDUAL, DIRECTION, PRODUCT, DIAGONAL, NORMAL, GENERALIZED, PATH-BAND, PATH-SCALE, PATH-RHS, VECTOR, SHARES, BAND, END}
 
 -- views that a write keeps, and elements of them
@@ -81,6 +81,37 @@ shares-none {s} {t} off m e = sym (is-tab m (generalizedAt t off) noShare (repli
       linear = record { x = zeroed k (off + 6 * k) h (omega arith) (omega arith) j; y = zeroed k (off + 6 * k + 1) h (omega arith) (omega arith) j; z = zeroed k (off + 6 * k + 2) h (omega arith) (omega arith) j };
       angular = record { x = zeroed k (off + 6 * k + 3) h (omega arith) (omega arith) j; y = zeroed k (off + 6 * k + 3 + 1) h (omega arith) (omega arith) j; z = zeroed k (off + 6 * k + 3 + 2) h (omega arith) (omega arith) j };
     }
+
+-- ---- frames within frames
+pub out-within : (a n b m i : ℕ) → a ≤ b → b + m ≤ a + n → Out a n i → Out b m i
+out-within a n b m i h l x = omega arith
+
+-- what a pass writes: a vector before the diagonal, the normal, and the shares
+pub passing-vector : (off : ℕ) → SOLUTION ≤ off → off + VECTOR ≤ DIAGONAL → (i : ℕ) → Passing i → Beside off i
+passing-vector off h l i x = out-within SOLUTION (DIAGONAL - SOLUTION) off VECTOR i h (omega arith) (x .0)
+
+pub passing-moves : (off : ℕ) → SOLUTION ≤ off → off + VECTOR ≤ DIAGONAL → (i : ℕ) → Passing i → Moves off i
+passing-moves off h l i x = (out-within NORMAL (PATH-BAND - NORMAL) GENERALIZED SHARES i (omega arith) (omega arith) (x .1), passing-vector off h l i x)
+
+pub passing-normal : (i : ℕ) → Passing i → Moves NORMAL i
+passing-normal i x = (
+  out-within NORMAL (PATH-BAND - NORMAL) GENERALIZED SHARES i (omega arith) (omega arith) (x .1),
+  out-within NORMAL (PATH-BAND - NORMAL) NORMAL VECTOR i (omega arith) (omega arith) (x .1),
+)
+
+pub passing-testing : (i : ℕ) → Passing i → Testing i
+passing-testing i x =
+    let moves = passing-moves PRODUCT (omega arith) (omega arith) i x in
+    (moves .0, moves .1, passing-vector RESIDUAL (omega arith) (omega arith) i x)
+
+pub passing-work : (i : ℕ) → Work i → Passing i
+passing-work i x = (
+  out-within SOLUTION (END - SOLUTION) SOLUTION (DIAGONAL - SOLUTION) i (omega arith) (omega arith) x,
+  out-within SOLUTION (END - SOLUTION) NORMAL (PATH-BAND - NORMAL) i (omega arith) (omega arith) x,
+)
+
+pub refining-work : (i : ℕ) → Work i → Refining i
+refining-work i x = (passing-work i x, out-within SOLUTION (END - SOLUTION) PATH-RHS VECTOR i (omega arith) (omega arith) x)
 
 -- what a linear solve may write are its ten tables
 pub work-tables : (i : ℕ) → Work i → Tables i
