@@ -54,6 +54,7 @@ module _ {A B E : Type 0} {test : Bool} (b : B) (rest : Run (Turn A B) E) where
   pub leave-no : test ≡ false → rest ≡ leaveIf test b rest
   unfolding leaveIf
   leave-no h = ap (λ (test : Bool). leaveIf test b rest) (sym h)
+
 -- ---- the loop law. Before turn k stands a, after n nonlinear and l linear passes: the loop comes to what is left of it from there
 module _ {A B E : Type 0} (most : ℕ) (e : E) (pass : A → Run (Turn A B) E) (start : A) where
   pub record Reached (k : ℕ) (a : A) (n l : ℕ) : Type 0 where

@@ -159,7 +159,7 @@ module _ {z : List Float} {ia ib : List ℕ} {rows n count : ℕ} (pre : Rows z 
           ∙ then-go _ (goes-on _ (small false q w)));
     }
 
-  pub prepared-ends : {k : ℕ} {s : List Float} {rho : Float} → PreparedSo k s rho → k ≤ n → n ≤ k 
+  pub prepared-ends : {k : ℕ} {s : List Float} {rho : Float} → PreparedSo k s rho → k ≤ n → n ≤ k
       → Does Preparing s₀ s (go (preparedAt s n rho)) (prepare S E)
   unfolding prepare
   prepared-ends {k} {s} {rho} inv a b =

@@ -117,7 +117,13 @@ fn next_direction(s: &mut [f64], beta: f64, n: usize)
 }
 
 // Recomputes the residual, to prevent a success of the recurrence only. Over where it is within the tolerance still.
-fn true_residual(s: &mut [f64], ia: &[usize; 96], ib: &[usize; 96], t: Table, tolerance: f64) -> Pass
+fn true_residual(
+    s: &mut [f64],
+    ia: &[usize; 96],
+    ib: &[usize; 96],
+    t: Table,
+    tolerance: f64,
+) -> Pass
     requires { ⌜ Ready s ia ib t ⌝ }
     ensures { λ r. ⌜ Does Testing (came s) (left s) (trueAs r (vecAt (left s) RESIDUAL (t .rows))) (trueResidual (systemIn s ia ib t) (rhsOn s t) tolerance (solutionOn s t) (residualOn s t)) ⌝ }
 {

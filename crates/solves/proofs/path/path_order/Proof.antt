@@ -54,8 +54,8 @@ returns-3 c =
     let at-blocks = at-edges .before .before in
     let args = at-blocks .before .args in (
       order-found (now (args .ia)) (now (args .ib)) (args .n) (at-blocks .path-blocks .ensures)
-      (edges-yes (at-edges .path-edges .result) _ (at-edges .path-edges .ensures .0) (not-no _ (at-if1 .if1 .left)))
-      (at-walks .path-walks .result) (at-walks .path-walks .ensures .0) (c .if3 .taken),
+          (edges-yes (at-edges .path-edges .result) _ (at-edges .path-edges .ensures .0) (not-no _ (at-if1 .if1 .left)))
+          (at-walks .path-walks .result) (at-walks .path-walks .ensures .0) (c .if3 .taken),
       λ e. order-along (now (args .ia)) (now (args .ib)) (args .n) (at-blocks .path-blocks .ensures) (c .if3 .taken) (at-walks .path-walks .ensures .1 e),
       λ e. absurd (false-true (sym e ∙ not-no _ (at-if2 .if2 .left))),
     )
