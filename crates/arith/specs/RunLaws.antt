@@ -5,7 +5,7 @@ use mathlib.Core.Bool.{Bool, true, false}
 use native.Mathlib.Nat.{zero-add, add-assoc}
 use native.Mathlib.Omega.{arith}
 use Rattle.arith.specs.Flow.{Turn, go, stop}
-use Rattle.arith.specs.Run.{Run, ran, after, fail, try, onward, _>>=_, failIf, leave, leaveIf, over, next, upTo}
+use Rattle.arith.specs.Run.{Run, ran, after, fail, try, onward, _>>=_, _>>_, tick, failIf, leave, leaveIf, over, next, upTo}
 
 -- equal in its three parts
 pub run-is : {A E : Type 0} {t : Turn A E} {n m l k : ℕ} → n ≡ m → l ≡ k → ran t n l ≡ ran t m k
@@ -36,6 +36,11 @@ module _ {A B E : Type 0} where
   pub try-stop : {r : Turn A E} {x : E} (f : A → Run B E) → stop x ≡ r → fail x ≡ (try r >>= f)
   unfolding _>>=_
   try-stop f e = ap (λ (r : Turn A E). try r >>= f) e
+
+-- linear_iterations += 1, before the rest
+pub ticks : {A E : Type 0} (r : Run A E) → after 0 1 r ≡ (tick >> r)
+unfolding _>>=_
+ticks r = refl
 
 module _ {A E : Type 0} {test : Bool} (e : E) (f : Unit {0} → Run A E) where
   pub fail-yes : test ≡ true → fail e ≡ (failIf test e >>= f)

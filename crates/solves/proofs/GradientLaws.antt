@@ -12,7 +12,7 @@ use Rattle.arith.specs.Root.{sqrt}
 use Rattle.arith.specs.Flow.{Turn, go, stop, turns, loop, tab}
 use Rattle.arith.specs.FlowLaws.{turns-more, turns-end, then-go, then-stop, loop-none, loop-more, loop-stop, loop-end}
 use Rattle.arith.specs.Run.{ran, again, leave, fail, over, upTo}
-use Rattle.arith.specs.RunLaws.{try-go, try-stop, leave-yes, leave-no}
+use Rattle.arith.specs.RunLaws.{ticks, try-go, try-stop, leave-yes, leave-no}
 use Rattle.vectors.specs.declared.vector.Vec3.{Vec3}
 use Rattle.vectors.specs.Vector.{dotOf}
 use Rattle.vectors.specs.Matrix.{applyOf}
@@ -38,7 +38,7 @@ use Rattle.solves.specs.View.{VECTOR, ROWS-MOST, MASSES, RHS, SOLUTION, 
 use Rattle.solves.specs.DoesLaws.{goes-on, returns-if, does-stop, does-as}
 use Rattle.solves.specs.ViewLaws.{row-in, mass-in, passing-vector, passing-moves, passing-testing}
 use Rattle.solves.proofs.OperatorLaws.{on-a, on-b}
-use Rattle.solves.proofs.SearchLaws.{ticks, passing-system, work-system}
+use Rattle.solves.proofs.SearchLaws.{passing-system, work-system}
 
 -- residual_test
 module _ (residual : List Float) (tolerance : Float) where

@@ -11,7 +11,7 @@ use Rattle.arith.specs.Real.{ratio, _⊘_}
 use Rattle.arith.specs.Root.{sqrt}
 use Rattle.arith.specs.Flow.{Turn, go, stop}
 use Rattle.arith.specs.Run.{ran, again, leave, fail, upTo}
-use Rattle.arith.specs.RunLaws.{try-go, try-stop, fail-yes, fail-no, leave-yes, leave-no}
+use Rattle.arith.specs.RunLaws.{ticks, try-go, try-stop, fail-yes, fail-no, leave-yes, leave-no}
 use Rattle.rows.specs.declared.geometry.EqualityRow.{EqualityRow}
 use Rattle.rows.specs.Fault.{Fault, nonConvergent, arithmeticOverflow}
 use Rattle.rows.specs.View.{Kept}
@@ -24,7 +24,7 @@ use Rattle.solves.specs.Solver.{dot, operator, plus, minus, toleranceFor
 use Rattle.solves.specs.Search.{leastPass, leastSquares}
 use Rattle.solves.specs.View.{rowOn, systemOn, searchAt, Rows, Beside, Moves, Passing, Work, RHS, SOLUTION, RESIDUAL, DIRECTION, PRODUCT, NORMAL}
 use Rattle.solves.specs.ViewLaws.{passing-vector, passing-moves, passing-normal}
-use Rattle.solves.proofs.SearchLaws.{ticks, passing-system, work-system}
+use Rattle.solves.proofs.SearchLaws.{passing-system, work-system}
 
 module _ {s : List Float} {ia ib : List ℕ} (table : Table) (pre : Rows s ia ib (table .place) (table .rows) (table .bodies)) (tolerance norm : Float) where
   abbrev n : ℕ

@@ -10,7 +10,7 @@ use Rattle.arith.specs.Real.{ratio}
 use Rattle.arith.specs.Flow.{Turn, go, stop, tab}
 use Rattle.arith.specs.FlowLaws.{then-go, then-stop, cond-yes, cond-no}
 use Rattle.arith.specs.Run.{ran, after, fail, over, upTo}
-use Rattle.arith.specs.RunLaws.{try-go, try-stop, leave-yes, leave-no}
+use Rattle.arith.specs.RunLaws.{ticks, try-go, try-stop, leave-yes, leave-no}
 use Rattle.rows.specs.declared.geometry.EqualityRow.{EqualityRow}
 use Rattle.rows.specs.Fault.{Fault, nonConvergent, Result}
 use Rattle.rows.specs.View.{Kept}
@@ -31,7 +31,7 @@ use Rattle.solves.specs.Answer.{ranAs, testAs, orderAs, endedAs, endedWi
 use Rattle.solves.specs.View.{rowOn, rowsOn, systemOn, listAt, bandAt, factorAt, refinedAt, Rows, Beside, Moves, Factoring, Refining, Work}
 use Rattle.solves.specs.View.{RHS, SOLUTION, RESIDUAL, PRODUCT, PATH-BAND, PATH-SCALE, PATH-RHS}
 use Rattle.solves.specs.ViewLaws.{system-kept, passing-vector, passing-moves}
-use Rattle.solves.proofs.SearchLaws.{ticks, work-system, Came, came-again, came-over, came-out}
+use Rattle.solves.proofs.SearchLaws.{work-system, Came, came-again, came-over, came-out}
 use Rattle.solves.proofs.GradientLaws.{test-is}
 use Rattle.solves.proofs.RefineLaws.{Backs}
 

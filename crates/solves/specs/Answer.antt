@@ -31,7 +31,8 @@ use Rattle.solves.specs.System.{System, rowsIn, Counting}
 use Rattle.solves.specs.Solver.{Search, Prepared, Tested}
 use Rattle.solves.specs.Path.{Seen}
 use Rattle.solves.specs.Search.{leastPass, gradientPass}
-use Rattle.solves.specs.Region.{Lent, came, left, vecAt, Does}
+use Rattle.solves.specs.Lent.{Lent, came, left}
+use Rattle.solves.specs.Region.{vecAt, Does}
 use Rattle.solves.specs.View.{searchAt, preparedAt, orderOf, seenOf, rowsOn, sharesIn, systemIn, Shares, Work, SOLUTION}
 
 -- ---- the Rust's Result

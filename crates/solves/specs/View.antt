@@ -18,7 +18,8 @@ use Rattle.solves.specs.declared.path.PathOrder.{PathOrder}
 use Rattle.solves.specs.declared.Table.{Table}
 pub use Rattle.solves.specs.Layout.{ROWS-MOST, BODIES-MOST, VECTOR, SHARES, BAND, START-ROWS, ROWS, MASSES, RHS, SOLUTION, RESIDUAL, DIRECTION}
 pub use Rattle.solves.specs.Layout.{PRODUCT, DIAGONAL, NORMAL, GENERALIZED, PATH-BAND, PATH-SCALE, PATH-RHS, END}
-use Rattle.solves.specs.Region.{Slice, Lent, came, vecAt}
+use Rattle.solves.specs.Lent.{Slice, Lent, came}
+use Rattle.solves.specs.Region.{vecAt}
 use Rattle.solves.specs.System.{System}
 use Rattle.solves.specs.Solver.{Search, Prepared}
 use Rattle.solves.specs.Path.{none, Seen, Factor, Refined}

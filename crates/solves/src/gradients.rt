@@ -33,7 +33,8 @@ ghost use lib.ListN.{length};
 ghost use Rattle.solves.specs.Solver.{within, diagonalOf, prepare as prepareOf, trueResidual, scaledSquare, nextDirection, advance as advanceOf};
 ghost use Rattle.solves.specs.Search.{settle as settleOf, gradientPass, gradients as gradientsOf};
 ghost use Rattle.solves.specs.Answer.{ranAs, testAs, preparedAs, trueAs, searchAs, Solves};
-ghost use Rattle.solves.specs.Region.{came, left, vecAt, Does};
+ghost use Rattle.solves.specs.Lent.{came, left};
+ghost use Rattle.solves.specs.Region.{vecAt, Does};
 ghost use Rattle.solves.specs.View.{searchAt, systemIn, rhsOn, diagonalOn, solutionOn, residualOn, searchOn, Ready, Passing, Preparing, Testing, Beside};
 ghost use Rattle.solves.specs.View.{ROWS-MOST, RESIDUAL, DIRECTION, DIAGONAL, END};
 

@@ -37,7 +37,8 @@ ghost use Rattle.rows.specs.View.{Out};
 ghost use Rattle.solves.specs.Path.{begins as beginsOf, pathStarts, addEdge, blockEdges, neighbor as neighborOf, follows as followsOf, nextBlock, run, walk as walkOf, walkFrom, isEnd, pathWalks, pathOrder, pathScale, reduced as reducedOf, pathEntry, pathRow, pathFactor, pathFactored, forwardSum, forward as forwardOf, backwardSum, backward as backwardOf, refine as refineOf};
 ghost use Rattle.solves.specs.Search.{refinement, pathAlong};
 ghost use Rattle.solves.specs.Answer.{ranAs, partAs, edgesAs, seenAs, orderAs, orderIn, Solves};
-ghost use Rattle.solves.specs.Region.{came, left, vecAt, Does};
+ghost use Rattle.solves.specs.Lent.{came, left};
+ghost use Rattle.solves.specs.Region.{vecAt, Does};
 ghost use Rattle.solves.specs.View.{rowsOn, massesAt, listAt, startsOf, rowsOf, Blocked, Linking, Free, orderOf, seenOf, Listed, Along, Blank, noPath, bandAt, factorAt, refinedAt, Refining, Factoring, Rows, MASSES, SOLUTION, RESIDUAL, PATH-BAND, PATH-SCALE, PATH-RHS, END};
 ghost use Rattle.solves.specs.View.{systemIn, rhsOn, solutionOn, orderOn, Ready};
 

@@ -10,7 +10,8 @@ ghost use Prim.Native.Nat.{_≤_};
 ghost use Rattle.arith.specs.Run.{upTo};
 ghost use Rattle.rows.specs.Fault.{nonConvergent};
 ghost use Rattle.solves.specs.Answer.{searchAs, passOf, limitOf, Solves};
-ghost use Rattle.solves.specs.Region.{came, left, Does};
+ghost use Rattle.solves.specs.Lent.{came, left};
+ghost use Rattle.solves.specs.Region.{Does};
 ghost use Rattle.solves.specs.View.{systemIn, rhsOn, diagonalOn, searchOn, Ready, Passing, ROWS-MOST};
 
 pub(crate) enum Which {
