@@ -52,7 +52,8 @@ module _ (system : System) (rhs : List Float) where
       less (most-loop (refinement system rhs order factor tolerance) (refinement-one system rhs tolerance order factor) 4 _ _) (omega arith)
   solve-most byGradients solution =
       most-try _ _ λ p. most-try _ _ λ tolerance.
-      less (most-loop (gradientPass system rhs (p .diagonal) tolerance) (gradient-one system rhs tolerance (p .diagonal)) (2 * rowsIn system + 32) _ _) (omega arith)
+      less (most-loop (gradientPass system rhs (p .diagonal) tolerance) (gradient-one system rhs tolerance (p .diagonal)) (2 * rowsIn system + 32) _ _)
+      (omega arith)
 
 limit-most : (choice : Choice) (n : ℕ) → limitBy choice n ≤ 4 * n + 64
 limit-most byLeastSquares n = omega arith

@@ -546,7 +546,8 @@ fn path_factored(
 // One refinement, up to the new residual.
 fn refine(s: &mut [f64], ia: &[usize; 96], ib: &[usize; 96], t: Table, order: &[usize; 96]) -> End
     requires { ⌜ (Ready s ia ib t) × (Along (now order) (t .rows)) ⌝ }
-    ensures { λ r. ⌜ Does Refining (came s) (left s) (ranAs r (refinedAt (left s) (t .rows))) (refineOf (systemIn s ia ib t) (rhsOn s t) (orderOn order t) (factorAt (came s) (t .rows)) (refinedAt (came s) (t .rows))) ⌝ }
+    ensures { λ r. ⌜ Does Refining (came s) (left s) (ranAs r (refinedAt (left s) (t .rows)))
+        (refineOf (systemIn s ia ib t) (rhsOn s t) (orderOn order t) (factorAt (came s) (t .rows)) (refinedAt (came s) (t .rows))) ⌝ }
 {
     let n = t.rows;
     forward(s, order, n);
@@ -569,7 +570,8 @@ fn refinements(
     tolerance: f64,
 ) -> Ended
     requires { ⌜ (Ready s ia ib t) × (Along (now order) (t .rows)) ⌝ }
-    ensures { λ r. ⌜ Solves s ia ib t r (λ system. upTo 4 nonConvergent (refinement system (rhsOn s t) (orderOn order t) (factorAt (came s) (t .rows)) tolerance) (refinedAt (came s) (t .rows))) ⌝ }
+    ensures { λ r. ⌜ Solves s ia ib t r (λ system.
+        upTo 4 nonConvergent (refinement system (rhsOn s t) (orderOn order t) (factorAt (came s) (t .rows)) tolerance) (refinedAt (came s) (t .rows))) ⌝ }
 {
     for k in 0..4usize {
         let refined = refine(s, ia, ib, t, order);
