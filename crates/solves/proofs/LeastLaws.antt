@@ -12,8 +12,7 @@ use Rattle.arith.specs.Root.{sqrt}
 use Rattle.arith.specs.Flow.{Turn, go, stop}
 use Rattle.arith.specs.Run.{ran, again, leave, fail, upTo}
 use Rattle.arith.specs.RunLaws.{ticks, try-go, try-stop, fail-yes, fail-no, leave-yes, leave-no}
-use Rattle.rows.specs.declared.geometry.EqualityRow.{EqualityRow}
-use Rattle.rows.specs.Fault.{Fault, nonConvergent, arithmeticOverflow}
+use Rattle.rows.specs.Fault.{Fault, nonConvergent}
 use Rattle.rows.specs.View.{Kept}
 use Rattle.rows.specs.Region.{tab-length, kept-refl, kept-then, kept-more}
 use Rattle.solves.specs.declared.Table.{Table}

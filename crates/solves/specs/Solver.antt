@@ -10,7 +10,7 @@ use lib.Ieee as Ieee
 use lib.Ieee.{Float, nan, binary64}
 use Rattle.arith.specs.Real.{_⊕_, _⊖_, _⊗_, _⊘_, ratio, isFinite}
 use Rattle.arith.specs.Root.{sqrt}
-use Rattle.arith.specs.Flow.{Turn, go, stop, _>>=_, turns, loop, tab, each, returnIf}
+use Rattle.arith.specs.Flow.{go, stop, _>>=_, turns, loop, tab, each, returnIf}
 use Rattle.vectors.specs.declared.vector.Vec3.{Vec3}
 use Rattle.vectors.specs.Vector.{zeroVec, dotOf, addOf, scaleOf}
 use Rattle.vectors.specs.Matrix.{applyOf}

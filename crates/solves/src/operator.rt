@@ -27,7 +27,7 @@ ghost use Rattle.solves.specs.Region.{vecAt, Does};
 ghost use Rattle.solves.specs.Solver.{sumProducts, dot as dotOf, toleranceFor, pushed as pushedOf, pushInto, pushRow, transpose as transposeOf};
 ghost use Rattle.solves.specs.Solver.{scaled as scaledOf, scaleAll, rate as rateOf, rates as ratesOf, operator as operatorOf};
 ghost use Rattle.solves.specs.Solver.{through as throughOf, addThrough, crossEnd, crossMass};
-ghost use Rattle.solves.specs.View.{rowsOn, sharesIn, massesAt, systemIn, rhsOn, Ready, Place, Shares, Beside, Moves};
+ghost use Rattle.solves.specs.View.{sharesIn, massesAt, systemIn, Ready, Place, Shares, Beside, Moves};
 ghost use Rattle.solves.specs.View.{ROWS-MOST, BODIES-MOST, MASSES, RHS, END};
 
 // A share, if it is finite.

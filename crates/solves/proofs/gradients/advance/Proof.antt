@@ -58,17 +58,17 @@ same-length-2 c =
 
 returns-2 : tie.Need-returns-2
 returns-2 c =
-    let at-Else1 = c .before .before .before .before in
-    let at-operator = at-Else1 .before .before .before .before in
+    let at-if1 = c .before .before .before .before in
+    let at-operator = at-if1 .before .before .before .before in
     let start = at-operator .before .before .before in
     advance-unmeasured (start .args .t) (start .pre) (start .args .rho)
-    (went _ (at-operator .operator .result) (at-Else1 .before .done .ensures) (at-operator .operator .ensures) (at-Else1 .if1 .left))
+    (went _ (at-operator .operator .result) (at-if1 .before .done .ensures) (at-operator .operator .ensures) (at-if1 .if1 .left))
     (sum-over (c .before .before .dot .ensures) (c .enum-told .given .1))
 
 same-length-3 : tie.Need-same-length-3
 same-length-3 c =
-    let at-Else1 = c .before .before .before .before .before .before in
-    let at-operator = at-Else1 .before .before .before .before in
+    let at-if1 = c .before .before .before .before .before .before in
+    let at-operator = at-if1 .before .before .before .before in
     at-operator .operator .ensures .kept .size
 
 returns-3 : tie.Need-returns-3
@@ -93,11 +93,11 @@ same-length-4 c =
 returns-4 : tie.Need-returns-4
 returns-4 c =
     let at-curvature = c .before .before .before .before in
-    let at-Else1 = at-curvature .before .before .before .before in
-    let at-operator = at-Else1 .before .before .before .before in
+    let at-if1 = at-curvature .before .before .before .before in
+    let at-operator = at-if1 .before .before .before .before in
     let start = at-operator .before .before .before in
     advance-wild (start .args .t) (start .pre) (start .args .rho)
-    (went _ (at-operator .operator .result) (at-Else1 .before .done .ensures) (at-operator .operator .ensures) (at-Else1 .if1 .left))
+    (went _ (at-operator .operator .result) (at-if1 .before .done .ensures) (at-operator .operator .ensures) (at-if1 .if1 .left))
     zero-is (sum-there (at-curvature .before .before .dot .ensures) (at-curvature .curvature .given .1)) (c .before .before .if2 .left)
     (c .before .is-finite .ensures) (c .if3 .taken)
 
@@ -131,11 +131,11 @@ returns-5 c =
     let at-add-scaled = c .before .before .before .before .before .before in
     let at-is-finite = at-add-scaled .before .before .before in
     let at-curvature = at-is-finite .before .before .before in
-    let at-Else1 = at-curvature .before .before .before .before in
-    let at-operator = at-Else1 .before .before .before .before in
+    let at-if1 = at-curvature .before .before .before .before in
+    let at-operator = at-if1 .before .before .before .before in
     let start = at-operator .before .before .before in
     advance-done (start .args .t) (start .pre) (start .args .rho)
-    (went _ (at-operator .operator .result) (at-Else1 .before .done .ensures) (at-operator .operator .ensures) (at-Else1 .if1 .left))
+    (went _ (at-operator .operator .result) (at-if1 .before .done .ensures) (at-operator .operator .ensures) (at-if1 .if1 .left))
     zero-is (sum-there (at-curvature .before .before .dot .ensures) (at-curvature .curvature .given .1)) (at-is-finite .before .if2 .left)
     (at-is-finite .is-finite .ensures) (at-add-scaled .before .before .if3 .left) (at-add-scaled .add-scaled .ensures)
     (c .before .before .sub-scaled .ensures)

@@ -70,13 +70,13 @@ same-length-3 c =
 
 returns-3 : tie.Need-returns-3
 returns-3 c =
-    let at-Else1 = c .before .before .before .before in
-    let at-advance = at-Else1 .before .before .before .before in
+    let at-if1 = c .before .before .before .before in
+    let at-advance = at-if1 .before .before .before .before in
     let at-residual-test = at-advance .before .before .before .before in
     let start = at-residual-test .before .before .before in
     pass-on (start .args .t) (start .pre) (start .args .tolerance) (start .args .rho) (at-advance .before .before .enum-told .given .1)
     (at-residual-test .residual-test .ensures)
-    (went _ (at-advance .advance .result) (at-Else1 .before .done .ensures) (at-advance .advance .ensures) (at-Else1 .if1 .left))
+    (went _ (at-advance .advance .result) (at-if1 .before .done .ensures) (at-advance .advance .ensures) (at-if1 .if1 .left))
     (c .before .before .settle .ensures)
 
 pub gradient-pass-spec : {M : Type 1} → statement M

@@ -5,7 +5,7 @@ use Prim.Native.Nat.{_≤_, _-_}
 use lib.ListN.{length, length-set}
 use Rattle.arith.specs.Real.{ratio}
 use Rattle.arith.specs.Laws.Constants.{zero-is}
-use Rattle.arith.specs.Flow.{go, loop, turns}
+use Rattle.arith.specs.Flow.{go, loop}
 use mathlib.Core.List.{[]}
 use Rattle.solves.specs.Region.{vecAt, Does}
 use Rattle.solves.specs.View.{systemOn, preparedAt, Preparing}

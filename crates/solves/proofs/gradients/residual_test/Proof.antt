@@ -1,7 +1,6 @@
 -- residual_test: the length of the residual beside the tolerance, by the cases of `dot`.
 use borrow.Author.Needs.{needs}
 use Prim.Native.Nat.{_-_}
-use lib.ListN.{length}
 use denote.Ref.{now}
 use Rattle.solves.specs.Region.{vecAt}
 use Rattle.solves.specs.View.{RESIDUAL}

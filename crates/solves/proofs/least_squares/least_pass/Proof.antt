@@ -70,19 +70,19 @@ same-length-2 c =
 
 returns-3 : tie.Need-returns-3
 returns-3 c =
-    let at-Else2 = c .before .before .before .before in
-    let at-operator = at-Else2 .before .before .before .before in
+    let at-if2 = c .before .before .before .before in
+    let at-operator = at-if2 .before .before .before .before in
     let at-sqrt = at-operator .before .before .before in
     let start = at-sqrt .before .before in
     pass-unmeasured (start .args .t) (start .pre) (start .args .tolerance) (start .args .norm) (at-sqrt .sqrt .ensures .is)
     (at-operator .before .before .if1 .left)
-    (went _ (at-operator .operator .result) (at-Else2 .before .done .ensures) (at-operator .operator .ensures) (at-Else2 .if2 .left))
+    (went _ (at-operator .operator .result) (at-if2 .before .done .ensures) (at-operator .operator .ensures) (at-if2 .if2 .left))
     (sum-over (c .before .before .dot .ensures) (c .enum-told .given .1))
 
 same-length-3 : tie.Need-same-length-3
 same-length-3 c =
-    let at-Else2 = c .before .before .before .before .before .before in
-    let at-operator = at-Else2 .before .before .before .before in
+    let at-if2 = c .before .before .before .before .before .before in
+    let at-operator = at-if2 .before .before .before .before in
     at-operator .operator .ensures .kept .size
 
 returns-4 : tie.Need-returns-4
@@ -147,15 +147,15 @@ returns-5 c =
     let at-sub-scaled = at-operator2 .before .before .before .before in
     let at-add-scaled = at-sub-scaled .before .before .before .before in
     let at-denominator = at-add-scaled .before .before .before .before in
-    let at-Else2 = at-denominator .before .before .before .before in
-    let at-operator = at-Else2 .before .before .before .before in
+    let at-if2 = at-denominator .before .before .before .before in
+    let at-operator = at-if2 .before .before .before .before in
     let at-sqrt = at-operator .before .before .before in
     let start = at-sqrt .before .before in
     let end = at-operator2 .operator2 .result in
     does-eq (ap (λ x. ran x 0 0) (fails-over _ end (at-done2 .done2 .ensures) (c .if4 .taken)))
     (pass-unreturned (start .args .t) (start .pre) (start .args .tolerance) (start .args .norm) (at-sqrt .sqrt .ensures .is)
     (at-operator .before .before .if1 .left)
-    (went _ (at-operator .operator .result) (at-Else2 .before .done .ensures) (at-operator .operator .ensures) (at-Else2 .if2 .left))
+    (went _ (at-operator .operator .result) (at-if2 .before .done .ensures) (at-operator .operator .ensures) (at-if2 .if2 .left))
     zero-is (sum-there (at-denominator .before .before .dot .ensures) (at-denominator .denominator .given .1))
     (at-add-scaled .before .before .if3 .left) (at-add-scaled .add-scaled .ensures) (at-sub-scaled .sub-scaled .ensures)
     (failed _ end (at-done2 .done2 .ensures) (at-operator2 .operator2 .ensures) (c .if4 .taken)))
@@ -195,27 +195,27 @@ same-length-5 c =
 
 returns-6 : tie.Need-returns-6
 returns-6 c =
-    let at-Else4 = c .before .before .before .before in
-    let at-operator2 = at-Else4 .before .before .before .before in
+    let at-if4 = c .before .before .before .before in
+    let at-operator2 = at-if4 .before .before .before .before in
     let at-sub-scaled = at-operator2 .before .before .before .before in
     let at-add-scaled = at-sub-scaled .before .before .before .before in
     let at-denominator = at-add-scaled .before .before .before .before in
-    let at-Else2 = at-denominator .before .before .before .before in
-    let at-operator = at-Else2 .before .before .before .before in
+    let at-if2 = at-denominator .before .before .before .before in
+    let at-operator = at-if2 .before .before .before .before in
     let at-sqrt = at-operator .before .before .before in
     let start = at-sqrt .before .before in
     pass-unmeasured-again (start .args .t) (start .pre) (start .args .tolerance) (start .args .norm) (at-sqrt .sqrt .ensures .is)
     (at-operator .before .before .if1 .left)
-    (went _ (at-operator .operator .result) (at-Else2 .before .done .ensures) (at-operator .operator .ensures) (at-Else2 .if2 .left))
+    (went _ (at-operator .operator .result) (at-if2 .before .done .ensures) (at-operator .operator .ensures) (at-if2 .if2 .left))
     zero-is (sum-there (at-denominator .before .before .dot .ensures) (at-denominator .denominator .given .1))
     (at-add-scaled .before .before .if3 .left) (at-add-scaled .add-scaled .ensures) (at-sub-scaled .sub-scaled .ensures)
-    (went _ (at-operator2 .operator2 .result) (at-Else4 .before .done2 .ensures) (at-operator2 .operator2 .ensures) (at-Else4 .if4 .left))
+    (went _ (at-operator2 .operator2 .result) (at-if4 .before .done2 .ensures) (at-operator2 .operator2 .ensures) (at-if4 .if4 .left))
     (sum-over (c .before .before .dot2 .ensures) (c .enum-told2 .given .1))
 
 add-scaled-requires-2 : tie.Need-add-scaled-requires-2
 add-scaled-requires-2 c κs =
-    let at-Else4 = c .before .before .before .before .before .before in
-    let at-operator2 = at-Else4 .before .before .before .before in
+    let at-if4 = c .before .before .before .before .before .before in
+    let at-operator2 = at-if4 .before .before .before .before in
     let at-sub-scaled = at-operator2 .before .before .before .before in
     let at-add-scaled = at-sub-scaled .before .before .before .before in
     let at-dot = at-add-scaled .before .before .before .before .before .before in
@@ -244,21 +244,21 @@ same-length-6 c =
 returns-7 : tie.Need-returns-7
 returns-7 c =
     let at-next = c .before .before .before .before .before in
-    let at-Else4 = at-next .before .before .before .before in
-    let at-operator2 = at-Else4 .before .before .before .before in
+    let at-if4 = at-next .before .before .before .before in
+    let at-operator2 = at-if4 .before .before .before .before in
     let at-sub-scaled = at-operator2 .before .before .before .before in
     let at-add-scaled = at-sub-scaled .before .before .before .before in
     let at-denominator = at-add-scaled .before .before .before .before in
-    let at-Else2 = at-denominator .before .before .before .before in
-    let at-operator = at-Else2 .before .before .before .before in
+    let at-if2 = at-denominator .before .before .before .before in
+    let at-operator = at-if2 .before .before .before .before in
     let at-sqrt = at-operator .before .before .before in
     let start = at-sqrt .before .before in
     pass-next (start .args .t) (start .pre) (start .args .tolerance) (start .args .norm) (at-sqrt .sqrt .ensures .is)
     (at-operator .before .before .if1 .left)
-    (went _ (at-operator .operator .result) (at-Else2 .before .done .ensures) (at-operator .operator .ensures) (at-Else2 .if2 .left))
+    (went _ (at-operator .operator .result) (at-if2 .before .done .ensures) (at-operator .operator .ensures) (at-if2 .if2 .left))
     zero-is (sum-there (at-denominator .before .before .dot .ensures) (at-denominator .denominator .given .1))
     (at-add-scaled .before .before .if3 .left) (at-add-scaled .add-scaled .ensures) (at-sub-scaled .sub-scaled .ensures)
-    (went _ (at-operator2 .operator2 .result) (at-Else4 .before .done2 .ensures) (at-operator2 .operator2 .ensures) (at-Else4 .if4 .left))
+    (went _ (at-operator2 .operator2 .result) (at-if4 .before .done2 .ensures) (at-operator2 .operator2 .ensures) (at-if4 .if4 .left))
     (sum-there (at-next .before .before .dot2 .ensures) (at-next .next .given .1)) (c .before .before .add-scaled2 .ensures)
 
 pub least-pass-spec : {M : Type 1} → statement M

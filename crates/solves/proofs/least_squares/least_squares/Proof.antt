@@ -38,14 +38,14 @@ same-length c =
 
 returns : tie.Need-returns
 returns c =
-    let at-Then1 = c .before in
-    let at-done = at-Then1 .before in
+    let at-if1 = c .before in
+    let at-done = at-if1 .before in
     let at-operator = at-done .before .before .before in
     let start = at-operator .before .before .before in
     let end = at-operator .operator .result in
     new-ended (vecAt (at-operator .operator .last .0) SOLUTION (start .args .t .rows)) (c .new .ensures)
-    (does-eq (ap (λ x. ran x 0 0) (fails _ end (at-done .done .ensures) (at-Then1 .if1 .taken)))
-    (least-unmoved (start .args .t) (start .pre) (failed _ end (at-done .done .ensures) (at-operator .operator .ensures) (at-Then1 .if1 .taken))))
+    (does-eq (ap (λ x. ran x 0 0) (fails _ end (at-done .done .ensures) (at-if1 .if1 .taken)))
+    (least-unmoved (start .args .t) (start .pre) (failed _ end (at-done .done .ensures) (at-operator .operator .ensures) (at-if1 .if1 .taken))))
 
 dot-requires : tie.Need-dot-requires
 dot-requires c κs =
@@ -81,8 +81,8 @@ returns-2 c =
 
 tolerance-for-requires : tie.Need-tolerance-for-requires
 tolerance-for-requires c κs =
-    let at-Else1 = c .before .before .before .before .before .before in
-    let at-operator = at-Else1 .before .before .before .before in
+    let at-if1 = c .before .before .before .before .before .before in
+    let at-operator = at-if1 .before .before .before .before in
     let start = at-operator .before .before .before in
     omega (arith, at-operator .operator .ensures .kept .size, start .pre .whole, start .pre .most)
 
@@ -106,12 +106,12 @@ returns-3 : tie.Need-returns-3
 returns-3 c =
     let at-tolerance-for = c .before .before .before in
     let at-norm = at-tolerance-for .before .before .before in
-    let at-Else1 = at-norm .before .before .before .before in
-    let at-operator = at-Else1 .before .before .before .before in
+    let at-if1 = at-norm .before .before .before .before in
+    let at-operator = at-if1 .before .before .before .before in
     let start = at-operator .before .before .before in
     new-ended (vecAt (at-operator .operator .last .0) SOLUTION (start .args .t .rows)) (c .new3 .ensures)
     (least-intolerant (start .args .t) (start .pre)
-    (went _ (at-operator .operator .result) (at-Else1 .before .done .ensures) (at-operator .operator .ensures) (at-Else1 .if1 .left))
+    (went _ (at-operator .operator .result) (at-if1 .before .done .ensures) (at-operator .operator .ensures) (at-if1 .if1 .left))
     (sum-there (at-norm .before .before .dot .ensures) (at-norm .norm .given .1))
     (sum-over (at-tolerance-for .tolerance-for .ensures) (c .before .enum-told2 .given .1) ∙ ap
     (λ (x : Float). toleranceFor x (vecAt (at-operator .operator .last .0) RHS (start .args .t .rows))) tenth-14))
@@ -128,16 +128,16 @@ search-requires : tie.Need-search-requires
 search-requires c κs =
     let at-copy = c .before .before .before in
     let at-tolerance-for-arg = at-copy .before .before .before .before .before .before in
-    let at-Else1 = at-tolerance-for-arg .before .before .before .before .before .before in
-    let at-operator = at-Else1 .before .before .before .before in
+    let at-if1 = at-tolerance-for-arg .before .before .before .before .before .before in
+    let at-operator = at-if1 .before .before .before .before in
     rows-kept (at-operator .before .before .before .pre) (at-copy .copy .ensures .kept .size ∙ at-operator .operator .ensures .kept .size)
 
 same-length-4 : tie.Need-same-length-4
 same-length-4 c =
     let at-copy = c .before .before .before .before .before .before in
     let at-tolerance-for-arg = at-copy .before .before .before .before .before .before in
-    let at-Else1 = at-tolerance-for-arg .before .before .before .before .before .before in
-    let at-operator = at-Else1 .before .before .before .before in
+    let at-if1 = at-tolerance-for-arg .before .before .before .before .before .before in
+    let at-operator = at-if1 .before .before .before .before in
     c .before .before .search .ensures .kept .size ∙ at-copy .copy .ensures .kept .size ∙ at-operator .operator .ensures .kept .size
 
 returns-4 : tie.Need-returns-4
@@ -145,11 +145,11 @@ returns-4 c =
     let at-copy = c .before .before .before .before .before .before in
     let at-tolerance = at-copy .before .before .before in
     let at-norm = at-tolerance .before .before .before .before .before in
-    let at-Else1 = at-norm .before .before .before .before in
-    let at-operator = at-Else1 .before .before .before .before in
+    let at-if1 = at-norm .before .before .before .before in
+    let at-operator = at-if1 .before .before .before .before in
     let start = at-operator .before .before .before in
     least-whole (start .args .t) (start .pre)
-    (went _ (at-operator .operator .result) (at-Else1 .before .done .ensures) (at-operator .operator .ensures) (at-Else1 .if1 .left))
+    (went _ (at-operator .operator .result) (at-if1 .before .done .ensures) (at-operator .operator .ensures) (at-if1 .if1 .left))
     (sum-there (at-norm .before .before .dot .ensures) (at-norm .norm .given .1))
     (sum-there (at-tolerance .before .before .tolerance-for .ensures) (at-tolerance .tolerance .given .1) ∙ ap
     (λ (x : Float). toleranceFor x (vecAt (at-operator .operator .last .0) RHS (start .args .t .rows))) tenth-14)

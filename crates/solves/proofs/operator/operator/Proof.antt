@@ -78,14 +78,14 @@ same-length-3 c =
 
 returns-3 : tie.Need-returns-3
 returns-3 c =
-    let at-Else2 = c .before .before .before .before in
-    let at-scale-all = at-Else2 .before .before .before .before in
+    let at-if2 = c .before .before .before .before in
+    let at-scale-all = at-if2 .before .before .before .before in
     let at-done = at-scale-all .before .before .before in
     let at-transpose = at-done .before .before .before in
     let start = at-transpose .before .before .before in
     operator-rates (start .args .t) (start .pre .0) (start .args .input) (start .args .out)
     (went _ (at-transpose .transpose .result) (at-done .done .ensures) (at-transpose .transpose .ensures) (at-scale-all .before .before .if1 .left))
-    (went _ (at-scale-all .scale-all .result) (at-Else2 .before .done2 .ensures) (at-scale-all .scale-all .ensures) (at-Else2 .if2 .left))
+    (went _ (at-scale-all .scale-all .result) (at-if2 .before .done2 .ensures) (at-scale-all .scale-all .ensures) (at-if2 .if2 .left))
     (c .before .before .rates .ensures)
 
 pub operator-spec : {M : Type 1} → statement M

@@ -40,11 +40,11 @@ same-length-2 c =
 
 returns-2 : tie.Need-returns-2
 returns-2 c =
-    let at-Else1 = c .before .before .before .before in
-    let at-push-into = at-Else1 .before .before .before .before in
+    let at-if1 = c .before .before .before .before in
+    let at-push-into = at-if1 .before .before .before .before in
     let start = at-push-into .before .before .before in
     row-then (start .args .bodies) (start .args .row) (start .args .value) _
-    (went _ (at-push-into .push-into .result) (at-Else1 .before .done .ensures) (at-push-into .push-into .ensures) (at-Else1 .if1 .left))
+    (went _ (at-push-into .push-into .result) (at-if1 .before .done .ensures) (at-push-into .push-into .ensures) (at-if1 .if1 .left))
     (c .before .before .push-into2 .ensures)
 
 pub push-row-spec : {M : Type 1} → statement M

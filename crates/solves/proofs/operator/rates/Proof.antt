@@ -3,7 +3,7 @@ use native.Mathlib.Omega.{arith}
 use mathlib.Core.Path.{_≡_, refl}
 use Prim.Native.Nat.{_≤_, _-_}
 use lib.ListN.{length, length-set}
-use Rattle.arith.specs.Flow.{go, loop, turns}
+use Rattle.arith.specs.Flow.{go, loop}
 use Rattle.arith.specs.FlowLaws.{not-yes, not-no}
 use Rattle.solves.specs.Region.{vecAt, Does}
 use Rattle.solves.specs.View.{rowsOn, sharesIn, Beside}

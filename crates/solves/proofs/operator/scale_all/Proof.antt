@@ -4,7 +4,7 @@ use borrow.Author.Needs.{needs}
 use mathlib.Core.Path.{_≡_, refl}
 use Prim.Native.Nat.{_*_, _≤_, _-_}
 use lib.ListN.{length}
-use Rattle.arith.specs.Flow.{go, loop, turns}
+use Rattle.arith.specs.Flow.{go, loop}
 use Rattle.rows.specs.View.{Out}
 use Rattle.solves.specs.Region.{Does}
 use Rattle.solves.specs.View.{sharesIn, massesAt}

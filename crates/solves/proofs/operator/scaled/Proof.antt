@@ -18,14 +18,14 @@ is-finite-requires-2 c κs = search needs
 
 returns : tie.Need-returns
 returns c =
-    let at-Then1 = c .before .before .before in
-    scaled-3 _ _ (at-Then1 .before .before .scale .ensures) (at-Then1 .before .is-finite .ensures) (at-Then1 .if1 .taken)
+    let at-if1 = c .before .before .before in
+    scaled-3 _ _ (at-if1 .before .before .scale .ensures) (at-if1 .before .is-finite .ensures) (at-if1 .if1 .taken)
     (c .before .before .apply .ensures) (c .before .is-finite2 .ensures) (c .if2 .taken)
 
 returns-2 : tie.Need-returns-2
 returns-2 c =
-    let at-Then1 = c .before .before .before in
-    scaled-2 _ _ (at-Then1 .before .before .scale .ensures) (at-Then1 .before .is-finite .ensures) (at-Then1 .if1 .taken)
+    let at-if1 = c .before .before .before in
+    scaled-2 _ _ (at-if1 .before .before .scale .ensures) (at-if1 .before .is-finite .ensures) (at-if1 .if1 .taken)
     (c .before .before .apply .ensures) (c .before .is-finite2 .ensures) (c .if2 .left)
 
 returns-3 : tie.Need-returns-3

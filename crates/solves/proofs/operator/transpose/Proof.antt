@@ -3,7 +3,7 @@ use native.Mathlib.Omega.{arith}
 use mathlib.Core.Path.{_≡_, refl}
 use Prim.Native.Nat.{_≤_, _-_}
 use lib.ListN.{length}
-use Rattle.arith.specs.Flow.{go, loop, turns}
+use Rattle.arith.specs.Flow.{go, loop}
 use Rattle.solves.specs.Region.{vecAt, Does}
 use Rattle.solves.specs.View.{rowsOn, sharesIn, Shares}
 use Rattle.solves.specs.DoesLaws.{went, failed, fails, does-eq}
@@ -114,7 +114,8 @@ same-length : tie.Need-same-length Inv-loop μ-loop
 same-length c =
     let at-push-row = c .before .before .before .before in
     let at-loop = at-push-row .before .before .before .before .before .before in
-    omega (arith, at-loop .before .before .before .clear .ensures .kept .size, at-loop .loop .inv .1, at-push-row .push-row .ensures .kept .size)
+    let at-clear = at-loop .before .before .before in
+    omega (arith, at-clear .clear .ensures .kept .size, at-loop .loop .inv .1, at-push-row .push-row .ensures .kept .size)
 
 returns : tie.Need-returns Inv-loop μ-loop
 returns c =

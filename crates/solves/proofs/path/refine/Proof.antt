@@ -80,13 +80,13 @@ same-length-2 c =
 
 returns-2 : tie.Need-returns-2
 returns-2 c =
-    let at-Else1 = c .before .before .before .before in
-    let at-operator = at-Else1 .before .before .before .before in
+    let at-if1 = c .before .before .before .before in
+    let at-operator = at-if1 .before .before .before .before in
     let at-backward = at-operator .before .before .before .before in
     let at-forward = at-backward .before .before .before .before in
     let start = at-forward .before .before .before in
     refine-done (start .args .t) (start .pre .0) (now (start .args .order)) (at-forward .forward .ensures) (at-backward .backward .ensures)
-    (went _ (at-operator .operator .result) (at-Else1 .before .done .ensures) (at-operator .operator .ensures) (at-Else1 .if1 .left))
+    (went _ (at-operator .operator .result) (at-if1 .before .done .ensures) (at-operator .operator .ensures) (at-if1 .if1 .left))
     (c .before .before .difference .ensures)
 
 pub refine-spec : {M : Type 1} → statement M

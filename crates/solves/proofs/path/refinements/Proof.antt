@@ -49,23 +49,24 @@ new-requires c κs = search needs
 same-length : tie.Need-same-length Inv-loop μ-loop
 same-length c =
     let at-refine = c .before .before .before .before .before in
-    at-refine .refine .ensures .kept .size ∙ at-refine .before .before .before .loop .inv .kept .size
+    let at-loop = at-refine .before .before .before in
+    at-refine .refine .ensures .kept .size ∙ at-loop .loop .inv .kept .size
 
 returns : tie.Need-returns Inv-loop μ-loop
 returns c =
-    let at-Then1 = c .before in
-    let at-done = at-Then1 .before in
+    let at-if1 = c .before in
+    let at-done = at-if1 .before in
     let at-refine = at-done .before .before .before in
     let at-loop = at-refine .before .before .before in
     let start = at-loop .before .before in
     let end = at-refine .refine .result in
     let k = at-loop .loop .k in
     new-ended (vecAt (at-refine .refine .last .0) SOLUTION (start .args .t .rows)) (c .new .ensures)
-    (does-eq (ap (λ x. ran x 0 k) (fails _ end (at-done .done .ensures) (at-Then1 .if1 .taken)))
+    (does-eq (ap (λ x. ran x 0 k) (fails _ end (at-done .done .ensures) (at-if1 .if1 .taken)))
     (does-more refining-work
     (refined-failed (start .args .t) (start .pre .0) (now (start .args .order)) (start .args .tolerance) _ (at-loop .loop .inv)
     (at-refine .before .before .loop-test .taken)
-    (failed _ end (at-done .done .ensures) (at-refine .refine .ensures) (at-Then1 .if1 .taken)))))
+    (failed _ end (at-done .done .ensures) (at-refine .refine .ensures) (at-if1 .if1 .taken)))))
 
 residual-test-requires : tie.Need-residual-test-requires Inv-loop μ-loop
 residual-test-requires c κs =
@@ -88,9 +89,10 @@ new-requires-2 c κs = search needs
 
 same-length-2 : tie.Need-same-length-2 Inv-loop μ-loop
 same-length-2 c =
-    let at-Else1 = c .before .before .before .before .before .before in
-    let at-refine = at-Else1 .before .before .before .before in
-    at-refine .refine .ensures .kept .size ∙ at-refine .before .before .before .loop .inv .kept .size
+    let at-if1 = c .before .before .before .before .before .before in
+    let at-refine = at-if1 .before .before .before .before in
+    let at-loop = at-refine .before .before .before in
+    at-refine .refine .ensures .kept .size ∙ at-loop .loop .inv .kept .size
 
 returns-2 : tie.Need-returns-2 Inv-loop μ-loop
 returns-2 c =

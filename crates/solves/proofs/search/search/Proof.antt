@@ -52,7 +52,8 @@ new-requires c κs = search needs
 same-length : tie.Need-same-length Inv-loop μ-loop
 same-length c =
     let at-search-pass = c .before .before .before .before .before .before in
-    at-search-pass .search-pass .ensures .kept .size ∙ at-search-pass .before .before .before .loop .inv .kept .size
+    let at-loop = at-search-pass .before .before .before in
+    at-search-pass .search-pass .ensures .kept .size ∙ at-loop .loop .inv .kept .size
 
 returns : tie.Need-returns Inv-loop μ-loop
 returns c =

@@ -34,11 +34,11 @@ same-length c =
 
 returns : tie.Need-returns
 returns c =
-    let at-Then1 = c .before .before .before .before in
-    let at-copy = at-Then1 .before .before .before in
+    let at-if1 = c .before .before .before .before in
+    let at-copy = at-if1 .before .before .before in
     let at-clear = at-copy .before .before .before .before in
     let start = at-clear .before .before .before in
-    linear-least (start .args .t) (start .pre) (start .args .cyclic) (at-clear .clear .ensures) (at-copy .copy .ensures) (at-Then1 .if1 .taken)
+    linear-least (start .args .t) (start .pre) (start .args .cyclic) (at-clear .clear .ensures) (at-copy .copy .ensures) (at-if1 .if1 .taken)
     (c .before .before .least-squares .ensures)
 
 path-order-requires : tie.Need-path-order-requires
@@ -67,23 +67,23 @@ same-length-2 c =
 
 returns-2 : tie.Need-returns-2
 returns-2 c =
-    let at-Then2 = c .before .before .before .before in
-    let at-path-order = at-Then2 .before .before in
+    let at-if2 = c .before .before .before .before in
+    let at-path-order = at-if2 .before .before in
     let at-copy = at-path-order .before .before .before .before in
     let at-clear = at-copy .before .before .before .before in
     let start = at-clear .before .before .before in
     linear-gradients (start .args .t) (start .pre) (start .args .cyclic) (at-clear .clear .ensures) (at-copy .copy .ensures)
     (at-path-order .before .if1 .left)
-    (order-no (at-path-order .path-order .result) (at-path-order .path-order .ensures .0) (not-yes _ (at-Then2 .if2 .taken)))
+    (order-no (at-path-order .path-order .result) (at-path-order .path-order .ensures .0) (not-yes _ (at-if2 .if2 .taken)))
     (c .before .before .gradients .ensures)
 
 path-along-requires : tie.Need-path-along-requires
 path-along-requires c κs =
-    let at-Else2 = c .before .before .before .before in
-    let at-copy = at-Else2 .before .before .before .before .before .before in
+    let at-if2 = c .before .before .before .before in
+    let at-copy = at-if2 .before .before .before .before .before .before in
     let at-clear = at-copy .before .before .before .before in (
       rows-kept (at-clear .before .before .before .pre) (at-copy .copy .ensures .kept .size ∙ at-clear .clear .ensures .kept .size),
-      at-Else2 .before .before .path-order .ensures .1 (not-no _ (at-Else2 .if2 .left)) .1,
+      at-if2 .before .before .path-order .ensures .1 (not-no _ (at-if2 .if2 .left)) .1,
     )
 
 same-length-3 : tie.Need-same-length-3
@@ -97,12 +97,12 @@ same-length-3 c =
 returns-3 : tie.Need-returns-3
 returns-3 c =
     let at-along = c .before .before .before .before .before .before in
-    let at-Else2 = at-along .before in
-    let at-path-order = at-Else2 .before .before in
+    let at-if2 = at-along .before in
+    let at-path-order = at-if2 .before .before in
     let at-copy = at-path-order .before .before .before .before in
     let at-clear = at-copy .before .before .before .before in
     let start = at-clear .before .before .before in
-    let found = not-no _ (at-Else2 .if2 .left) in
+    let found = not-no _ (at-if2 .if2 .left) in
     linear-path (start .args .t) (start .pre) (start .args .cyclic) (at-clear .clear .ensures) (at-copy .copy .ensures)
     (at-path-order .before .if1 .left) (at-path-order .path-order .result .order .rows)
     (order-yes (at-path-order .path-order .result) (start .args .t .rows) (at-path-order .path-order .ensures .0) found

@@ -1,7 +1,7 @@
 -- add_scaled: x = a + alpha * b double by double, by `two-more` and `two-is`.
 use native.Mathlib.Omega.{arith}
 use mathlib.Core.Path.{_≡_, refl}
-use Prim.Native.Nat.{_+_, _*_, _≤_, _-_}
+use Prim.Native.Nat.{_≤_, _-_}
 use lib.ListN.{length, length-set}
 use lib.Ieee.{Float}
 use Rattle.arith.specs.Real.{_⊕_, _⊗_}
