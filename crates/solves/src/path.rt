@@ -25,16 +25,15 @@ use arith::number::is_finite;
 use arith::root::sqrt;
 ghost use mathlib.Core.Path.{_≡_};
 ghost use mathlib.Core.Bool.{true, false, cond};
-ghost use mathlib.Core.List.{_++_};
-ghost use Prim.Native.Nat.{ℕ, _+_, _-_, _≤_, _<_, min};
-ghost use lib.ListN.{length, getD, set};
+ghost use Prim.Native.Nat.{_+_, _-_, _≤_, _<_, min};
+ghost use lib.ListN.{length, set};
 ghost use Rattle.arith.specs.Flow.{loop};
 ghost use Rattle.rows.specs.View.{Out};
 ghost use Rattle.solves.specs.Solver.{spent};
-ghost use Rattle.solves.specs.Path.{begins as beginsOf, addEdge, neighbor as neighborOf, follows as followsOf, nextBlock, pathOrder, pathScale, reduced as reducedOf, pathEntry, pathRow, pathFactor, pathFactored, forwardSum, forward as forwardOf, backwardSum, backward as backwardOf, refine as refineOf, refinement, ended, pathSolve};
+ghost use Rattle.solves.specs.Path.{begins as beginsOf, addEdge, neighbor as neighborOf, follows as followsOf, nextBlock, pathOrder, pathScale, lessProducts, reduced as reducedOf, pathEntry, pathRow, pathFactor, pathFactored, forwardSum, forward as forwardOf, backwardSum, backward as backwardOf, refine as refineOf, refinement, ended, pathSolve};
 ghost use Rattle.solves.specs.Answer.{ranAs, partAs, edgesAs, orderAs, solveAs};
 ghost use Rattle.solves.specs.Lent.{came, left};
-ghost use Rattle.solves.specs.PathView.{Bodies, blocksAt, rowsOf, Blocked, Parted, Linking, orderAt, seenOf, Listed, Appended, Free, edgesOn, walkOn, endOn, fromOn, walksOn, Walks, Orders};
+ghost use Rattle.solves.specs.PathView.{Bodies, blocksAt, rowsOf, Blocked, Parted, Linking, orderAt, seenOf, Listed, Appended, Free, edgesOn, walkOn, endOn, fromOn, walksOn, Walks, Orders, onPath, placeOf, lineAt, Stands, Lies, rowLine, columnLine, sideLine};
 ghost use Rattle.solves.specs.Region.{vecAt, Does};
 ghost use Rattle.solves.specs.View.{rowsOn, massesAt, listAt, Along, Blank, noPath, bandAt, factorAt, refinedAt, Refining, Factoring, Rows, Work, MASSES, RHS, SOLUTION, RESIDUAL, PATH-BAND, PATH-SCALE, PATH-RHS, END};
 
@@ -390,6 +389,68 @@ fn path_order(ia: &[usize; 96], ib: &[usize; 96], n: usize) -> PathOrder
     no_path()
 }
 
+// Doubles of a sum: the place of the first, and how far on or back the next one lies.
+pub(crate) struct Line {
+    pub first: usize,
+    pub on: usize,
+    pub back: usize,
+}
+
+// The band's `[i][i - k]`, for k from `from` on.
+fn row_line(i: usize, from: usize) -> Line
+    requires { ⌜ (i < 96) × (from ≤ i) ⌝ }
+    ensures { λ r. ⌜ r ≡ rowLine i from ⌝ }
+{
+    Line {
+        first: PATH_BAND + BAND_WIDTH * i + (i - from),
+        on: 0,
+        back: 1,
+    }
+}
+
+// The band's `[k][k - i]`, for k from `from` on.
+fn column_line(i: usize, from: usize) -> Line
+    requires { ⌜ (from ≤ 96) × (i ≤ from) ⌝ }
+    ensures { λ r. ⌜ r ≡ columnLine i from ⌝ }
+{
+    Line {
+        first: PATH_BAND + BAND_WIDTH * from + (from - i),
+        on: BAND_WIDTH + 1,
+        back: 0,
+    }
+}
+
+// The right side from `from` on.
+fn side_line(from: usize) -> Line
+    requires { ⌜ from ≤ 96 ⌝ }
+    ensures { λ r. ⌜ r ≡ sideLine from ⌝ }
+{
+    Line {
+        first: PATH_RHS + from,
+        on: 1,
+        back: 0,
+    }
+}
+
+fn place(line: Line, t: usize) -> usize
+    requires { ⌜ Stands line t ⌝ }
+    ensures { λ r. ⌜ r ≡ placeOf line t ⌝ }
+{
+    line.first + line.on * t - line.back * t
+}
+
+// `start` less the products of two lines, one after the other: the three sums of the Rust.
+fn less_products(s: &[f64], start: f64, a: Line, b: Line, terms: usize) -> f64
+    requires { ⌜ (END ≤ length (now s)) × (Lies a terms) × (Lies b terms) ⌝ }
+    ensures { λ r. ⌜ r ≡ lessProducts (lineAt (came s) a) (lineAt (came s) b) terms start ⌝ }
+{
+    let mut value = start;
+    for t in 0..terms {
+        value = value - s[place(a, t)] * s[place(b, t)];
+    }
+    value
+}
+
 // The first column of row i's band.
 fn band_start(i: usize) -> usize
     ensures { λ r. ⌜ r ≡ i - 11 ⌝ }
@@ -410,7 +471,9 @@ fn path_scale(
     count: usize,
 ) -> Part
     requires { ⌜ (Rows (now s) (now ia) (now ib) rows n count) × (Along (now order) n) ⌝ }
-    ensures { λ r. ⌜ Does (Out PATH-SCALE 96) (now (s .entry)) (now (s .exit)) (partAs r (vecAt (now (s .exit)) PATH-SCALE n)) (pathScale (rowsOn (now (ia .entry)) (now (ib .entry)) (now (s .entry)) rows n) (massesAt (now (s .entry)) MASSES count) (listAt (now (order .entry)) n) n) ⌝ }
+    ensures { λ r. ⌜
+        Does (Out PATH-SCALE 96) (came s) (left s) (partAs r (vecAt (left s) PATH-SCALE n))
+        (onPath s ia ib order rows n count pathScale n) ⌝ }
 {
     for i in 0..n {
         let row = load_row(s, ia, ib, rows, order[i]);
@@ -428,14 +491,10 @@ fn path_scale(
 // The entry less the products of the columns before it.
 fn reduced(s: &[f64], entry: f64, i: usize, j: usize, n: usize) -> f64
     requires { ⌜ (END ≤ length (now s)) × (n ≤ 96) × (i < n) × (j ≤ i) × (i ≤ j + 11) ⌝ }
-    ensures { λ r. ⌜ r ≡ reducedOf (bandAt (now (s .entry)) n) i j entry ⌝ }
+    ensures { λ r. ⌜ r ≡ reducedOf (bandAt (came s) n) i j entry ⌝ }
 {
-    let mut value = entry;
-    for k in band_start(i)..j {
-        value = value
-            - s[PATH_BAND + BAND_WIDTH * i + (i - k)] * s[PATH_BAND + BAND_WIDTH * j + (j - k)];
-    }
-    value
+    let from = band_start(i);
+    less_products(s, entry, row_line(i, from), row_line(j, from), j - from)
 }
 
 fn path_entry(
@@ -450,7 +509,9 @@ fn path_entry(
     j: usize,
 ) -> Part
     requires { ⌜ (Rows (now s) (now ia) (now ib) rows n count) × (Along (now order) n) × (i < n) × (j ≤ i) × (i ≤ j + 11) ⌝ }
-    ensures { λ r. ⌜ Does (Out PATH-BAND 1152) (now (s .entry)) (now (s .exit)) (partAs r (bandAt (now (s .exit)) n)) (pathEntry (rowsOn (now (ia .entry)) (now (ib .entry)) (now (s .entry)) rows n) (massesAt (now (s .entry)) MASSES count) (listAt (now (order .entry)) n) (vecAt (now (s .entry)) PATH-SCALE n) i j (bandAt (now (s .entry)) n)) ⌝ }
+    ensures { λ r. ⌜
+        Does (Out PATH-BAND 1152) (came s) (left s) (partAs r (bandAt (left s) n))
+        (onPath s ia ib order rows n count pathEntry (vecAt (came s) PATH-SCALE n) i j (bandAt (came s) n)) ⌝ }
 {
     let a = load_row(s, ia, ib, rows, order[i]);
     let b = load_row(s, ia, ib, rows, order[j]);
@@ -483,7 +544,9 @@ fn path_row(
     i: usize,
 ) -> Part
     requires { ⌜ (Rows (now s) (now ia) (now ib) rows n count) × (Along (now order) n) × (i < n) ⌝ }
-    ensures { λ r. ⌜ Does (Out PATH-BAND 1152) (now (s .entry)) (now (s .exit)) (partAs r (bandAt (now (s .exit)) n)) (pathRow (rowsOn (now (ia .entry)) (now (ib .entry)) (now (s .entry)) rows n) (massesAt (now (s .entry)) MASSES count) (listAt (now (order .entry)) n) (vecAt (now (s .entry)) PATH-SCALE n) i (bandAt (now (s .entry)) n)) ⌝ }
+    ensures { λ r. ⌜
+        Does (Out PATH-BAND 1152) (came s) (left s) (partAs r (bandAt (left s) n))
+        (onPath s ia ib order rows n count pathRow (vecAt (came s) PATH-SCALE n) i (bandAt (came s) n)) ⌝ }
 {
     for j in band_start(i)..i + 1 {
         match path_entry(s, ia, ib, rows, order, n, count, i, j) {
@@ -509,7 +572,9 @@ fn path_factor(
     count: usize,
 ) -> Part
     requires { ⌜ (Rows (now s) (now ia) (now ib) rows n count) × (Along (now order) n) ⌝ }
-    ensures { λ r. ⌜ Does (Out PATH-BAND 1152) (now (s .entry)) (now (s .exit)) (partAs r (bandAt (now (s .exit)) n)) (pathFactor (rowsOn (now (ia .entry)) (now (ib .entry)) (now (s .entry)) rows n) (massesAt (now (s .entry)) MASSES count) (listAt (now (order .entry)) n) (vecAt (now (s .entry)) PATH-SCALE n) n) ⌝ }
+    ensures { λ r. ⌜
+        Does (Out PATH-BAND 1152) (came s) (left s) (partAs r (bandAt (left s) n))
+        (onPath s ia ib order rows n count pathFactor (vecAt (came s) PATH-SCALE n) n) ⌝ }
 {
     clear(s, PATH_BAND, BAND_WIDTH * n);
     for i in 0..n {
@@ -528,18 +593,17 @@ fn path_factor(
 
 fn forward_sum(s: &[f64], start: f64, i: usize, n: usize) -> f64
     requires { ⌜ (END ≤ length (now s)) × (n ≤ 96) × (i < n) ⌝ }
-    ensures { λ r. ⌜ r ≡ forwardSum (bandAt (now (s .entry)) n) (vecAt (now (s .entry)) PATH-RHS i) i start ⌝ }
+    ensures { λ r. ⌜ r ≡ forwardSum (bandAt (came s) n) (vecAt (came s) PATH-RHS i) i start ⌝ }
 {
-    let mut value = start;
-    for j in band_start(i)..i {
-        value = value - s[PATH_BAND + BAND_WIDTH * i + (i - j)] * s[PATH_RHS + j];
-    }
-    value
+    let from = band_start(i);
+    less_products(s, start, row_line(i, from), side_line(from), i - from)
 }
 
 fn forward(s: &mut [f64], order: &[usize; 96], n: usize)
     requires { ⌜ (END ≤ length (now s)) × (n ≤ 96) × (Along (now order) n) ⌝ }
-    ensures { λ _. ⌜ Does (Out PATH-RHS 96) (now (s .entry)) (now (s .exit)) (vecAt (now (s .exit)) PATH-RHS n) (forwardOf n (listAt (now (order .entry)) n) (vecAt (now (s .entry)) PATH-SCALE n) (bandAt (now (s .entry)) n) (vecAt (now (s .entry)) RESIDUAL n)) ⌝ }
+    ensures { λ _. ⌜
+        Does (Out PATH-RHS 96) (came s) (left s) (vecAt (left s) PATH-RHS n)
+        (forwardOf n (listAt (came order) n) (vecAt (came s) PATH-SCALE n) (bandAt (came s) n) (vecAt (came s) RESIDUAL n)) ⌝ }
 {
     for i in 0..n {
         let start = s[RESIDUAL + order[i]] / s[PATH_SCALE + i];
@@ -560,19 +624,25 @@ fn band_end(i: usize, n: usize) -> usize
 
 fn backward_sum(s: &[f64], start: f64, i: usize, n: usize) -> f64
     requires { ⌜ (END ≤ length (now s)) × (n ≤ 96) × (i < n) ⌝ }
-    ensures { λ r. ⌜ r ≡ backwardSum n (bandAt (now (s .entry)) n) (vecAt (now (s .entry)) PATH-RHS n) i start ⌝ }
+    ensures { λ r. ⌜ r ≡ backwardSum n (bandAt (came s) n) (vecAt (came s) PATH-RHS n) i start ⌝ }
 {
-    let mut value = start;
-    for j in i + 1..band_end(i, n) {
-        value = value - s[PATH_BAND + BAND_WIDTH * j + (j - i)] * s[PATH_RHS + j];
-    }
-    value
+    let from = i + 1;
+    less_products(
+        s,
+        start,
+        column_line(i, from),
+        side_line(from),
+        band_end(i, n) - from,
+    )
 }
 
 // From the last row to the first, with the correction added to the solution.
 fn backward(s: &mut [f64], order: &[usize; 96], n: usize)
     requires { ⌜ (END ≤ length (now s)) × (n ≤ 96) × (Along (now order) n) ⌝ }
-    ensures { λ _. ⌜ Does (λ i. (Out PATH-RHS 96 i) × (Out SOLUTION 96 i)) (now (s .entry)) (now (s .exit)) (vecAt (now (s .exit)) SOLUTION n) (backwardOf n (listAt (now (order .entry)) n) (vecAt (now (s .entry)) PATH-SCALE n) (bandAt (now (s .entry)) n) (vecAt (now (s .entry)) PATH-RHS n) (vecAt (now (s .entry)) SOLUTION n)) ⌝ }
+    ensures { λ _. ⌜
+        Does (λ i. (Out PATH-RHS 96 i) × (Out SOLUTION 96 i)) (came s) (left s) (vecAt (left s) SOLUTION n)
+        (backwardOf n (listAt (came order) n) (vecAt (came s) PATH-SCALE n) (bandAt (came s) n) (vecAt (came s) PATH-RHS n)
+        (vecAt (came s) SOLUTION n)) ⌝ }
 {
     for k in 0..n {
         let i = n - 1 - k;
@@ -646,7 +716,9 @@ fn path_factored(
     count: usize,
 ) -> Part
     requires { ⌜ (Rows (now s) (now ia) (now ib) rows n count) × (Along (now order) n) ⌝ }
-    ensures { λ r. ⌜ Does Factoring (now (s .entry)) (now (s .exit)) (partAs r (factorAt (now (s .exit)) n)) (pathFactored (rowsOn (now (ia .entry)) (now (ib .entry)) (now (s .entry)) rows n) (massesAt (now (s .entry)) MASSES count) (listAt (now (order .entry)) n) n) ⌝ }
+    ensures { λ r. ⌜
+        Does Factoring (came s) (left s) (partAs r (factorAt (left s) n))
+        (onPath s ia ib order rows n count pathFactored n) ⌝ }
 {
     match path_scale(s, ia, ib, rows, order, n, count) {
         Part::Done => path_factor(s, ia, ib, rows, order, n, count),
