@@ -34,7 +34,7 @@ use Rattle.solves.specs.View.{RHS, SOLUTION, RESIDUAL, PRODUCT, PATH-BAN
 use Rattle.solves.specs.ViewLaws.{system-kept, passing-vector, passing-moves}
 use Rattle.solves.proofs.SearchLaws.{work-system, Came, came-again, came-over, came-out}
 use Rattle.solves.proofs.GradientLaws.{test-is}
-use Rattle.solves.proofs.RefineLaws.{Backs}
+use Rattle.solves.proofs.SweepLaws.{Backs}
 
 -- what stands for the whole solve while it refines
 module _ {z : List Float} {ia ib : List ℕ} (table : Table) (pre : Rows z ia ib (table .place) (table .rows) (table .bodies)) {s t : List Float}

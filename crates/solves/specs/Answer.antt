@@ -9,8 +9,6 @@ use Rattle.rows.specs.declared.geometry.EqualityRow.{EqualityRow}
 use Rattle.rows.specs.Fault.{nonConvergent, arithmeticOverflow, number, Result}
 use Rattle.solves.specs.declared.Sum.{Sum}
 use Rattle.solves.specs.declared.Sum.the-variants as Sums
-use Rattle.solves.specs.declared.Part.{Part}
-use Rattle.solves.specs.declared.Part.the-variants as Parts
 use Rattle.solves.specs.declared.End.{End}
 use Rattle.solves.specs.declared.End.the-variants as Ends
 use Rattle.solves.specs.declared.Pass.{Pass}
@@ -53,11 +51,6 @@ abbrev pub ranAs : {A : Type 0} → End → A → Result A
 ranAs Ends.Done x = go x
 ranAs Ends.NonConvergent x = stop nonConvergent
 ranAs Ends.ArithmeticOverflow x = stop arithmeticOverflow
-
-abbrev pub partAs : {A : Type 0} → Part → A → Result A
-partAs Parts.Done x = go x
-partAs Parts.NonConvergent x = stop nonConvergent
-partAs Parts.ArithmeticOverflow x = stop arithmeticOverflow
 
 abbrev pub isDone : End → Bool
 isDone Ends.Done = true

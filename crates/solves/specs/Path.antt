@@ -126,9 +126,14 @@ cell band i d = at band (12 * i + d)
 abbrev pub bandStart : ℕ → ℕ
 bandStart i = i - 11
 
+-- for t in 0..terms { value -= x(t) * y(t); }
+abbrev pub lessProducts : (ℕ → Float) → (ℕ → Float) → ℕ → Float → Float
+lessProducts x y terms value = turns (λ t value. value ⊖ x t ⊗ y t) terms value
+
 -- for k in band_start..j { value -= path_band[i][i - k] * path_band[j][j - k]; }
 unfoldable pub reduced : List Float → ℕ → ℕ → Float → Float
-reduced band i j value = turns (λ t value. value ⊖ cell band i (i - (bandStart i + t)) ⊗ cell band j (j - (bandStart i + t))) (j - bandStart i) value
+reduced band i j value =
+    lessProducts (λ t. cell band i (i - (bandStart i + t))) (λ t. cell band j (j - (bandStart i + t))) (j - bandStart i) value
 
 pub record Factor : Type 0 where
   pub scale : List Float
@@ -172,11 +177,11 @@ module _ (rows : List EqualityRow) (masses : List MassResponse) (order : List �
 -- ---- the solves of the factor; y is self.path_rhs
 -- for j in band_start..i { value -= path_band[i][i - j] * path_rhs[j]; }
 unfoldable pub forwardSum : List Float → List Float → ℕ → Float → Float
-forwardSum band y i value = turns (λ t value. value ⊖ cell band i (i - (bandStart i + t)) ⊗ at y (bandStart i + t)) (i - bandStart i) value
+forwardSum band y i value = lessProducts (λ t. cell band i (i - (bandStart i + t))) (λ t. at y (bandStart i + t)) (i - bandStart i) value
 
 -- for j in i + 1..n.min(i + BAND_WIDTH) { value -= path_band[j][j - i] * path_rhs[j]; }
 unfoldable pub backwardSum : ℕ → List Float → List Float → ℕ → Float → Float
-backwardSum n band y i value = turns (λ t value. value ⊖ cell band (i + 1 + t) (i + 1 + t - i) ⊗ at y (i + 1 + t)) (min n (i + 12) - (i + 1)) value
+backwardSum n band y i value = lessProducts (λ t. cell band (i + 1 + t) (i + 1 + t - i)) (λ t. at y (i + 1 + t)) (min n (i + 12) - (i + 1)) value
 
 pub record Back : Type 0 where
   pub y : List Float

@@ -38,13 +38,6 @@ pub enum Sum {
     ArithmeticOverflow,
 }
 
-// How a part of the path's factor ended.
-pub(crate) enum Part {
-    Done,
-    NonConvergent,
-    ArithmeticOverflow,
-}
-
 // The end of a linear solve, with the passes that it counted.
 pub struct Ended {
     pub end: End,

@@ -9,8 +9,8 @@ use Rattle.solves.specs.Region.{vecAt}
 use Rattle.solves.specs.View.{factorAt}
 use Rattle.solves.specs.View.{RHS, SOLUTION}
 use Rattle.solves.specs.DoesLaws.{sum-there, sum-over, does-as}
-use Rattle.solves.specs.declared.Part.{Part}
-use Rattle.solves.specs.Answer.{partAs}
+use Rattle.solves.specs.declared.End.{End}
+use Rattle.solves.specs.Answer.{ranAs}
 use Rattle.solves.specs.Solver.{toleranceFor}
 use Rattle.solves.proofs.OperatorLaws.{rows-kept}
 use Rattle.solves.proofs.SearchLaws.{tenth-12, new-ended}
@@ -52,7 +52,7 @@ returns c =
     let start = at-path-factored .before .before .before in
     new-ended (vecAt (at-path-factored .path-factored .last .0) SOLUTION (start .args .t .rows)) (c .new .ensures)
     (along-intolerant (start .args .t) (start .pre .0) (now (start .args .order))
-    (does-as (λ (r : Part). partAs r (factorAt (at-path-factored .path-factored .last .0) (start .args .t .rows)))
+    (does-as (λ (r : End). ranAs r (factorAt (at-path-factored .path-factored .last .0) (start .args .t .rows)))
     (at-tolerance-for .before .before .enum-told .given .1) (at-path-factored .path-factored .ensures))
     (sum-over (at-tolerance-for .tolerance-for .ensures) (c .before .enum-told2 .given .1) ∙ ap
     (λ (x : Float). toleranceFor x (vecAt (at-path-factored .path-factored .last .0) RHS (start .args .t .rows))) tenth-12))
@@ -99,7 +99,7 @@ returns-2 c =
     let at-path-factored = at-enum-told .before .before .before .before in
     let start = at-path-factored .before .before .before in
     along-whole (start .args .t) (start .pre .0) (now (start .args .order))
-    (does-as (λ (r : Part). partAs r (factorAt (at-path-factored .path-factored .last .0) (start .args .t .rows)))
+    (does-as (λ (r : End). ranAs r (factorAt (at-path-factored .path-factored .last .0) (start .args .t .rows)))
     (at-enum-told .enum-told .given .1) (at-path-factored .path-factored .ensures))
     (sum-there (at-tolerance .before .before .tolerance-for .ensures) (at-tolerance .tolerance .given .1) ∙ ap
     (λ (x : Float). toleranceFor x (vecAt (at-path-factored .path-factored .last .0) RHS (start .args .t .rows))) tenth-12)
@@ -116,7 +116,7 @@ returns-3 c =
     let start = at-path-factored .before .before .before in
     new-ended (vecAt (at-path-factored .path-factored .last .0) SOLUTION (start .args .t .rows)) (c .new2 .ensures)
     (along-refused (start .args .t) (start .pre .0) (now (start .args .order))
-    (does-as (λ (r : Part). partAs r (factorAt (at-path-factored .path-factored .last .0) (start .args .t .rows)))
+    (does-as (λ (r : End). ranAs r (factorAt (at-path-factored .path-factored .last .0) (start .args .t .rows)))
     (c .before .enum-told3 .given .1) (at-path-factored .path-factored .ensures)))
 
 same-length-4 : tie.Need-same-length-4
@@ -130,7 +130,7 @@ returns-4 c =
     let start = at-path-factored .before .before .before in
     new-ended (vecAt (at-path-factored .path-factored .last .0) SOLUTION (start .args .t .rows)) (c .new3 .ensures)
     (along-refused (start .args .t) (start .pre .0) (now (start .args .order))
-    (does-as (λ (r : Part). partAs r (factorAt (at-path-factored .path-factored .last .0) (start .args .t .rows)))
+    (does-as (λ (r : End). ranAs r (factorAt (at-path-factored .path-factored .last .0) (start .args .t .rows)))
     (c .before .enum-told4 .given .1) (at-path-factored .path-factored .ensures)))
 
 pub path-along-spec : {M : Type 1} → statement M
