@@ -1,5 +1,5 @@
--- Document 01's starred examples: one table, proved by one computed test. A line has the bits that the definitions
--- answer and the bits that the paper gives.
+-- The ten examples of SPECIFICATION §15 that are proved: one table, by one computed test. A line has the bits that the definitions
+-- answer and the bits that SPECIFICATION gives.
 use Prim.Native.Nat.{ℕ, _^_}
 use mathlib.Core.Bool.{Bool, true, false, cond, _&&_}
 use mathlib.Core.List.{List, [], _∷_, _++_}
