@@ -369,32 +369,32 @@ module _ {s : List Float} {ia ib : List ℕ} (table : Table) (pre : Rows s ia ib
     module _ (r : Pass) (h : r ≡ Passes.Again) (d : Does Testing s t (trueAs r (vecAt t RESIDUAL n₃)) Truth) {next : Float}
         (en : next ≡ scaledSquare (vecAt t RESIDUAL n₃) (vecAt t DIAGONAL n₃)) {u : List Float}
         (e : Does (Beside DIRECTION) t u (vecAt u DIRECTION n₃) (nextDirection (vecAt t RESIDUAL n₃) (vecAt t DIAGONAL n₃) (next ⊘ rho) (vecAt t DIRECTION n₃)))
-        where
-      diag : vecAt t DIAGONAL n₃ ≡ vecAt s DIAGONAL n₃
-      diag = kept-vec (d .kept) DIAGONAL n₃ (λ i x y. omega (arith, pre .most))
+      where
+        diag : vecAt t DIAGONAL n₃ ≡ vecAt s DIAGONAL n₃
+        diag = kept-vec (d .kept) DIAGONAL n₃ (λ i x y. omega (arith, pre .most))
 
-      next-is : next ≡ scaledSquare (vecAt t RESIDUAL n₃) (vecAt s DIAGONAL n₃)
-      next-is = en ∙ ap (scaledSquare (vecAt t RESIDUAL n₃)) diag
+        next-is : next ≡ scaledSquare (vecAt t RESIDUAL n₃) (vecAt s DIAGONAL n₃)
+        next-is = en ∙ ap (scaledSquare (vecAt t RESIDUAL n₃)) diag
 
-      sol : vecAt u SOLUTION n₃ ≡ vecAt s SOLUTION n₃
-      sol = kept-vec (e .kept) SOLUTION n₃ (λ i x y. omega (arith, pre .most)) ∙ sol₀ d
+        sol : vecAt u SOLUTION n₃ ≡ vecAt s SOLUTION n₃
+        sol = kept-vec (e .kept) SOLUTION n₃ (λ i x y. omega (arith, pre .most)) ∙ sol₀ d
 
-      res : vecAt u RESIDUAL n₃ ≡ vecAt t RESIDUAL n₃
-      res = kept-vec (e .kept) RESIDUAL n₃ (λ i x y. omega (arith, pre .most))
+        res : vecAt u RESIDUAL n₃ ≡ vecAt t RESIDUAL n₃
+        res = kept-vec (e .kept) RESIDUAL n₃ (λ i x y. omega (arith, pre .most))
 
-      dir : vecAt u DIRECTION n₃
-          ≡ nextDirection (vecAt t RESIDUAL n₃) (vecAt s DIAGONAL n₃) (scaledSquare (vecAt t RESIDUAL n₃) (vecAt s DIAGONAL n₃) ⊘ rho) (vecAt s DIRECTION n₃)
-      dir =
-          e .is
-          ∙ λ j. nextDirection (vecAt t RESIDUAL n₃) (diag j) (next-is j ⊘ rho) (kept-vec (d .kept) DIRECTION n₃ (λ i x y. omega (arith, pre .most)) j)
+        dir : vecAt u DIRECTION n₃
+            ≡ nextDirection (vecAt t RESIDUAL n₃) (vecAt s DIAGONAL n₃) (scaledSquare (vecAt t RESIDUAL n₃) (vecAt s DIAGONAL n₃) ⊘ rho) (vecAt s DIRECTION n₃)
+        dir =
+            e .is
+            ∙ λ j. nextDirection (vecAt t RESIDUAL n₃) (diag j) (next-is j ⊘ rho) (kept-vec (d .kept) DIRECTION n₃ (λ i x y. omega (arith, pre .most)) j)
 
-      pub settle-next : Does Passing s u (ran (go (go (searchAt u n₃ next))) 0 1) Settled
-      unfolding settle
-      settle-next = record {
-        kept = kept-then (kept-more (d .kept) passing-testing) (e .kept) (passing-vector DIRECTION (omega arith) (omega arith));
-        is = (λ j. ran (go (go (record { solution = sol j; residual = res j; direction = dir j; rho = next-is j }))) 0 1) ∙ ticks (again _)
-            ∙ leave-no _ _ refl ∙ try-go _ (does-as (λ (q : Pass). trueAs q (vecAt t RESIDUAL n₃)) h d .is);
-      }
+        pub settle-next : Does Passing s u (ran (go (go (searchAt u n₃ next))) 0 1) Settled
+        unfolding settle
+        settle-next = record {
+          kept = kept-then (kept-more (d .kept) passing-testing) (e .kept) (passing-vector DIRECTION (omega arith) (omega arith));
+          is = (λ j. ran (go (go (record { solution = sol j; residual = res j; direction = dir j; rho = next-is j }))) 0 1) ∙ ticks (again _)
+              ∙ leave-no _ _ refl ∙ try-go _ (does-as (λ (q : Pass). trueAs q (vecAt t RESIDUAL n₃)) h d .is);
+        }
 
 -- gradient_pass
 module _ {s : List Float} {ia ib : List ℕ} (table : Table) (pre : Rows s ia ib (table .place) (table .rows) (table .bodies)) (tolerance rho : Float) where

@@ -40,9 +40,9 @@ module _ (s : List Float) (off k : ℕ) (linear : Float) {x y z : Vec3} (h : off
   pub stored-mass : (Kept (λ j. Out (off + 10 * k) 10 j) s w) × (massAt w off k ≡ record { linear = linear; angular = fromCols x y z })
   stored-mass = (
     kept-then
-    (kept-then (kept-then (kept-more (kept-set s (off + 10 * k) linear) (λ j q. omega arith)) (a .0) (λ j q. omega arith)) (b .0)
-    (λ j q. omega arith))
-    (c .0) (λ j q. omega arith),
+        (kept-then (kept-then (kept-more (kept-set s (off + 10 * k) linear) (λ j q. omega arith)) (a .0) (λ j q. omega arith)) (b .0)
+        (λ j q. omega arith))
+        (c .0) (λ j q. omega arith),
     λ j. record { linear = first j; angular = cols j },
   )
     where

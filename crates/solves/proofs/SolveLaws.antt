@@ -75,47 +75,47 @@ module _ {s : List Float} {ia ib : List ℕ} (table : Table) (pre : Rows s ia ib
   module _ {s₁ s₂ : List Float} (d₁ : Does (Beside PATH-RHS) s s₁ (vecAt s₁ PATH-RHS n) (Forward n))
       (d₂ : Does Backs s₁ s₂ (vecAt s₂ SOLUTION n)
       (backward n (listAt order n) (vecAt s₁ PATH-SCALE n) (bandAt s₁ n) (vecAt s₁ PATH-RHS n) (vecAt s₁ SOLUTION n)))
-      where
-    k₂ : Kept Refining s s₂
-    k₂ = kept-then (kept-more (d₁ .kept) (λ i x. x .1)) (d₂ .kept) (λ i x. (x .1, passing-vector SOLUTION (omega arith) (omega arith) i (x .0)))
+    where
+      k₂ : Kept Refining s s₂
+      k₂ = kept-then (kept-more (d₁ .kept) (λ i x. x .1)) (d₂ .kept) (λ i x. (x .1, passing-vector SOLUTION (omega arith) (omega arith) i (x .0)))
 
-    solution-is : vecAt s₂ SOLUTION n ≡ Solution n
-    solution-is = d₂ .is ∙ λ j. backward n (listAt order n) (kept-vec (d₁ .kept) PATH-SCALE n (λ i x y. omega (arith, pre .most)) j)
-        (kept-vec (d₁ .kept) PATH-BAND (12 * n) (λ i x y. omega (arith, pre .most)) j) (d₁ .is j)
-        (kept-vec (d₁ .kept) SOLUTION n (λ i x y. omega (arith, pre .most)) j)
+      solution-is : vecAt s₂ SOLUTION n ≡ Solution n
+      solution-is = d₂ .is ∙ λ j. backward n (listAt order n) (kept-vec (d₁ .kept) PATH-SCALE n (λ i x y. omega (arith, pre .most)) j)
+          (kept-vec (d₁ .kept) PATH-BAND (12 * n) (λ i x y. omega (arith, pre .most)) j) (d₁ .is j)
+          (kept-vec (d₁ .kept) SOLUTION n (λ i x y. omega (arith, pre .most)) j)
 
-    abbrev Op : Result (List Float)
-    Op = operator (systemOn ia ib s₂ table) (vecAt s₂ SOLUTION n)
+      abbrev Op : Result (List Float)
+      Op = operator (systemOn ia ib s₂ table) (vecAt s₂ SOLUTION n)
 
-    op-is : Op ≡ operator (systemOn ia ib s table) (Solution n)
-    op-is = λ j. operator (refining-system table pre k₂ j) (solution-is j)
+      op-is : Op ≡ operator (systemOn ia ib s table) (Solution n)
+      op-is = λ j. operator (refining-system table pre k₂ j) (solution-is j)
 
-    pub refine-failed : {s₃ : List Float} {f : Fault} → Does (Moves PRODUCT) s₂ s₃ (stop f) Op → Does Refining s s₃ (stop f) Fine
-    unfolding refine
-    refine-failed d = record {
-      kept = kept-then k₂ (d .kept) (λ i x. passing-moves PRODUCT (omega arith) (omega arith) i (x .0));
-      is = then-stop _ (d .is ∙ op-is ∙ ap (operator (systemOn ia ib s table)) long);
-    }
+      pub refine-failed : {s₃ : List Float} {f : Fault} → Does (Moves PRODUCT) s₂ s₃ (stop f) Op → Does Refining s s₃ (stop f) Fine
+      unfolding refine
+      refine-failed d = record {
+        kept = kept-then k₂ (d .kept) (λ i x. passing-moves PRODUCT (omega arith) (omega arith) i (x .0));
+        is = then-stop _ (d .is ∙ op-is ∙ ap (operator (systemOn ia ib s table)) long);
+      }
 
-    pub refine-done : {s₃ s₄ : List Float} → Does (Moves PRODUCT) s₂ s₃ (go (vecAt s₃ PRODUCT n)) Op
-        → Does (Beside RESIDUAL) s₃ s₄ (vecAt s₄ RESIDUAL n) (difference (vecAt s₃ RHS n) (vecAt s₃ PRODUCT n))
-        → Does Refining s s₄ (go (refinedAt s₄ n)) Fine
-    unfolding refine
-    refine-done {s₃} {s₄} d e = record {
-      kept = kept-then k₃ (e .kept) (λ i x. passing-vector RESIDUAL (omega arith) (omega arith) i (x .0));
-      is = (λ j. go (record { solution = sol₄ j; residual = res₄ j })) ∙ then-go _ (d .is ∙ op-is ∙ ap (operator (systemOn ia ib s table)) long);
-    }
-      where
-        k₃ : Kept Refining s s₃
-        k₃ = kept-then k₂ (d .kept) (λ i x. passing-moves PRODUCT (omega arith) (omega arith) i (x .0))
+      pub refine-done : {s₃ s₄ : List Float} → Does (Moves PRODUCT) s₂ s₃ (go (vecAt s₃ PRODUCT n)) Op
+          → Does (Beside RESIDUAL) s₃ s₄ (vecAt s₄ RESIDUAL n) (difference (vecAt s₃ RHS n) (vecAt s₃ PRODUCT n))
+          → Does Refining s s₄ (go (refinedAt s₄ n)) Fine
+      unfolding refine
+      refine-done {s₃} {s₄} d e = record {
+        kept = kept-then k₃ (e .kept) (λ i x. passing-vector RESIDUAL (omega arith) (omega arith) i (x .0));
+        is = (λ j. go (record { solution = sol₄ j; residual = res₄ j })) ∙ then-go _ (d .is ∙ op-is ∙ ap (operator (systemOn ia ib s table)) long);
+      }
+        where
+          k₃ : Kept Refining s s₃
+          k₃ = kept-then k₂ (d .kept) (λ i x. passing-moves PRODUCT (omega arith) (omega arith) i (x .0))
 
-        sol₄ : vecAt s₄ SOLUTION n ≡ Solution (length (rowsOn ia ib s (table .place) n))
-        sol₄ =
-            kept-vec (e .kept) SOLUTION n (λ i x y. omega (arith, pre .most)) ∙ kept-vec (d .kept) SOLUTION n (λ i x y. omega (arith, pre .most))
-            ∙ solution-is ∙ long
+          sol₄ : vecAt s₄ SOLUTION n ≡ Solution (length (rowsOn ia ib s (table .place) n))
+          sol₄ =
+              kept-vec (e .kept) SOLUTION n (λ i x y. omega (arith, pre .most)) ∙ kept-vec (d .kept) SOLUTION n (λ i x y. omega (arith, pre .most))
+              ∙ solution-is ∙ long
 
-        res₄ : vecAt s₄ RESIDUAL n ≡ difference (vecAt s RHS n) (vecAt s₃ PRODUCT n)
-        res₄ = e .is ∙ ap (λ (l : List Float). difference l (vecAt s₃ PRODUCT n)) (refining-rhs table pre k₃)
+          res₄ : vecAt s₄ RESIDUAL n ≡ difference (vecAt s RHS n) (vecAt s₃ PRODUCT n)
+          res₄ = e .is ∙ ap (λ (l : List Float). difference l (vecAt s₃ PRODUCT n)) (refining-rhs table pre k₃)
 
 -- refinements: k were counted, and the next goes on from s
 module _ {z : List Float} {ia ib : List ℕ} (table : Table) (pre : Rows z ia ib (table .place) (table .rows) (table .bodies)) (order : List ℕ)

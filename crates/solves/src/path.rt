@@ -37,7 +37,7 @@ ghost use Rattle.solves.specs.Answer.{ranAs, edgesAs, orderAs, Solves};
 ghost use Rattle.solves.specs.Lent.{came, left};
 ghost use Rattle.solves.specs.PathView.{Bodies, blocksAt, rowsOf, Blocked, Parted, Linking, orderAt, seenOf, Listed, Appended, Free, edgesOn, walkOn, endOn, fromOn, walksOn, Walks, Orders, onPath, placeOf, lineAt, Stands, Lies, rowLine, columnLine, sideLine};
 ghost use Rattle.solves.specs.Region.{vecAt, Does};
-ghost use Rattle.solves.specs.View.{rowsOn, massesAt, listAt, Along, Blank, noPath, bandAt, factorAt, refinedAt, Refining, Factoring, Rows, MASSES, SOLUTION, RESIDUAL, PATH-BAND, PATH-SCALE, PATH-RHS, END};
+ghost use Rattle.solves.specs.View.{listAt, Along, Blank, noPath, bandAt, factorAt, refinedAt, Refining, Factoring, Rows, SOLUTION, RESIDUAL, PATH-BAND, PATH-SCALE, PATH-RHS, END};
 ghost use Rattle.solves.specs.Search.{refinement, pathAlong};
 ghost use Rattle.solves.specs.View.{systemIn, rhsOn, solutionOn, orderOn, Ready};
 

@@ -49,9 +49,11 @@ loop-less c = omega arith
 loop-again : tie.Need-loop-again Inv-loop μ-loop
 loop-again c =
     let at-loop = c .before .before .before in
-    let start = at-loop .before in
-    (omega arith, square-more (now (start .args .s)) RESIDUAL DIAGONAL (start .args .n) _ (c .before .before .loop-test .taken)
-    (at-loop .loop .inv .1))
+    let start = at-loop .before in (
+      omega arith,
+      square-more (now (start .args .s)) RESIDUAL DIAGONAL (start .args .n) _ (c .before .before .loop-test .taken)
+          (at-loop .loop .inv .1),
+    )
 
 returns : tie.Need-returns Inv-loop μ-loop
 returns c =

@@ -33,9 +33,13 @@ store3-requires-2 : tie.Need-store3-requires-2
 store3-requires-2 c κs =
     let at-store3 = c .before .before .before in
     let start = at-store3 .before .before .before in
-    omega
-    (arith, at-store3 .store3 .ensures .0 .size, start .pre, length-set (now (start .args .s)) (start .args .off + 10 * start .args .k)
-    (start .args .linear))
+    omega (
+      arith,
+      at-store3 .store3 .ensures .0 .size,
+      start .pre,
+      length-set (now (start .args .s)) (start .args .off + 10 * start .args .k)
+          (start .args .linear),
+    )
 
 add-store3-3 : tie.Need-add-store3-3
 add-store3-3 c = search needs
@@ -45,18 +49,28 @@ store3-requires-3 c κs =
     let at-store32 = c .before .before .before in
     let at-store3 = at-store32 .before .before .before .before in
     let start = at-store3 .before .before .before in
-    omega
-    (arith, at-store3 .store3 .ensures .0 .size, start .pre, length-set (now (start .args .s)) (start .args .off + 10 * start .args .k)
-    (start .args .linear), at-store32 .store32 .ensures .0 .size)
+    omega (
+      arith,
+      at-store3 .store3 .ensures .0 .size,
+      start .pre,
+      length-set (now (start .args .s)) (start .args .off + 10 * start .args .k)
+          (start .args .linear),
+      at-store32 .store32 .ensures .0 .size,
+    )
 
 same-length : tie.Need-same-length
 same-length c =
     let at-store32 = c .before .before .before .before .before .before in
     let at-store3 = at-store32 .before .before .before .before in
     let start = at-store3 .before .before .before in
-    omega
-    (arith, at-store3 .store3 .ensures .0 .size, at-store32 .store32 .ensures .0 .size, c .before .before .store33 .ensures .0 .size, length-set
-    (now (start .args .s)) (start .args .off + 10 * start .args .k) (start .args .linear))
+    omega (
+      arith,
+      at-store3 .store3 .ensures .0 .size,
+      at-store32 .store32 .ensures .0 .size,
+      c .before .before .store33 .ensures .0 .size,
+      length-set
+          (now (start .args .s)) (start .args .off + 10 * start .args .k) (start .args .linear),
+    )
 
 returns : tie.Need-returns
 returns c =
