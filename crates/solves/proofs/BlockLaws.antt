@@ -15,7 +15,7 @@ use Rattle.rows.specs.Region.{tab-length, tab-ext, tab-at, tab-more}
 use Rattle.solves.specs.Path.{index, none, begins, startTurn, pathStarts, addEdge, blockEdges}
 use Rattle.solves.specs.Answer.{edgesAs}
 use Rattle.solves.specs.View.{listAt}
-use Rattle.solves.specs.PathView.{Bodies, Blocks, blocksAt, startsOf, rowsOf, Blocked, Parted, Linked, Linking, edgesOn}
+use Rattle.solves.specs.PathView.{Bodies, Blocks, startsOf, rowsOf, Blocked, Parted, Linked, Linking, edgesOn}
 
 -- an element of the first n
 pub list-at : (l : List ℕ) (n k : ℕ) → k < n → getD l k 0 ≡ index (listAt l n) k

@@ -7,4 +7,5 @@ pub mod GradientLaws
 pub mod BlockLaws
 pub mod WalkLaws
 pub mod FactorLaws
-pub mod RefineLaws
+pub mod SweepLaws
+pub mod SolveLaws

@@ -39,12 +39,17 @@ module _ (s : List Float) (off k : ℕ) (linear : Float) {x y z : Vec3} (h : off
     (a : Stored3 (off + 10 * k + 1) x (set s (off + 10 * k) linear) t) (b : Stored3 (off + 10 * k + 4) y t u) (c : Stored3 (off + 10 * k + 7) z u w) where
   pub stored-mass : (Kept (λ j. Out (off + 10 * k) 10 j) s w) × (massAt w off k ≡ record { linear = linear; angular = fromCols x y z })
   stored-mass = (
-    kept-then (kept-then (kept-then (kept-more (kept-set s (off + 10 * k) linear) (λ j q. omega arith)) (a .0) (λ j q. omega arith)) (b .0) (λ j q. omega arith)) (c .0) (λ j q. omega arith),
+    kept-then
+        (kept-then (kept-then (kept-more (kept-set s (off + 10 * k) linear) (λ j q. omega arith)) (a .0) (λ j q. omega arith)) (b .0)
+        (λ j q. omega arith))
+        (c .0) (λ j q. omega arith),
     λ j. record { linear = first j; angular = cols j },
   )
     where
       first : at w (off + 10 * k) ≡ linear
-      first = c .0 .same (off + 10 * k) (omega arith) ∙ b .0 .same (off + 10 * k) (omega arith) ∙ a .0 .same (off + 10 * k) (omega arith) ∙ getD-set-same s (off + 10 * k) linear nan (omega arith)
+      first =
+          c .0 .same (off + 10 * k) (omega arith) ∙ b .0 .same (off + 10 * k) (omega arith) ∙ a .0 .same (off + 10 * k) (omega arith)
+          ∙ getD-set-same s (off + 10 * k) linear nan (omega arith)
 
       ex : vec3At w (off + 10 * k + 1) ≡ x
       ex = kept-vec3 (c .0) (off + 10 * k + 1) (λ i h l. omega arith) ∙ kept-vec3 (b .0) (off + 10 * k + 1) (λ i h l. omega arith) ∙ a .1
@@ -55,7 +60,8 @@ module _ (s : List Float) (off k : ℕ) (linear : Float) {x y z : Vec3} (h : off
       cols : fromCols (vec3At w (off + 10 * k + 1)) (vec3At w (off + 10 * k + 4)) (vec3At w (off + 10 * k + 7)) ≡ fromCols x y z
       cols = λ j. fromCols (ex j) (ey j) (c .1 j)
 
-pub mass-loaded : (s : List Float) (off k : ℕ) {m : Mat3} {x y z : Vec3} → x ≡ vec3At s (off + 10 * k + 1) → y ≡ vec3At s (off + 10 * k + 4) → z ≡ vec3At s (off + 10 * k + 7)
+pub mass-loaded : (s : List Float) (off k : ℕ) {m : Mat3} {x y z : Vec3} → x ≡ vec3At s (off + 10 * k + 1) → y ≡ vec3At s (off + 10 * k + 4)
+    → z ≡ vec3At s (off + 10 * k + 7)
     → m ≡ fromCols x y z → record { linear = at s (off + 10 * k); angular = m } ≡ massAt s off k
 mass-loaded s off k {m} {x} {y} {z} a b c e = λ j. record { linear = at s (off + 10 * k); angular = (e ∙ cols) j }
   where

@@ -166,7 +166,8 @@ module _ (blocks : Blocks) where
           let y : part (set v c true) k ≡ part v k = part-by (set v c true) k (getD-set-other v c k true false (λ q. omega arith)) in
           omega arith
 
-room-none : {ia ib : List ℕ} {blocks : Blocks} → Blocked ia ib blocks → (k : ℕ) → k ≤ blocks .count → room blocks (replicate 96 false) k ≤ getD (blocks .starts) k 0
+room-none : {ia ib : List ℕ} {blocks : Blocks} → Blocked ia ib blocks → (k : ℕ) → k ≤ blocks .count
+    → room blocks (replicate 96 false) k ≤ getD (blocks .starts) k 0
 unfolding room
 room-none pre zero h = omega arith
 room-none {ia} {ib} {blocks} pre (suc k) h =
@@ -224,7 +225,8 @@ module _ {ia ib : List ℕ} {blocks : Blocks} (pre : Blocked ia ib blocks) {edge
   near ix current here e = e ∙ ap (λ (b : ℕ). neighbor edges b current) (body-is pre here ix)
 
   -- the neighbors of a block on both sides, and the block that follows it
-  module _ (current previous : ℕ) (here : current < blocks .count) {x y next : ℕ} (ex : x ≡ neighbor edges (getD ia (getD (blocks .starts) current 0) 0) current)
+  module _ (current previous : ℕ) (here : current < blocks .count) {x y next : ℕ}
+      (ex : x ≡ neighbor edges (getD ia (getD (blocks .starts) current 0) 0) current)
       (ey : y ≡ neighbor edges (getD ib (getD (blocks .starts) current 0) 0) current) (en : next ≡ nextBlock x y previous) where
     next-is : next ≡ nextBlock (neighbor edges (index A (index S current)) current) (neighbor edges (index B (index S current)) current) previous
     next-is = en ∙ λ j. nextBlock (near ia current here ex j) (near ib current here ey j) previous
@@ -284,7 +286,8 @@ module _ {ia ib : List ℕ} {blocks : Blocks} (pre : Blocked ia ib blocks) {edge
           inv .free .listed .size,
         )
 
-        module _ {out : Order} (ea : Appended order (getD (blocks .starts) current 0) (getD (blocks .starts) (current + 1) 0) (getD (blocks .starts) (current + 1) 0) out) where
+        module _ {out : Order} (ea : Appended order (getD (blocks .starts) current 0) (getD (blocks .starts) (current + 1) 0)
+            (getD (blocks .starts) (current + 1) 0) out) where
           abbrev visited₁ : List Bool
           visited₁ = set visited current true
 
@@ -340,7 +343,8 @@ module _ {ia ib : List ℕ} {blocks : Blocks} (pre : Blocked ia ib blocks) {edge
     pub end-visited : getD visited block false ≡ true → false ≡ End
     end-visited q = end-by q refl refl
 
-    module _ (h : block < blocks .count) (q : getD visited block false ≡ false) {x : ℕ} (ex : x ≡ neighbor edges (getD ia (getD (blocks .starts) block 0) 0) block) where
+    module _ (h : block < blocks .count) (q : getD visited block false ≡ false) {x : ℕ}
+        (ex : x ≡ neighbor edges (getD ia (getD (blocks .starts) block 0) 0) block) where
       pub end-a : x ≡ 96 → true ≡ End
       end-a w = end-by q (eq-eqb _ _ (sym (near ia block h ex) ∙ w)) refl
 

@@ -1,14 +1,20 @@
--- The path's integers in the lent arrays as plain values, and what its functions say of them.
+-- The path's integers in the lent arrays as plain values, what its functions say of them, and the doubles of its sums.
 use Prim.Native.Nat.{ℕ, zero, suc, _+_, _*_, _-_, _≤_, _<_, min}
 use mathlib.Core.Path.{_≡_}
 use mathlib.Core.Bool.{Bool, true, false, cond}
 use mathlib.Core.List.{List, _++_}
 use lib.ListN.{length, getD}
+use lib.Ieee.{Float}
 use Rattle.arith.specs.Flow.{Turn, go, stop}
+use Rattle.rows.specs.declared.geometry.EqualityRow.{EqualityRow}
+use Rattle.rows.specs.View.{at}
+use Rattle.solves.specs.declared.places.MassResponse.{MassResponse}
 use Rattle.solves.specs.declared.path.Order.{Order}
+use Rattle.solves.specs.declared.path.Line.{Line}
 use Rattle.solves.specs.Path.{none, pathStarts, blockEdges, Seen, run, walk, walkFrom, isEnd, pathWalks}
 use Rattle.solves.specs.Answer.{orderIn}
-use Rattle.solves.specs.View.{listAt, orderOf}
+use Rattle.solves.specs.Lent.{Lent, came}
+use Rattle.solves.specs.View.{rowsOn, massesAt, listAt, orderOf, MASSES, PATH-BAND, PATH-RHS, END}
 
 -- the first n rows are on bodies below 16
 abbrev pub Bodies : List ℕ → ℕ → Type 0
@@ -122,3 +128,32 @@ pub record Walks (blocks : Blocks) (found : Bool) (order : Order) (visited : Lis
 pub record Orders (blocks : Blocks) (found : Bool) (order : Order) (defined : Turn Seen (Unit {0})) : Type 0 where
   pub is : foundAs found (orderOf order) ≡ orderIn defined
   pub listed : found ≡ true → Listed order (rowsOf blocks)
+
+-- ---- the factor's definitions on the scratch and the order at entry
+abbrev pub onPath : {A : Type 0} → Lent Float → Lent ℕ → Lent ℕ → Lent ℕ → ℕ → ℕ → ℕ → (List EqualityRow → List MassResponse → List ℕ → A) → A
+onPath s ia ib order rows n count f = f (rowsOn (came ia) (came ib) (came s) rows n) (massesAt (came s) MASSES count) (listAt (came order) n)
+
+-- ---- the doubles of a sum
+-- where number t of a line stands
+abbrev pub placeOf : Line → ℕ → ℕ
+placeOf line t = line .first + line .on * t - line .back * t
+
+abbrev pub lineAt : List Float → Line → ℕ → Float
+lineAt s line t = at s (placeOf line t)
+
+-- number t of a line stands in the scratch, and so do the first `terms`
+abbrev pub Stands : Line → ℕ → Type 0
+Stands line t = (line .back * t ≤ line .first + line .on * t) × (line .first + line .on * t < END)
+
+abbrev pub Lies : Line → ℕ → Type 0
+Lies line terms = (t : ℕ) → t < terms → Stands line t
+
+-- path_band[i][i - k], path_band[k][k - i] and path_rhs[k], for k from `from` on
+abbrev pub rowLine : ℕ → ℕ → Line
+rowLine i from = record { first = PATH-BAND + 12 * i + (i - from); on = 0; back = 1 }
+
+abbrev pub columnLine : ℕ → ℕ → Line
+columnLine i from = record { first = PATH-BAND + 12 * from + (from - i); on = 13; back = 0 }
+
+abbrev pub sideLine : ℕ → Line
+sideLine from = record { first = PATH-RHS + from; on = 1; back = 0 }

@@ -2,11 +2,12 @@
 // a Cholesky factor of band 12 solves it. A third block on a body, or a closed ring of blocks, declines.
 use crate::End;
 use crate::Ended;
-use crate::Outcome;
-use crate::Part;
+use crate::Pass;
 use crate::Sum;
-use crate::gradients::Test;
+use crate::Table;
+use crate::done;
 use crate::gradients::residual_test;
+use crate::layout::BAND_WIDTH;
 use crate::layout::PATH_BAND;
 use crate::layout::PATH_RHS;
 use crate::layout::PATH_SCALE;
@@ -25,20 +26,21 @@ use arith::number::is_finite;
 use arith::root::sqrt;
 ghost use mathlib.Core.Path.{_≡_};
 ghost use mathlib.Core.Bool.{true, false, cond};
-ghost use mathlib.Core.List.{_++_};
-ghost use Prim.Native.Nat.{ℕ, _+_, _-_, _≤_, _<_, min};
-ghost use lib.ListN.{length, getD, set};
+ghost use Prim.Native.Nat.{_+_, _-_, _≤_, _<_, min};
+ghost use lib.ListN.{length, set};
 ghost use Rattle.arith.specs.Flow.{loop};
+ghost use Rattle.arith.specs.Run.{upTo};
+ghost use Rattle.rows.specs.Fault.{nonConvergent};
 ghost use Rattle.rows.specs.View.{Out};
-ghost use Rattle.solves.specs.Solver.{spent};
-ghost use Rattle.solves.specs.Path.{begins as beginsOf, addEdge, neighbor as neighborOf, follows as followsOf, nextBlock, pathOrder, pathScale, reduced as reducedOf, pathEntry, pathRow, pathFactor, pathFactored, forwardSum, forward as forwardOf, backwardSum, backward as backwardOf, refine as refineOf, refinement, ended, pathSolve};
-ghost use Rattle.solves.specs.Answer.{ranAs, partAs, edgesAs, orderAs, solveAs};
+ghost use Rattle.solves.specs.Path.{begins as beginsOf, addEdge, neighbor as neighborOf, follows as followsOf, nextBlock, pathOrder, pathScale, lessProducts, reduced as reducedOf, pathEntry, pathRow, pathFactor, pathFactored, forwardSum, forward as forwardOf, backwardSum, backward as backwardOf, refine as refineOf};
+ghost use Rattle.solves.specs.Answer.{ranAs, edgesAs, orderAs, Solves};
 ghost use Rattle.solves.specs.Lent.{came, left};
-ghost use Rattle.solves.specs.PathView.{Bodies, blocksAt, rowsOf, Blocked, Parted, Linking, orderAt, seenOf, Listed, Appended, Free, edgesOn, walkOn, endOn, fromOn, walksOn, Walks, Orders};
+ghost use Rattle.solves.specs.PathView.{Bodies, blocksAt, rowsOf, Blocked, Parted, Linking, orderAt, seenOf, Listed, Appended, Free, edgesOn, walkOn, endOn, fromOn, walksOn, Walks, Orders, onPath, placeOf, lineAt, Stands, Lies, rowLine, columnLine, sideLine};
 ghost use Rattle.solves.specs.Region.{vecAt, Does};
-ghost use Rattle.solves.specs.View.{rowsOn, massesAt, listAt, Along, Blank, noPath, bandAt, factorAt, refinedAt, Refining, Factoring, Rows, Work, MASSES, RHS, SOLUTION, RESIDUAL, PATH-BAND, PATH-SCALE, PATH-RHS, END};
+ghost use Rattle.solves.specs.View.{listAt, Along, Blank, noPath, bandAt, factorAt, refinedAt, Refining, Factoring, Rows, SOLUTION, RESIDUAL, PATH-BAND, PATH-SCALE, PATH-RHS, END};
+ghost use Rattle.solves.specs.Search.{refinement, pathAlong};
+ghost use Rattle.solves.specs.View.{systemIn, rhsOn, solutionOn, orderOn, Ready};
 
-const BAND_WIDTH: usize = 12; // At most two adjacent six-row joints on a path.
 // No block: the Rust's `usize::MAX`. There are at most 96 blocks.
 const NONE: usize = 96;
 
@@ -363,7 +365,7 @@ fn no_path() -> PathOrder
 }
 
 // The rows along the path, if the graph is one.
-fn path_order(ia: &[usize; 96], ib: &[usize; 96], n: usize) -> PathOrder
+pub(crate) fn path_order(ia: &[usize; 96], ib: &[usize; 96], n: usize) -> PathOrder
     requires { ⌜ (n ≤ 96) × (Bodies (now ia) n) × (Bodies (now ib) n) ⌝ }
     ensures { λ r. ⌜
         (orderAs r ≡ pathOrder (listAt (came ia) n) (listAt (came ib) n) n)
@@ -390,6 +392,68 @@ fn path_order(ia: &[usize; 96], ib: &[usize; 96], n: usize) -> PathOrder
     no_path()
 }
 
+// Doubles of a sum: the place of the first, and how far on or back the next one lies.
+pub(crate) struct Line {
+    pub first: usize,
+    pub on: usize,
+    pub back: usize,
+}
+
+// The band's `[i][i - k]`, for k from `from` on.
+fn row_line(i: usize, from: usize) -> Line
+    requires { ⌜ (i < 96) × (from ≤ i) ⌝ }
+    ensures { λ r. ⌜ r ≡ rowLine i from ⌝ }
+{
+    Line {
+        first: PATH_BAND + BAND_WIDTH * i + (i - from),
+        on: 0,
+        back: 1,
+    }
+}
+
+// The band's `[k][k - i]`, for k from `from` on.
+fn column_line(i: usize, from: usize) -> Line
+    requires { ⌜ (from ≤ 96) × (i ≤ from) ⌝ }
+    ensures { λ r. ⌜ r ≡ columnLine i from ⌝ }
+{
+    Line {
+        first: PATH_BAND + BAND_WIDTH * from + (from - i),
+        on: BAND_WIDTH + 1,
+        back: 0,
+    }
+}
+
+// The right side from `from` on.
+fn side_line(from: usize) -> Line
+    requires { ⌜ from ≤ 96 ⌝ }
+    ensures { λ r. ⌜ r ≡ sideLine from ⌝ }
+{
+    Line {
+        first: PATH_RHS + from,
+        on: 1,
+        back: 0,
+    }
+}
+
+fn place(line: Line, t: usize) -> usize
+    requires { ⌜ Stands line t ⌝ }
+    ensures { λ r. ⌜ r ≡ placeOf line t ⌝ }
+{
+    line.first + line.on * t - line.back * t
+}
+
+// `start` less the products of two lines, one after the other: the three sums of the Rust.
+fn less_products(s: &[f64], start: f64, a: Line, b: Line, terms: usize) -> f64
+    requires { ⌜ (END ≤ length (now s)) × (Lies a terms) × (Lies b terms) ⌝ }
+    ensures { λ r. ⌜ r ≡ lessProducts (lineAt (came s) a) (lineAt (came s) b) terms start ⌝ }
+{
+    let mut value = start;
+    for t in 0..terms {
+        value = value - s[place(a, t)] * s[place(b, t)];
+    }
+    value
+}
+
 // The first column of row i's band.
 fn band_start(i: usize) -> usize
     ensures { λ r. ⌜ r ≡ i - 11 ⌝ }
@@ -408,34 +472,32 @@ fn path_scale(
     order: &[usize; 96],
     n: usize,
     count: usize,
-) -> Part
+) -> End
     requires { ⌜ (Rows (now s) (now ia) (now ib) rows n count) × (Along (now order) n) ⌝ }
-    ensures { λ r. ⌜ Does (Out PATH-SCALE 96) (now (s .entry)) (now (s .exit)) (partAs r (vecAt (now (s .exit)) PATH-SCALE n)) (pathScale (rowsOn (now (ia .entry)) (now (ib .entry)) (now (s .entry)) rows n) (massesAt (now (s .entry)) MASSES count) (listAt (now (order .entry)) n) n) ⌝ }
+    ensures { λ r. ⌜
+        Does (Out PATH-SCALE 96) (came s) (left s) (ranAs r (vecAt (left s) PATH-SCALE n))
+        (onPath s ia ib order rows n count pathScale n) ⌝ }
 {
     for i in 0..n {
         let row = load_row(s, ia, ib, rows, order[i]);
         let Sum::Value(value) = cross_mass(s, row, row, count) else {
-            return Part::ArithmeticOverflow;
+            return End::ArithmeticOverflow;
         };
         if value <= 0.0 {
-            return Part::NonConvergent;
+            return End::NonConvergent;
         }
         s[PATH_SCALE + i] = sqrt(value);
     }
-    Part::Done
+    End::Done
 }
 
 // The entry less the products of the columns before it.
 fn reduced(s: &[f64], entry: f64, i: usize, j: usize, n: usize) -> f64
     requires { ⌜ (END ≤ length (now s)) × (n ≤ 96) × (i < n) × (j ≤ i) × (i ≤ j + 11) ⌝ }
-    ensures { λ r. ⌜ r ≡ reducedOf (bandAt (now (s .entry)) n) i j entry ⌝ }
+    ensures { λ r. ⌜ r ≡ reducedOf (bandAt (came s) n) i j entry ⌝ }
 {
-    let mut value = entry;
-    for k in band_start(i)..j {
-        value = value
-            - s[PATH_BAND + BAND_WIDTH * i + (i - k)] * s[PATH_BAND + BAND_WIDTH * j + (j - k)];
-    }
-    value
+    let from = band_start(i);
+    less_products(s, entry, row_line(i, from), row_line(j, from), j - from)
 }
 
 fn path_entry(
@@ -448,28 +510,30 @@ fn path_entry(
     count: usize,
     i: usize,
     j: usize,
-) -> Part
+) -> End
     requires { ⌜ (Rows (now s) (now ia) (now ib) rows n count) × (Along (now order) n) × (i < n) × (j ≤ i) × (i ≤ j + 11) ⌝ }
-    ensures { λ r. ⌜ Does (Out PATH-BAND 1152) (now (s .entry)) (now (s .exit)) (partAs r (bandAt (now (s .exit)) n)) (pathEntry (rowsOn (now (ia .entry)) (now (ib .entry)) (now (s .entry)) rows n) (massesAt (now (s .entry)) MASSES count) (listAt (now (order .entry)) n) (vecAt (now (s .entry)) PATH-SCALE n) i j (bandAt (now (s .entry)) n)) ⌝ }
+    ensures { λ r. ⌜
+        Does (Out PATH-BAND 1152) (came s) (left s) (ranAs r (bandAt (left s) n))
+        (onPath s ia ib order rows n count pathEntry (vecAt (came s) PATH-SCALE n) i j (bandAt (came s) n)) ⌝ }
 {
     let a = load_row(s, ia, ib, rows, order[i]);
     let b = load_row(s, ia, ib, rows, order[j]);
     let Sum::Value(entry) = cross_mass(s, a, b, count) else {
-        return Part::ArithmeticOverflow;
+        return End::ArithmeticOverflow;
     };
     let value = reduced(s, entry / (s[PATH_SCALE + i] * s[PATH_SCALE + j]), i, j, n);
     if j == i {
         if !is_finite(value) {
-            return Part::NonConvergent;
+            return End::NonConvergent;
         }
         if value <= 0.0 {
-            return Part::NonConvergent;
+            return End::NonConvergent;
         }
         s[PATH_BAND + BAND_WIDTH * i] = sqrt(value);
-        return Part::Done;
+        return End::Done;
     }
     s[PATH_BAND + BAND_WIDTH * i + (i - j)] = value / s[PATH_BAND + BAND_WIDTH * j];
-    Part::Done
+    End::Done
 }
 
 fn path_row(
@@ -481,22 +545,24 @@ fn path_row(
     n: usize,
     count: usize,
     i: usize,
-) -> Part
+) -> End
     requires { ⌜ (Rows (now s) (now ia) (now ib) rows n count) × (Along (now order) n) × (i < n) ⌝ }
-    ensures { λ r. ⌜ Does (Out PATH-BAND 1152) (now (s .entry)) (now (s .exit)) (partAs r (bandAt (now (s .exit)) n)) (pathRow (rowsOn (now (ia .entry)) (now (ib .entry)) (now (s .entry)) rows n) (massesAt (now (s .entry)) MASSES count) (listAt (now (order .entry)) n) (vecAt (now (s .entry)) PATH-SCALE n) i (bandAt (now (s .entry)) n)) ⌝ }
+    ensures { λ r. ⌜
+        Does (Out PATH-BAND 1152) (came s) (left s) (ranAs r (bandAt (left s) n))
+        (onPath s ia ib order rows n count pathRow (vecAt (came s) PATH-SCALE n) i (bandAt (came s) n)) ⌝ }
 {
     for j in band_start(i)..i + 1 {
         match path_entry(s, ia, ib, rows, order, n, count, i, j) {
-            Part::Done => {}
-            Part::NonConvergent => {
-                return Part::NonConvergent;
+            End::Done => {}
+            End::NonConvergent => {
+                return End::NonConvergent;
             }
-            Part::ArithmeticOverflow => {
-                return Part::ArithmeticOverflow;
+            End::ArithmeticOverflow => {
+                return End::ArithmeticOverflow;
             }
         }
     }
-    Part::Done
+    End::Done
 }
 
 fn path_factor(
@@ -507,39 +573,40 @@ fn path_factor(
     order: &[usize; 96],
     n: usize,
     count: usize,
-) -> Part
+) -> End
     requires { ⌜ (Rows (now s) (now ia) (now ib) rows n count) × (Along (now order) n) ⌝ }
-    ensures { λ r. ⌜ Does (Out PATH-BAND 1152) (now (s .entry)) (now (s .exit)) (partAs r (bandAt (now (s .exit)) n)) (pathFactor (rowsOn (now (ia .entry)) (now (ib .entry)) (now (s .entry)) rows n) (massesAt (now (s .entry)) MASSES count) (listAt (now (order .entry)) n) (vecAt (now (s .entry)) PATH-SCALE n) n) ⌝ }
+    ensures { λ r. ⌜
+        Does (Out PATH-BAND 1152) (came s) (left s) (ranAs r (bandAt (left s) n))
+        (onPath s ia ib order rows n count pathFactor (vecAt (came s) PATH-SCALE n) n) ⌝ }
 {
     clear(s, PATH_BAND, BAND_WIDTH * n);
     for i in 0..n {
         match path_row(s, ia, ib, rows, order, n, count, i) {
-            Part::Done => {}
-            Part::NonConvergent => {
-                return Part::NonConvergent;
+            End::Done => {}
+            End::NonConvergent => {
+                return End::NonConvergent;
             }
-            Part::ArithmeticOverflow => {
-                return Part::ArithmeticOverflow;
+            End::ArithmeticOverflow => {
+                return End::ArithmeticOverflow;
             }
         }
     }
-    Part::Done
+    End::Done
 }
 
 fn forward_sum(s: &[f64], start: f64, i: usize, n: usize) -> f64
     requires { ⌜ (END ≤ length (now s)) × (n ≤ 96) × (i < n) ⌝ }
-    ensures { λ r. ⌜ r ≡ forwardSum (bandAt (now (s .entry)) n) (vecAt (now (s .entry)) PATH-RHS i) i start ⌝ }
+    ensures { λ r. ⌜ r ≡ forwardSum (bandAt (came s) n) (vecAt (came s) PATH-RHS i) i start ⌝ }
 {
-    let mut value = start;
-    for j in band_start(i)..i {
-        value = value - s[PATH_BAND + BAND_WIDTH * i + (i - j)] * s[PATH_RHS + j];
-    }
-    value
+    let from = band_start(i);
+    less_products(s, start, row_line(i, from), side_line(from), i - from)
 }
 
 fn forward(s: &mut [f64], order: &[usize; 96], n: usize)
     requires { ⌜ (END ≤ length (now s)) × (n ≤ 96) × (Along (now order) n) ⌝ }
-    ensures { λ _. ⌜ Does (Out PATH-RHS 96) (now (s .entry)) (now (s .exit)) (vecAt (now (s .exit)) PATH-RHS n) (forwardOf n (listAt (now (order .entry)) n) (vecAt (now (s .entry)) PATH-SCALE n) (bandAt (now (s .entry)) n) (vecAt (now (s .entry)) RESIDUAL n)) ⌝ }
+    ensures { λ _. ⌜
+        Does (Out PATH-RHS 96) (came s) (left s) (vecAt (left s) PATH-RHS n)
+        (forwardOf n (listAt (came order) n) (vecAt (came s) PATH-SCALE n) (bandAt (came s) n) (vecAt (came s) RESIDUAL n)) ⌝ }
 {
     for i in 0..n {
         let start = s[RESIDUAL + order[i]] / s[PATH_SCALE + i];
@@ -560,19 +627,25 @@ fn band_end(i: usize, n: usize) -> usize
 
 fn backward_sum(s: &[f64], start: f64, i: usize, n: usize) -> f64
     requires { ⌜ (END ≤ length (now s)) × (n ≤ 96) × (i < n) ⌝ }
-    ensures { λ r. ⌜ r ≡ backwardSum n (bandAt (now (s .entry)) n) (vecAt (now (s .entry)) PATH-RHS n) i start ⌝ }
+    ensures { λ r. ⌜ r ≡ backwardSum n (bandAt (came s) n) (vecAt (came s) PATH-RHS n) i start ⌝ }
 {
-    let mut value = start;
-    for j in i + 1..band_end(i, n) {
-        value = value - s[PATH_BAND + BAND_WIDTH * j + (j - i)] * s[PATH_RHS + j];
-    }
-    value
+    let from = i + 1;
+    less_products(
+        s,
+        start,
+        column_line(i, from),
+        side_line(from),
+        band_end(i, n) - from,
+    )
 }
 
 // From the last row to the first, with the correction added to the solution.
 fn backward(s: &mut [f64], order: &[usize; 96], n: usize)
     requires { ⌜ (END ≤ length (now s)) × (n ≤ 96) × (Along (now order) n) ⌝ }
-    ensures { λ _. ⌜ Does (λ i. (Out PATH-RHS 96 i) × (Out SOLUTION 96 i)) (now (s .entry)) (now (s .exit)) (vecAt (now (s .exit)) SOLUTION n) (backwardOf n (listAt (now (order .entry)) n) (vecAt (now (s .entry)) PATH-SCALE n) (bandAt (now (s .entry)) n) (vecAt (now (s .entry)) PATH-RHS n) (vecAt (now (s .entry)) SOLUTION n)) ⌝ }
+    ensures { λ _. ⌜
+        Does (λ i. (Out PATH-RHS 96 i) × (Out SOLUTION 96 i)) (came s) (left s) (vecAt (left s) SOLUTION n)
+        (backwardOf n (listAt (came order) n) (vecAt (came s) PATH-SCALE n) (bandAt (came s) n) (vecAt (came s) PATH-RHS n)
+        (vecAt (came s) SOLUTION n)) ⌝ }
 {
     for k in 0..n {
         let i = n - 1 - k;
@@ -583,59 +656,6 @@ fn backward(s: &mut [f64], order: &[usize; 96], n: usize)
     }
 }
 
-// One refinement, up to the new residual.
-fn refine(
-    s: &mut [f64],
-    ia: &[usize; 96],
-    ib: &[usize; 96],
-    rows: usize,
-    order: &[usize; 96],
-    n: usize,
-    count: usize,
-) -> Outcome
-    requires { ⌜ (Rows (now s) (now ia) (now ib) rows n count) × (Along (now order) n) ⌝ }
-    ensures { λ r. ⌜ Does Refining (now (s .entry)) (now (s .exit)) (ranAs r (refinedAt (now (s .exit)) n)) (refineOf (rowsOn (now (ia .entry)) (now (ib .entry)) (now (s .entry)) rows n) (massesAt (now (s .entry)) MASSES count) (vecAt (now (s .entry)) RHS n) n (listAt (now (order .entry)) n) (factorAt (now (s .entry)) n) (refinedAt (now (s .entry)) n)) ⌝ }
-{
-    forward(s, order, n);
-    backward(s, order, n);
-    if let Outcome::ArithmeticOverflow = operator(s, ia, ib, rows, SOLUTION, PRODUCT, n, count) {
-        return Outcome::ArithmeticOverflow;
-    }
-    difference(s, RESIDUAL, RHS, PRODUCT, n);
-    Outcome::Done
-}
-
-// At most 4 refinements, each counted once its residual is known.
-fn refinements(
-    s: &mut [f64],
-    ia: &[usize; 96],
-    ib: &[usize; 96],
-    rows: usize,
-    order: &[usize; 96],
-    n: usize,
-    count: usize,
-    tolerance: f64,
-) -> Ended
-    requires { ⌜ (Rows (now s) (now ia) (now ib) rows n count) × (Along (now order) n) ⌝ }
-    ensures { λ r. ⌜ (Does Refining (now (s .entry)) (now (s .exit)) (solveAs r (vecAt (now (s .exit)) SOLUTION n)) (ended (spent 4 (loop 4 (refinement (rowsOn (now (ia .entry)) (now (ib .entry)) (now (s .entry)) rows n) (massesAt (now (s .entry)) MASSES count) (vecAt (now (s .entry)) RHS n) n (listAt (now (order .entry)) n) (factorAt (now (s .entry)) n) tolerance) (refinedAt (now (s .entry)) n))))) × (r .passes ≤ 4) ⌝ }
-{
-    for k in 0..4usize {
-        if let Outcome::ArithmeticOverflow = refine(s, ia, ib, rows, order, n, count) {
-            return Ended::new(End::ArithmeticOverflow, k);
-        }
-        match residual_test(s, n, tolerance) {
-            Test::Within => {
-                return Ended::new(End::Solved, k + 1);
-            }
-            Test::Beyond => {}
-            Test::ArithmeticOverflow => {
-                return Ended::new(End::ArithmeticOverflow, k + 1);
-            }
-        }
-    }
-    Ended::new(End::NonConvergent, 4)
-}
-
 fn path_factored(
     s: &mut [f64],
     ia: &[usize; 96],
@@ -644,43 +664,80 @@ fn path_factored(
     order: &[usize; 96],
     n: usize,
     count: usize,
-) -> Part
+) -> End
     requires { ⌜ (Rows (now s) (now ia) (now ib) rows n count) × (Along (now order) n) ⌝ }
-    ensures { λ r. ⌜ Does Factoring (now (s .entry)) (now (s .exit)) (partAs r (factorAt (now (s .exit)) n)) (pathFactored (rowsOn (now (ia .entry)) (now (ib .entry)) (now (s .entry)) rows n) (massesAt (now (s .entry)) MASSES count) (listAt (now (order .entry)) n) n) ⌝ }
+    ensures { λ r. ⌜
+        Does Factoring (came s) (left s) (ranAs r (factorAt (left s) n))
+        (onPath s ia ib order rows n count pathFactored n) ⌝ }
 {
     match path_scale(s, ia, ib, rows, order, n, count) {
-        Part::Done => path_factor(s, ia, ib, rows, order, n, count),
-        Part::NonConvergent => Part::NonConvergent,
-        Part::ArithmeticOverflow => Part::ArithmeticOverflow,
+        End::Done => path_factor(s, ia, ib, rows, order, n, count),
+        End::NonConvergent => End::NonConvergent,
+        End::ArithmeticOverflow => End::ArithmeticOverflow,
     }
 }
 
-pub(crate) fn path_solve(
+// One refinement, up to the new residual.
+fn refine(s: &mut [f64], ia: &[usize; 96], ib: &[usize; 96], t: Table, order: &[usize; 96]) -> End
+    requires { ⌜ (Ready s ia ib t) × (Along (now order) (t .rows)) ⌝ }
+    ensures { λ r. ⌜ Does Refining (came s) (left s) (ranAs r (refinedAt (left s) (t .rows)))
+        (refineOf (systemIn s ia ib t) (rhsOn s t) (orderOn order t) (factorAt (came s) (t .rows)) (refinedAt (came s) (t .rows))) ⌝ }
+{
+    let n = t.rows;
+    forward(s, order, n);
+    backward(s, order, n);
+    let end = operator(s, ia, ib, t, SOLUTION, PRODUCT);
+    if !done(end) {
+        return end;
+    }
+    difference(s, RESIDUAL, RHS, PRODUCT, n);
+    End::Done
+}
+
+// At most 4 refinements, each counted once its residual is known.
+fn refinements(
     s: &mut [f64],
     ia: &[usize; 96],
     ib: &[usize; 96],
-    rows: usize,
-    n: usize,
-    count: usize,
+    t: Table,
+    order: &[usize; 96],
+    tolerance: f64,
 ) -> Ended
-    requires { ⌜ Rows (now s) (now ia) (now ib) rows n count ⌝ }
-    ensures { λ r. ⌜ (Does Work (now (s .entry)) (now (s .exit)) (solveAs r (vecAt (now (s .exit)) SOLUTION n)) (pathSolve (rowsOn (now (ia .entry)) (now (ib .entry)) (now (s .entry)) rows n) (massesAt (now (s .entry)) MASSES count) (vecAt (now (s .entry)) RHS n) (vecAt (now (s .entry)) SOLUTION n))) × (r .end ≡ End.Declined → ((now (s .exit)) ≡ (now (s .entry))) × (r .passes ≡ 0)) × (r .passes ≤ 4) ⌝ }
+    requires { ⌜ (Ready s ia ib t) × (Along (now order) (t .rows)) ⌝ }
+    ensures { λ r. ⌜ Solves s ia ib t r (λ system.
+        upTo 4 nonConvergent (refinement system (rhsOn s t) (orderOn order t) (factorAt (came s) (t .rows)) tolerance) (refinedAt (came s) (t .rows))) ⌝ }
 {
-    let path = path_order(ia, ib, n);
-    if !path.found {
-        return Ended::new(End::Declined, 0);
-    }
-    let along = path.order;
-    let order = along.rows;
-    match path_factored(s, ia, ib, rows, &order, n, count) {
-        Part::Done => {
-            let Sum::Value(tolerance) = tolerance_for(s, 1.0e-12, n) else {
-                return Ended::new(End::ArithmeticOverflow, 0);
-            };
-            copy(s, RESIDUAL, RHS, n);
-            refinements(s, ia, ib, rows, &order, n, count, tolerance)
+    for k in 0..4usize {
+        let refined = refine(s, ia, ib, t, order);
+        if !done(refined) {
+            return Ended::new(refined, k);
         }
-        Part::NonConvergent => Ended::new(End::NonConvergent, 0),
-        Part::ArithmeticOverflow => Ended::new(End::ArithmeticOverflow, 0),
+        if let Pass::Over(end) = residual_test(s, t.rows, tolerance) {
+            return Ended::new(end, k + 1);
+        }
     }
+    Ended::new(End::NonConvergent, 4)
+}
+
+// The path's solve along an order of the rows, from the right side as residual.
+pub(crate) fn path_along(
+    s: &mut [f64],
+    ia: &[usize; 96],
+    ib: &[usize; 96],
+    t: Table,
+    order: &[usize; 96],
+) -> Ended
+    requires { ⌜ (Ready s ia ib t) × (Along (now order) (t .rows)) ⌝ }
+    ensures { λ r. ⌜ Solves s ia ib t r (λ system. pathAlong system (rhsOn s t) (solutionOn s t) (orderOn order t)) ⌝ }
+{
+    let n = t.rows;
+    let factored = path_factored(s, ia, ib, t.place, order, n, t.bodies);
+    if !done(factored) {
+        return Ended::new(factored, 0);
+    }
+    let Sum::Value(tolerance) = tolerance_for(s, 1.0e-12, n) else {
+        return Ended::new(End::ArithmeticOverflow, 0);
+    };
+    copy(s, RESIDUAL, RHS, n);
+    refinements(s, ia, ib, t, order, tolerance)
 }

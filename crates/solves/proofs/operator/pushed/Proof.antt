@@ -1,3 +1,4 @@
+-- pushed: both halves of a share, each if it is finite.
 use borrow.Author.Needs.{needs}
 use Rattle.solves.proofs.PlaceLaws.{pushed-1, pushed-2, pushed-3}
 use Rattle.solves.proofs.operator.pushed.Statement.{statement}
@@ -22,13 +23,22 @@ is-finite-requires-2 : tie.Need-is-finite-requires-2
 is-finite-requires-2 c κs = search needs
 
 returns : tie.Need-returns
-returns c = pushed-3 _ _ _ _ (c .before .before .before .before .before .before .before .scale .ensures) (c .before .before .before .before .before .before .add .ensures) (c .before .before .before .before .before .is-finite .ensures) (c .before .before .before .before .if1 .taken) (c .before .before .before .scale2 .ensures) (c .before .before .add2 .ensures) (c .before .is-finite2 .ensures) (c .if2 .taken)
+returns c =
+    let at-scale2 = c .before .before .before in
+    let at-add = at-scale2 .before .before .before in
+    pushed-3 _ _ _ _ (at-add .before .scale .ensures) (at-add .add .ensures) (at-scale2 .before .before .is-finite .ensures)
+    (at-scale2 .before .if1 .taken) (at-scale2 .scale2 .ensures) (c .before .before .add2 .ensures) (c .before .is-finite2 .ensures) (c .if2 .taken)
 
 returns-2 : tie.Need-returns-2
-returns-2 c = pushed-2 _ _ _ _ (c .before .before .before .before .before .before .before .scale .ensures) (c .before .before .before .before .before .before .add .ensures) (c .before .before .before .before .before .is-finite .ensures) (c .before .before .before .before .if1 .taken) (c .before .before .before .scale2 .ensures) (c .before .before .add2 .ensures) (c .before .is-finite2 .ensures) (c .if2 .left)
+returns-2 c =
+    let at-scale2 = c .before .before .before in
+    let at-add = at-scale2 .before .before .before in
+    pushed-2 _ _ _ _ (at-add .before .scale .ensures) (at-add .add .ensures) (at-scale2 .before .before .is-finite .ensures)
+    (at-scale2 .before .if1 .taken) (at-scale2 .scale2 .ensures) (c .before .before .add2 .ensures) (c .before .is-finite2 .ensures) (c .if2 .left)
 
 returns-3 : tie.Need-returns-3
-returns-3 c = pushed-1 _ _ _ _ (c .before .before .before .scale .ensures) (c .before .before .add .ensures) (c .before .is-finite .ensures) (c .if1 .left)
+returns-3 c =
+    pushed-1 _ _ _ _ (c .before .before .before .scale .ensures) (c .before .before .add .ensures) (c .before .is-finite .ensures) (c .if1 .left)
 
 pub pushed-spec : {M : Type 1} → statement M
 pushed-spec =

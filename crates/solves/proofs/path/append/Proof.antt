@@ -33,8 +33,7 @@ loop-less c = omega arith
 loop-again : tie.Need-loop-again Inv-loop μ-loop
 loop-again c =
     let at-loop = c .before in
-    let start = at-loop .before in
-    (omega arith, omega arith, append-more (at-loop .loop .inv .2) (at-loop .loop .inv .0) (c .loop-test .taken) (start .pre .2))
+    (omega arith, omega arith, append-more (at-loop .loop .inv .2) (at-loop .loop .inv .0) (c .loop-test .taken) (at-loop .before .pre .2))
 
 returns : tie.Need-returns Inv-loop μ-loop
 returns c =

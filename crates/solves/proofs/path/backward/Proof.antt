@@ -1,19 +1,21 @@
+-- `backward` meets its contract: row by row, from the last to the first, by SweepLaws `backwards-more`.
 use native.Mathlib.Omega.{arith}
 use mathlib.Core.Path.{_≡_, refl}
 use Prim.Native.Nat.{_≤_, _-_}
 use lib.ListN.{length, length-set}
 use denote.Ref.{now}
 use Rattle.arith.specs.Flow.{turns}
-use Rattle.rows.specs.View.{Out}
 use Rattle.solves.specs.Path.{backwardTurn}
 use Rattle.solves.specs.Region.{vecAt, Does}
-use Rattle.solves.specs.View.{listAt, bandAt, PATH-SCALE, PATH-RHS, SOLUTION}
-use Rattle.solves.proofs.RefineLaws.{backAt, backwards-none, backwards-more, backwards-end}
+use Rattle.solves.specs.View.{listAt, bandAt, PATH-SCALE}
+use Rattle.solves.proofs.SweepLaws.{Backs, backAt, backwards-none, backwards-more, backwards-end}
 use Rattle.solves.proofs.path.backward.Statement.{statement}
 use Rattle.solves.proofs.path.backward.Tie as tie
 
 abbrev Inv-loop : tie.InvT-loop
-Inv-loop s₀ order n k₀ s k = (k ≤ n) × (length s ≡ length s₀) × (Does (λ i. (Out PATH-RHS 96 i) × (Out SOLUTION 96 i)) s₀ s (backAt s n) (turns (backwardTurn n (listAt order n) (vecAt s₀ PATH-SCALE n) (bandAt s₀ n)) k (backAt s₀ n)))
+Inv-loop s₀ order n k₀ s k =
+    (k ≤ n) × (length s ≡ length s₀)
+    × (Does Backs s₀ s (backAt s n) (turns (backwardTurn n (listAt order n) (vecAt s₀ PATH-SCALE n) (bandAt s₀ n)) k (backAt s₀ n)))
 
 abbrev μ-loop : tie.MeasureT-loop
 μ-loop s₀ order n k₀ s k = n - k
@@ -75,46 +77,22 @@ add-at c =
     let at-loop-test = c .before .before .before .before in
     let at-loop = at-loop-test .before in
     let start = at-loop .before .before in
-    let pre = start .pre in
-    omega (
-      arith,
-      pre .2 (start .args .n - 1 - at-loop .loop .k) (omega (arith, at-loop-test .loop-test .taken)),
-      pre .0,
-      pre .1,
-      at-loop .loop .inv .1,
-      at-loop-test .loop-test .taken,
-    )
+    omega (arith, start .pre .2 (start .args .n - 1 - at-loop .loop .k) (omega (arith, at-loop-test .loop-test .taken)))
 
 mul-s-2 : tie.Need-mul-s-2 Inv-loop μ-loop
 mul-s-2 c =
     let at-loop-test = c .before .before .before .before in
     let at-loop = at-loop-test .before in
     let start = at-loop .before .before in
-    let pre = start .pre in
-    omega (
-      arith,
-      pre .2 (start .args .n - 1 - at-loop .loop .k) (omega (arith, at-loop-test .loop-test .taken)),
-      pre .0,
-      pre .1,
-      at-loop .loop .inv .1,
-      at-loop-test .loop-test .taken,
-    )
+    omega (arith, start .pre .2 (start .args .n - 1 - at-loop .loop .k) (omega (arith, at-loop-test .loop-test .taken)))
 
 slice-read-s : tie.Need-slice-read-s Inv-loop μ-loop
 slice-read-s c =
     let at-loop-test = c .before .before .before .before .before in
     let at-loop = at-loop-test .before in
     let start = at-loop .before .before in
-    let pre = start .pre in
     simp length-set
-    (omega (
-      arith,
-      pre .2 (start .args .n - 1 - at-loop .loop .k) (omega (arith, at-loop-test .loop-test .taken)),
-      pre .0,
-      pre .1,
-      at-loop .loop .inv .1,
-      at-loop-test .loop-test .taken,
-    ))
+    (omega (arith, start .pre .2 (start .args .n - 1 - at-loop .loop .k) (omega (arith, at-loop-test .loop-test .taken))))
 
 add-s-2 : tie.Need-add-s-2 Inv-loop μ-loop
 add-s-2 c = omega arith
@@ -127,47 +105,23 @@ slice-read-s-2 c =
     let at-loop-test = c .before .before .before .before .before .before in
     let at-loop = at-loop-test .before in
     let start = at-loop .before .before in
-    let pre = start .pre in
     simp length-set
-    (omega (
-      arith,
-      pre .2 (start .args .n - 1 - at-loop .loop .k) (omega (arith, at-loop-test .loop-test .taken)),
-      pre .0,
-      pre .1,
-      at-loop .loop .inv .1,
-      at-loop-test .loop-test .taken,
-    ))
+    (omega (arith, start .pre .2 (start .args .n - 1 - at-loop .loop .k) (omega (arith, at-loop-test .loop-test .taken))))
 
 mul-s-4 : tie.Need-mul-s-4 Inv-loop μ-loop
 mul-s-4 c =
     let at-loop-test = c .before .before .before .before .before .before in
     let at-loop = at-loop-test .before in
     let start = at-loop .before .before in
-    let pre = start .pre in
-    omega (
-      arith,
-      pre .2 (start .args .n - 1 - at-loop .loop .k) (omega (arith, at-loop-test .loop-test .taken)),
-      pre .0,
-      pre .1,
-      at-loop .loop .inv .1,
-      at-loop-test .loop-test .taken,
-    )
+    omega (arith, start .pre .2 (start .args .n - 1 - at-loop .loop .k) (omega (arith, at-loop-test .loop-test .taken)))
 
 slice-write-s-2 : tie.Need-slice-write-s-2 Inv-loop μ-loop
 slice-write-s-2 c =
     let at-loop-test = c .before .before .before .before .before .before in
     let at-loop = at-loop-test .before in
     let start = at-loop .before .before in
-    let pre = start .pre in
     simp length-set
-    (omega (
-      arith,
-      pre .2 (start .args .n - 1 - at-loop .loop .k) (omega (arith, at-loop-test .loop-test .taken)),
-      pre .0,
-      pre .1,
-      at-loop .loop .inv .1,
-      at-loop-test .loop-test .taken,
-    ))
+    (omega (arith, start .pre .2 (start .args .n - 1 - at-loop .loop .k) (omega (arith, at-loop-test .loop-test .taken))))
 
 add-k : tie.Need-add-k Inv-loop μ-loop
 add-k c = omega arith
@@ -190,9 +144,7 @@ loop-again c =
     )
 
 same-length : tie.Need-same-length Inv-loop μ-loop
-same-length c =
-    let at-loop = c .before in
-    at-loop .loop .inv .1
+same-length c = c .before .loop .inv .1
 
 returns : tie.Need-returns Inv-loop μ-loop
 returns c =

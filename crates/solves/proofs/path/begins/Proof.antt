@@ -54,8 +54,7 @@ returns-3 c =
 
 returns-4 : tie.Need-returns-4
 returns-4 c =
-    let at-if2 = c in
-    let at-if1 = at-if2 .before .before .before in
+    let at-if1 = c .before .before .before in
     let args = at-if1 .before .args in
     begins-a (now (args .ia)) (now (args .ib)) (args .i) (at-if1 .if1 .left) (c .if2 .left)
 

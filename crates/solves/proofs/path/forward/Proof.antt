@@ -1,3 +1,4 @@
+-- `forward` meets its contract: row by row by SweepLaws `forwards-more`.
 use native.Mathlib.Omega.{arith}
 use mathlib.Core.Path.{_≡_, refl}
 use Prim.Native.Nat.{_≤_, _-_}
@@ -9,12 +10,14 @@ use Rattle.rows.specs.View.{Out}
 use Rattle.solves.specs.Path.{forwardTurn}
 use Rattle.solves.specs.Region.{vecAt, Does}
 use Rattle.solves.specs.View.{listAt, bandAt, PATH-SCALE, PATH-RHS, RESIDUAL}
-use Rattle.solves.proofs.RefineLaws.{forwards-none, forwards-more, forwards-end}
+use Rattle.solves.proofs.SweepLaws.{forwards-none, forwards-more, forwards-end}
 use Rattle.solves.proofs.path.forward.Statement.{statement}
 use Rattle.solves.proofs.path.forward.Tie as tie
 
 abbrev Inv-loop : tie.InvT-loop
-Inv-loop s₀ order n i₀ s i = (i ≤ n) × (length s ≡ length s₀) × (Does (λ j. Out PATH-RHS 96 j) s₀ s (vecAt s PATH-RHS i) (turns (forwardTurn n (listAt order n) (vecAt s₀ PATH-SCALE n) (bandAt s₀ n) (vecAt s₀ RESIDUAL n)) i []))
+Inv-loop s₀ order n i₀ s i =
+    (i ≤ n) × (length s ≡ length s₀) × (Does (λ j. Out PATH-RHS 96 j) s₀ s (vecAt s PATH-RHS i)
+    (turns (forwardTurn n (listAt order n) (vecAt s₀ PATH-SCALE n) (bandAt s₀ n) (vecAt s₀ RESIDUAL n)) i []))
 
 abbrev μ-loop : tie.MeasureT-loop
 μ-loop s₀ order n i₀ s i = n - i
@@ -36,25 +39,19 @@ add-start : tie.Need-add-start Inv-loop μ-loop
 add-start c =
     let at-loop-test = c .before in
     let at-loop = at-loop-test .before in
-    let start = at-loop .before .before in
-    let pre = start .pre in
-    omega (arith, pre .2 (at-loop .loop .i) (at-loop-test .loop-test .taken))
+    omega (arith, at-loop .before .before .pre .2 (at-loop .loop .i) (at-loop-test .loop-test .taken))
 
 mul-start-2 : tie.Need-mul-start-2 Inv-loop μ-loop
 mul-start-2 c =
     let at-loop-test = c .before in
     let at-loop = at-loop-test .before in
-    let start = at-loop .before .before in
-    let pre = start .pre in
-    omega (arith, pre .2 (at-loop .loop .i) (at-loop-test .loop-test .taken))
+    omega (arith, at-loop .before .before .pre .2 (at-loop .loop .i) (at-loop-test .loop-test .taken))
 
 slice-read-start : tie.Need-slice-read-start Inv-loop μ-loop
 slice-read-start c =
     let at-loop-test = c .before .before in
     let at-loop = at-loop-test .before in
-    let start = at-loop .before .before in
-    let pre = start .pre in
-    omega (arith, pre .2 (at-loop .loop .i) (at-loop-test .loop-test .taken))
+    omega (arith, at-loop .before .before .pre .2 (at-loop .loop .i) (at-loop-test .loop-test .taken))
 
 add-start-2 : tie.Need-add-start-2 Inv-loop μ-loop
 add-start-2 c = omega arith
@@ -110,9 +107,7 @@ loop-again c =
     )
 
 same-length : tie.Need-same-length Inv-loop μ-loop
-same-length c =
-    let at-loop = c .before in
-    at-loop .loop .inv .1
+same-length c = c .before .loop .inv .1
 
 returns : tie.Need-returns Inv-loop μ-loop
 returns c =

@@ -26,20 +26,17 @@ element-copy-out-row c = search needs
 
 mul-neighbor : tie.Need-mul-neighbor
 mul-neighbor c =
-    let start = c .before .before .before in
-    let pre = start .pre in
+    let pre = c .before .before .before .pre in
     omega (arith, row-there (pre .0) (pre .2))
 
 element-copy-out-neighbor : tie.Need-element-copy-out-neighbor
 element-copy-out-neighbor c =
-    let start = c .before .before .before in
-    let pre = start .pre in
+    let pre = c .before .before .before .pre in
     omega (arith, row-there (pre .0) (pre .2))
 
 neighbor-requires : tie.Need-neighbor-requires
 neighbor-requires c κs =
-    let start = c .before .before .before .before in
-    let pre = start .pre in
+    let pre = c .before .before .before .before .pre in
     a-body (pre .0) (pre .2)
 
 returns-2 : tie.Need-returns-2
@@ -66,8 +63,7 @@ element-copy-out-neighbor-2 c =
 neighbor-requires-2 : tie.Need-neighbor-requires-2
 neighbor-requires-2 c κs =
     let at-if12 = c .before .before .before .before .before .before in
-    let start = at-if12 .before in
-    let pre = start .pre in
+    let pre = at-if12 .before .pre in
     b-body (pre .0) (pre .2)
 
 returns-3 : tie.Need-returns-3

@@ -16,14 +16,12 @@ follows-requires-2 c κs = search needs
 returns-2 : tie.Need-returns-2
 returns-2 c =
     let at-second = c .before in
-    let at-first = at-second .before .before in
-    next-y _ _ _ (at-first .follows .ensures) (at-second .before .if1 .left) (at-second .follows2 .ensures) (c .if2 .taken)
+    next-y _ _ _ (at-second .before .before .follows .ensures) (at-second .before .if1 .left) (at-second .follows2 .ensures) (c .if2 .taken)
 
 returns-3 : tie.Need-returns-3
 returns-3 c =
     let at-second = c .before in
-    let at-first = at-second .before .before in
-    next-none _ _ _ (at-first .follows .ensures) (at-second .before .if1 .left) (at-second .follows2 .ensures) (c .if2 .left)
+    next-none _ _ _ (at-second .before .before .follows .ensures) (at-second .before .if1 .left) (at-second .follows2 .ensures) (c .if2 .left)
 
 pub next-block-spec : {M : Type 1} → statement M
 next-block-spec = tie.close (tie.spec follows-requires returns follows-requires-2 returns-2 returns-3)

@@ -26,10 +26,9 @@ loop-less c = omega arith
 loop-again : tie.Need-loop-again Inv-loop μ-loop
 loop-again c =
     let at-loop-test = c .before .before in
-    let at-loop = at-loop-test .before in
-    let start = at-loop .before in (
+    let at-loop = at-loop-test .before in (
       omega arith,
-      starts-more _ _ _ _ (at-loop .loop .inv .1) (at-loop-test .loop-test .taken) (start .pre .0) (c .note-start .ensures .0)
+      starts-more _ _ _ _ (at-loop .loop .inv .1) (at-loop-test .loop-test .taken) (at-loop .before .pre .0) (c .note-start .ensures .0)
           (c .note-start .ensures .1),
     )
 
@@ -42,8 +41,7 @@ element-write-starts c = omega arith
 returns : tie.Need-returns Inv-loop μ-loop
 returns c =
     let at-loop = c .before in
-    let start = at-loop .before in
-    let pre = start .pre in
+    let pre = at-loop .before .pre in
     blocks-made _ _ _ _ (pre .0) (pre .1) (pre .2) (at-loop .loop .inv .1) (at-loop .loop .inv .0) (c .loop-test .left)
 
 pub path-blocks-spec : {M : Type 1} → statement M

@@ -26,28 +26,24 @@ element-copy-out-row c = omega arith
 mul-add-edge : tie.Need-mul-add-edge Inv-loop μ-loop
 mul-add-edge c =
     let at-loop-test = c .before .before in
-    let start = at-loop-test .before .before in
-    omega (arith, row-there (start .pre .0) (at-loop-test .loop-test .taken))
+    omega (arith, row-there (at-loop-test .before .before .pre .0) (at-loop-test .loop-test .taken))
 
 element-copy-out-add-edge : tie.Need-element-copy-out-add-edge Inv-loop μ-loop
 element-copy-out-add-edge c =
     let at-loop-test = c .before .before in
-    let start = at-loop-test .before .before in
-    omega (arith, row-there (start .pre .0) (at-loop-test .loop-test .taken))
+    omega (arith, row-there (at-loop-test .before .before .pre .0) (at-loop-test .loop-test .taken))
 
 add-edge-requires : tie.Need-add-edge-requires Inv-loop μ-loop
 add-edge-requires c κs =
     let at-loop-test = c .before .before .before in
-    let start = at-loop-test .before .before in
-    a-body (start .pre .0) (at-loop-test .loop-test .taken)
+    a-body (at-loop-test .before .before .pre .0) (at-loop-test .loop-test .taken)
 
 returns : tie.Need-returns Inv-loop μ-loop
 returns c =
     let at-add-edge = c .before in
     let at-loop-test = at-add-edge .before .before .before .before in
-    let at-loop = at-loop-test .before in
-    let start = at-loop .before in (
-      edges-lost-a (start .pre .0) (at-loop .loop .inv .1) (at-loop-test .loop-test .taken)
+    let at-loop = at-loop-test .before in (
+      edges-lost-a (at-loop .before .pre .0) (at-loop .loop .inv .1) (at-loop-test .loop-test .taken)
           (edges-no (at-add-edge .add-edge .result) (at-add-edge .add-edge .last .0) (at-add-edge .add-edge .ensures) (not-yes _ (c .if1 .taken))),
       λ e. absurd (false-true e),
     )
@@ -55,21 +51,18 @@ returns c =
 mul-add-edge-2 : tie.Need-mul-add-edge-2 Inv-loop μ-loop
 mul-add-edge-2 c =
     let at-loop-test = c .before .before .before .before .before .before in
-    let start = at-loop-test .before .before in
-    omega (arith, row-there (start .pre .0) (at-loop-test .loop-test .taken))
+    omega (arith, row-there (at-loop-test .before .before .pre .0) (at-loop-test .loop-test .taken))
 
 element-copy-out-add-edge-2 : tie.Need-element-copy-out-add-edge-2 Inv-loop μ-loop
 element-copy-out-add-edge-2 c =
     let at-loop-test = c .before .before .before .before .before .before in
-    let start = at-loop-test .before .before in
-    omega (arith, row-there (start .pre .0) (at-loop-test .loop-test .taken))
+    omega (arith, row-there (at-loop-test .before .before .pre .0) (at-loop-test .loop-test .taken))
 
 add-edge-requires-2 : tie.Need-add-edge-requires-2 Inv-loop μ-loop
 add-edge-requires-2 c κs =
     let at-row = c .before .before .before .before .before .before in
     let at-loop-test = at-row .before in
-    let start = at-loop-test .before .before in
-    b-body (start .pre .0) (at-loop-test .loop-test .taken)
+    b-body (at-loop-test .before .before .pre .0) (at-loop-test .loop-test .taken)
 
 returns-2 : tie.Need-returns-2 Inv-loop μ-loop
 returns-2 c =
@@ -77,9 +70,8 @@ returns-2 c =
     let at-if1 = at-add-edge2 .before .before .before in
     let at-add-edge = at-if1 .before in
     let at-loop-test = at-add-edge .before .before .before .before in
-    let at-loop = at-loop-test .before in
-    let start = at-loop .before in (
-      edges-lost-b (start .pre .0) (at-loop .loop .inv .1) (at-loop-test .loop-test .taken)
+    let at-loop = at-loop-test .before in (
+      edges-lost-b (at-loop .before .pre .0) (at-loop .loop .inv .1) (at-loop-test .loop-test .taken)
           (edges-yes (at-add-edge .add-edge .result) (at-add-edge .add-edge .last .0) (at-add-edge .add-edge .ensures) (not-no _ (at-if1 .if1 .left)))
           (edges-no (at-add-edge2 .add-edge2 .result) (at-add-edge2 .add-edge2 .last .0) (at-add-edge2 .add-edge2 .ensures)
           (not-yes _ (c .if2 .taken))),
@@ -98,10 +90,9 @@ loop-again c =
     let at-if1 = at-add-edge2 .before .before .before in
     let at-add-edge = at-if1 .before in
     let at-loop-test = at-add-edge .before .before .before .before in
-    let at-loop = at-loop-test .before in
-    let start = at-loop .before in (
+    let at-loop = at-loop-test .before in (
       omega arith,
-      edges-more (start .pre .0) (at-loop .loop .inv .1) (at-loop-test .loop-test .taken)
+      edges-more (at-loop .before .pre .0) (at-loop .loop .inv .1) (at-loop-test .loop-test .taken)
           (edges-yes (at-add-edge .add-edge .result) (at-add-edge .add-edge .last .0) (at-add-edge .add-edge .ensures) (not-no _ (at-if1 .if1 .left)))
           (edges-yes (at-add-edge2 .add-edge2 .result) (at-add-edge2 .add-edge2 .last .0) (at-add-edge2 .add-edge2 .ensures) (not-no _ (c .if2 .left))),
     )

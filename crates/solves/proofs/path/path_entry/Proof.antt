@@ -1,3 +1,4 @@
+-- `path_entry` meets its contract: by FactorLaws, a law for each way that an entry ends (`entry-lost`, `entry-wild`, `entry-low`, `entry-pivot`, `entry-side`).
 use native.Mathlib.Omega.{arith}
 use borrow.Author.Needs.{needs}
 use mathlib.Core.Path.{refl}
@@ -87,8 +88,7 @@ reduced-requires : tie.Need-reduced-requires
 reduced-requires c κs =
     let at-load-row2 = c .before .before .before .before .before .before in
     let at-slice-known = at-load-row2 .before .before .before .before .before .before in
-    let start = at-slice-known .before in
-    let pre = start .pre in
+    let pre = at-slice-known .before .pre in
     (pre .0 .whole, pre .0 .most, pre .2, pre .3, pre .4)
 
 is-finite-requires : tie.Need-is-finite-requires
@@ -139,8 +139,7 @@ mul-s c =
     let at-reduced-arg = c .before .before .before .before .before .before in
     let at-load-row2 = at-reduced-arg .before .before .before .before .before .before in
     let at-slice-known = at-load-row2 .before .before .before .before .before .before in
-    let start = at-slice-known .before in
-    let pre = start .pre in
+    let pre = at-slice-known .before .pre in
     omega (arith, pre .0 .whole, pre .0 .most, pre .0 .table, pre .2, pre .3, pre .4)
 
 add-s : tie.Need-add-s
@@ -148,8 +147,7 @@ add-s c =
     let at-reduced-arg = c .before .before .before .before .before .before in
     let at-load-row2 = at-reduced-arg .before .before .before .before .before .before in
     let at-slice-known = at-load-row2 .before .before .before .before .before .before in
-    let start = at-slice-known .before in
-    let pre = start .pre in
+    let pre = at-slice-known .before .pre in
     omega (arith, pre .0 .whole, pre .0 .most, pre .0 .table, pre .2, pre .3, pre .4)
 
 mul-s-2 : tie.Need-mul-s-2
@@ -157,8 +155,7 @@ mul-s-2 c =
     let at-reduced-arg = c .before .before .before .before .before .before in
     let at-load-row2 = at-reduced-arg .before .before .before .before .before .before in
     let at-slice-known = at-load-row2 .before .before .before .before .before .before in
-    let start = at-slice-known .before in
-    let pre = start .pre in
+    let pre = at-slice-known .before .pre in
     omega (arith, pre .0 .whole, pre .0 .most, pre .0 .table, pre .2, pre .3, pre .4)
 
 slice-write-s : tie.Need-slice-write-s
@@ -166,8 +163,7 @@ slice-write-s c =
     let at-reduced-arg = c .before .before .before .before .before .before in
     let at-load-row2 = at-reduced-arg .before .before .before .before .before .before in
     let at-slice-known = at-load-row2 .before .before .before .before .before .before in
-    let start = at-slice-known .before in
-    let pre = start .pre in
+    let pre = at-slice-known .before .pre in
     omega (arith, pre .0 .whole, pre .0 .most, pre .0 .table, pre .2, pre .3, pre .4)
 
 same-length-4 : tie.Need-same-length-4
@@ -194,80 +190,70 @@ mul-s-3 : tie.Need-mul-s-3
 mul-s-3 c =
     let at-cross-mass = c .before .before .before .before .before .before in
     let at-load-row-arg2 = at-cross-mass .before .before .before .before .before .before in
-    let start = at-load-row-arg2 .before .before .before in
-    let pre = start .pre in
+    let pre = at-load-row-arg2 .before .before .before .pre in
     omega (arith, pre .0 .whole, pre .0 .most, pre .0 .table, pre .2, pre .3, pre .4)
 
 add-s-2 : tie.Need-add-s-2
 add-s-2 c =
     let at-cross-mass = c .before .before .before .before .before .before in
     let at-load-row-arg2 = at-cross-mass .before .before .before .before .before .before in
-    let start = at-load-row-arg2 .before .before .before in
-    let pre = start .pre in
+    let pre = at-load-row-arg2 .before .before .before .pre in
     omega (arith, pre .0 .whole, pre .0 .most, pre .0 .table, pre .2, pre .3, pre .4)
 
 mul-s-4 : tie.Need-mul-s-4
 mul-s-4 c =
     let at-cross-mass = c .before .before .before .before .before .before in
     let at-load-row-arg2 = at-cross-mass .before .before .before .before .before .before in
-    let start = at-load-row-arg2 .before .before .before in
-    let pre = start .pre in
+    let pre = at-load-row-arg2 .before .before .before .pre in
     omega (arith, pre .0 .whole, pre .0 .most, pre .0 .table, pre .2, pre .3, pre .4)
 
 slice-read-s : tie.Need-slice-read-s
 slice-read-s c =
     let at-match = c .before .before .before .before .before .before in
     let at-load-row = at-match .before .before .before .before .before .before in
-    let start = at-load-row .before .before .before .before in
-    let pre = start .pre in
+    let pre = at-load-row .before .before .before .before .pre in
     omega (arith, pre .0 .whole, pre .0 .most, pre .0 .table, pre .2, pre .3, pre .4)
 
 mul-s-5 : tie.Need-mul-s-5
 mul-s-5 c =
     let at-match = c .before .before .before .before .before .before in
     let at-load-row = at-match .before .before .before .before .before .before in
-    let start = at-load-row .before .before .before .before in
-    let pre = start .pre in
+    let pre = at-load-row .before .before .before .before .pre in
     omega (arith, pre .0 .whole, pre .0 .most, pre .0 .table, pre .2, pre .3, pre .4)
 
 add-s-3 : tie.Need-add-s-3
 add-s-3 c =
     let at-match = c .before .before .before .before .before .before in
     let at-load-row = at-match .before .before .before .before .before .before in
-    let start = at-load-row .before .before .before .before in
-    let pre = start .pre in
+    let pre = at-load-row .before .before .before .before .pre in
     omega (arith, pre .0 .whole, pre .0 .most, pre .0 .table, pre .2, pre .3, pre .4)
 
 sub-s : tie.Need-sub-s
 sub-s c =
     let at-match = c .before .before .before .before .before .before in
     let at-load-row = at-match .before .before .before .before .before .before in
-    let start = at-load-row .before .before .before .before in
-    let pre = start .pre in
+    let pre = at-load-row .before .before .before .before .pre in
     omega (arith, pre .0 .whole, pre .0 .most, pre .0 .table, pre .2, pre .3, pre .4)
 
 add-s-4 : tie.Need-add-s-4
 add-s-4 c =
     let at-match = c .before .before .before .before .before .before in
     let at-load-row = at-match .before .before .before .before .before .before in
-    let start = at-load-row .before .before .before .before in
-    let pre = start .pre in
+    let pre = at-load-row .before .before .before .before .pre in
     omega (arith, pre .0 .whole, pre .0 .most, pre .0 .table, pre .2, pre .3, pre .4)
 
 mul-s-6 : tie.Need-mul-s-6
 mul-s-6 c =
     let at-match = c .before .before .before .before .before .before in
     let at-load-row = at-match .before .before .before .before .before .before in
-    let start = at-load-row .before .before .before .before in
-    let pre = start .pre in
+    let pre = at-load-row .before .before .before .before .pre in
     omega (arith, pre .0 .whole, pre .0 .most, pre .0 .table, pre .2, pre .3, pre .4)
 
 slice-write-s-2 : tie.Need-slice-write-s-2
 slice-write-s-2 c =
     let at-match = c .before .before .before .before .before .before in
     let at-load-row = at-match .before .before .before .before .before .before in
-    let start = at-load-row .before .before .before .before in
-    let pre = start .pre in
+    let pre = at-load-row .before .before .before .before .pre in
     omega (arith, pre .0 .whole, pre .0 .most, pre .0 .table, pre .2, pre .3, pre .4)
 
 same-length-5 : tie.Need-same-length-5

@@ -1,24 +1,23 @@
+-- `path_factor` meets its contract: row by row by FactorLaws `rows-more`, from the cleared band by `factor-from`.
 use native.Mathlib.Omega.{arith}
 use borrow.Author.Needs.{needs}
 use mathlib.Core.Path.{_≡_, refl, _∙_}
 use Prim.Native.Nat.{_≤_, _-_}
 use lib.ListN.{length}
 use denote.Ref.{now}
-use Rattle.arith.specs.Flow.{go, loop}
-use Rattle.rows.specs.View.{Out}
-use Rattle.solves.specs.declared.Part.{Part}
+use Rattle.solves.specs.declared.End.{End}
 use Rattle.solves.specs.Path.{pathRow}
-use Rattle.solves.specs.Answer.{partAs}
-use Rattle.solves.specs.Region.{vecAt, Does}
-use Rattle.solves.specs.View.{rowsOn, massesAt, listAt, bandAt, MASSES, PATH-BAND, PATH-SCALE}
+use Rattle.solves.specs.Answer.{ranAs}
+use Rattle.solves.specs.View.{bandAt}
 use Rattle.solves.specs.DoesLaws.{does-as}
 use Rattle.solves.proofs.OperatorLaws.{rows-kept}
-use Rattle.solves.proofs.FactorLaws.{rows-none, rows-more, rows-stop, rows-end, factor-from}
+use Rattle.solves.proofs.FactorLaws.{BandSo, bandOn, rows-none, rows-more, rows-stop, rows-end, factor-from}
 use Rattle.solves.proofs.path.path_factor.Statement.{statement}
 use Rattle.solves.proofs.path.path_factor.Tie as tie
 
 abbrev Inv-loop : tie.InvT-loop
-Inv-loop s₀ ia ib rows order n count i₀ s i = (i ≤ n) × (length s ≡ length s₀) × (Does (λ k. Out PATH-BAND 1152 k) s₀ s (go (bandAt s n)) (loop i (λ i band. pathRow (rowsOn ia ib s₀ rows n) (massesAt s₀ MASSES count) (listAt order n) (vecAt s₀ PATH-SCALE n) i band) (bandAt s₀ n)))
+Inv-loop s₀ ia ib rows order n count i₀ s i =
+    (i ≤ n) × (length s ≡ length s₀) × (BandSo n (λ i band. bandOn ia ib order rows n count s₀ (λ r m o c. pathRow r m o c i band)) s₀ i s)
 
 abbrev μ-loop : tie.MeasureT-loop
 μ-loop s₀ ia ib rows order n count i₀ s i = n - i
@@ -39,8 +38,7 @@ path-row-requires c κs =
     let at-loop-test = c .before in
     let at-loop = at-loop-test .before in
     let at-clear = at-loop .before .before .before in
-    let start = at-clear .before .before .before in
-    let pre = start .pre in
+    let pre = at-clear .before .before .before .pre in
     (rows-kept (pre .0) (at-loop .loop .inv .1 ∙ at-clear .clear .ensures .kept .size), pre .1, at-loop-test .loop-test .taken)
 
 enum-told : tie.Need-enum-told Inv-loop μ-loop
@@ -67,7 +65,7 @@ returns c =
     let pre = start .pre in
     factor-from (pre .0) (now (args .order)) _ (at-clear .clear .ensures)
     (rows-stop (pre .0) (now (args .order)) _ (at-loop .loop .i) (at-loop .loop .inv .2) (at-loop-test .loop-test .taken)
-    (does-as (λ (q : Part). partAs q (bandAt (at-path-row .path-row .last .0) (args .n))) (c .enum-told2 .given .1)
+    (does-as (λ (q : End). ranAs q (bandAt (at-path-row .path-row .last .0) (args .n))) (c .enum-told2 .given .1)
     (at-path-row .path-row .ensures)))
 
 enum-told-3 : tie.Need-enum-told-3 Inv-loop μ-loop
@@ -91,7 +89,7 @@ returns-2 c =
     let pre = start .pre in
     factor-from (pre .0) (now (args .order)) _ (at-clear .clear .ensures)
     (rows-stop (pre .0) (now (args .order)) _ (at-loop .loop .i) (at-loop .loop .inv .2) (at-loop-test .loop-test .taken)
-    (does-as (λ (q : Part). partAs q (bandAt (at-path-row .path-row .last .0) (args .n))) (c .enum-told3 .given .1)
+    (does-as (λ (q : End). ranAs q (bandAt (at-path-row .path-row .last .0) (args .n))) (c .enum-told3 .given .1)
     (at-path-row .path-row .ensures)))
 
 add-i : tie.Need-add-i Inv-loop μ-loop
@@ -110,7 +108,7 @@ loop-again c =
       omega (arith, at-loop-test .loop-test .taken),
       at-path-row .path-row .ensures .kept .size ∙ at-loop .loop .inv .1,
       rows-more (start .pre .0) (now (args .order)) _ (at-loop .loop .i) (at-loop .loop .inv .2)
-          (does-as (λ (q : Part). partAs q (bandAt (at-path-row .path-row .last .0) (args .n))) (c .enum-told .given .1)
+          (does-as (λ (q : End). ranAs q (bandAt (at-path-row .path-row .last .0) (args .n))) (c .enum-told .given .1)
           (at-path-row .path-row .ensures)),
     )
 

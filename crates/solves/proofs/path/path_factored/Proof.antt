@@ -1,21 +1,21 @@
+-- `path_factored` meets its contract: by FactorLaws from what scales and factor gave.
 use borrow.Author.Needs.{needs}
 use mathlib.Core.Path.{_∙_}
 use lib.ListN.{length}
 use denote.Ref.{now}
-use Rattle.solves.specs.declared.Part.{Part}
-use Rattle.solves.specs.Answer.{partAs}
+use Rattle.solves.specs.declared.End.{End}
+use Rattle.solves.specs.Answer.{ranAs}
 use Rattle.solves.specs.Region.{vecAt}
 use Rattle.solves.specs.View.{PATH-SCALE}
 use Rattle.solves.specs.DoesLaws.{does-as}
 use Rattle.solves.proofs.OperatorLaws.{rows-kept}
-use Rattle.solves.proofs.FactorLaws.{factored-1, factored-on}
+use Rattle.solves.proofs.FactorLaws.{factored-unscaled, factored-on}
 use Rattle.solves.proofs.path.path_factored.Statement.{statement}
 use Rattle.solves.proofs.path.path_factored.Tie as tie
 
 path-scale-requires : tie.Need-path-scale-requires
 path-scale-requires c κs =
-    let start = c .before .before in
-    let pre = start .pre in
+    let pre = c .before .before .pre in
     (pre .0, pre .1)
 
 enum-told : tie.Need-enum-told
@@ -24,8 +24,7 @@ enum-told c = search needs
 path-factor-requires : tie.Need-path-factor-requires
 path-factor-requires c κs =
     let at-path-scale = c .before .before .before .before .before in
-    let start = at-path-scale .before .before .before in
-    let pre = start .pre in
+    let pre = at-path-scale .before .before .before .pre in
     (rows-kept (pre .0) (at-path-scale .path-scale .ensures .kept .size), pre .1)
 
 enum-told-2 : tie.Need-enum-told-2
@@ -48,7 +47,7 @@ returns c =
     let start = at-path-scale .before .before .before in
     let args = start .args in
     factored-on (start .pre .0) (now (args .order))
-    (does-as (λ (q : Part). partAs q (vecAt (at-path-scale .path-scale .last .0) PATH-SCALE (args .n))) (at-enum-told .enum-told .given .1)
+    (does-as (λ (q : End). ranAs q (vecAt (at-path-scale .path-scale .last .0) PATH-SCALE (args .n))) (at-enum-told .enum-told .given .1)
     (at-path-scale .path-scale .ensures)) (at-path-factor .path-factor .result) (at-path-factor .path-factor .ensures)
 
 same-length-2 : tie.Need-same-length-2
@@ -59,8 +58,8 @@ returns-2 c =
     let at-path-scale = c .before .before .before .before in
     let start = at-path-scale .before .before .before in
     let args = start .args in
-    factored-1 (start .pre .0) (now (args .order))
-    (does-as (λ (q : Part). partAs q (vecAt (at-path-scale .path-scale .last .0) PATH-SCALE (args .n))) (c .enum-told2 .given .1)
+    factored-unscaled (start .pre .0) (now (args .order))
+    (does-as (λ (q : End). ranAs q (vecAt (at-path-scale .path-scale .last .0) PATH-SCALE (args .n))) (c .enum-told2 .given .1)
     (at-path-scale .path-scale .ensures))
 
 same-length-3 : tie.Need-same-length-3
@@ -71,8 +70,8 @@ returns-3 c =
     let at-path-scale = c .before .before .before .before in
     let start = at-path-scale .before .before .before in
     let args = start .args in
-    factored-1 (start .pre .0) (now (args .order))
-    (does-as (λ (q : Part). partAs q (vecAt (at-path-scale .path-scale .last .0) PATH-SCALE (args .n))) (c .enum-told3 .given .1)
+    factored-unscaled (start .pre .0) (now (args .order))
+    (does-as (λ (q : End). ranAs q (vecAt (at-path-scale .path-scale .last .0) PATH-SCALE (args .n))) (c .enum-told3 .given .1)
     (at-path-scale .path-scale .ensures))
 
 pub path-factored-spec : {M : Type 1} → statement M

@@ -10,9 +10,7 @@ path-blocks-requires : tie.Need-path-blocks-requires
 path-blocks-requires c κs = search needs
 
 path-edges-requires : tie.Need-path-edges-requires
-path-edges-requires c κs =
-    let at-path-blocks = c .before .before in
-    (at-path-blocks .path-blocks .ensures .are, linked-none _)
+path-edges-requires c κs = (c .before .before .path-blocks .ensures .are, linked-none _)
 
 no-path-requires : tie.Need-no-path-requires
 no-path-requires c κs = search needs
@@ -21,9 +19,8 @@ returns : tie.Need-returns
 returns c =
     let at-if1 = c .before in
     let at-path-edges = at-if1 .before in
-    let at-path-blocks = at-path-edges .before .before .before in
     no-path-is (c .no-path .ensures)
-    (order-declined (at-path-blocks .path-blocks .ensures)
+    (order-declined (at-path-edges .before .before .before .path-blocks .ensures)
     (edges-no (at-path-edges .path-edges .result) _ (at-path-edges .path-edges .ensures .0) (not-yes _ (at-if1 .if1 .taken))))
 
 path-walks-requires : tie.Need-path-walks-requires
@@ -42,9 +39,8 @@ returns-2 c =
     let at-path-walks = at-if2 .before .before in
     let at-if1 = at-path-walks .before .before .before .before in
     let at-path-edges = at-if1 .before in
-    let at-path-blocks = at-path-edges .before .before .before in
     no-path-is (c .no-path2 .ensures)
-    (order-lost (at-path-blocks .path-blocks .ensures)
+    (order-lost (at-path-edges .before .before .before .path-blocks .ensures)
     (edges-yes (at-path-edges .path-edges .result) _ (at-path-edges .path-edges .ensures .0) (not-no _ (at-if1 .if1 .left)))
     (at-path-walks .path-walks .ensures) (not-yes _ (at-if2 .if2 .taken)))
 
@@ -54,8 +50,7 @@ returns-3 c =
     let at-path-walks = at-if2 .before .before in
     let at-if1 = at-path-walks .before .before .before .before in
     let at-path-edges = at-if1 .before in
-    let at-path-blocks = at-path-edges .before .before .before in
-    order-found (at-path-blocks .path-blocks .ensures)
+    order-found (at-path-edges .before .before .before .path-blocks .ensures)
     (edges-yes (at-path-edges .path-edges .result) _ (at-path-edges .path-edges .ensures .0) (not-no _ (at-if1 .if1 .left)))
     (at-path-walks .path-walks .ensures) (not-no _ (at-if2 .if2 .left)) (c .if3 .taken)
 
@@ -69,9 +64,8 @@ returns-4 c =
     let at-path-walks = at-if2 .before .before in
     let at-if1 = at-path-walks .before .before .before .before in
     let at-path-edges = at-if1 .before in
-    let at-path-blocks = at-path-edges .before .before .before in
     no-path-is (c .no-path3 .ensures)
-    (order-short (at-path-blocks .path-blocks .ensures)
+    (order-short (at-path-edges .before .before .before .path-blocks .ensures)
     (edges-yes (at-path-edges .path-edges .result) _ (at-path-edges .path-edges .ensures .0) (not-no _ (at-if1 .if1 .left)))
     (at-path-walks .path-walks .ensures) (not-no _ (at-if2 .if2 .left)) (at-if3 .if3 .left))
 

@@ -1,3 +1,4 @@
+-- `path_scale` meets its contract: row by row by FactorLaws `scales-more`, and where a row fails by `scales-lost` and `scales-refused`.
 use native.Mathlib.Omega.{arith}
 use borrow.Author.Needs.{needs}
 use mathlib.Core.Path.{_≡_, refl}
@@ -17,7 +18,9 @@ use Rattle.solves.proofs.path.path_scale.Statement.{statement}
 use Rattle.solves.proofs.path.path_scale.Tie as tie
 
 abbrev Inv-loop : tie.InvT-loop
-Inv-loop s₀ ia ib rows order n count i₀ s i = (i ≤ n) × (length s ≡ length s₀) × (Does (λ j. Out PATH-SCALE 96 j) s₀ s (go (vecAt s PATH-SCALE i)) (pathScale (rowsOn ia ib s₀ rows n) (massesAt s₀ MASSES count) (listAt order n) i))
+Inv-loop s₀ ia ib rows order n count i₀ s i =
+    (i ≤ n) × (length s ≡ length s₀) × (Does (λ j. Out PATH-SCALE 96 j) s₀ s (go (vecAt s PATH-SCALE i))
+    (pathScale (rowsOn ia ib s₀ rows n) (massesAt s₀ MASSES count) (listAt order n) i))
 
 abbrev μ-loop : tie.MeasureT-loop
 μ-loop s₀ ia ib rows order n count i₀ s i = n - i
@@ -38,8 +41,7 @@ load-row-requires : tie.Need-load-row-requires Inv-loop μ-loop
 load-row-requires c κs =
     let at-loop-test = c .before .before in
     let at-loop = at-loop-test .before in
-    let start = at-loop .before .before in
-    let pre = start .pre in
+    let pre = at-loop .before .before .pre in
     omega (
       arith,
       pre .1 (at-loop .loop .i) (at-loop-test .loop-test .taken),
@@ -55,8 +57,7 @@ cross-mass-requires c κs =
     let at-load-row = c .before in
     let at-loop-test = at-load-row .before .before .before in
     let at-loop = at-loop-test .before in
-    let start = at-loop .before .before in
-    let pre = start .pre in (
+    let pre = at-loop .before .before .pre in (
       omega (arith, pre .0 .whole, pre .0 .most, pre .0 .table, at-loop .loop .inv .1, at-loop-test .loop-test .taken),
       on-a (pre .0) (pre .1 (at-loop .loop .i) (at-loop-test .loop-test .taken)) (at-loop .loop .s) (at-load-row .load-row .ensures),
       on-b (pre .0) (pre .1 (at-loop .loop .i) (at-loop-test .loop-test .taken)) (at-loop .loop .s) (at-load-row .load-row .ensures),
@@ -72,8 +73,7 @@ enum-told c = search needs
 same-length : tie.Need-same-length Inv-loop μ-loop
 same-length c =
     let at-load-row-arg = c .before .before .before .before .before .before in
-    let at-loop = at-load-row-arg .before .before in
-    at-loop .loop .inv .1
+    at-load-row-arg .before .before .loop .inv .1
 
 returns : tie.Need-returns Inv-loop μ-loop
 returns c =
@@ -140,9 +140,7 @@ loop-again c =
     )
 
 same-length-3 : tie.Need-same-length-3 Inv-loop μ-loop
-same-length-3 c =
-    let at-loop = c .before in
-    at-loop .loop .inv .1
+same-length-3 c = c .before .loop .inv .1
 
 returns-3 : tie.Need-returns-3 Inv-loop μ-loop
 returns-3 c =

@@ -8,7 +8,8 @@ use Rattle.solves.proofs.path.path_walks.Statement.{statement}
 use Rattle.solves.proofs.path.path_walks.Tie as tie
 
 abbrev Inv-loop : tie.InvT-loop
-Inv-loop ia ib starts blocks edges rows₀ visited₀ listed₀ first₀ rows visited listed first = (first ≤ blocks) × (WalksSo ia ib (blocksAt starts blocks) edges first (orderAt rows listed) visited)
+Inv-loop ia ib starts blocks edges rows₀ visited₀ listed₀ first₀ rows visited listed first =
+    (first ≤ blocks) × (WalksSo ia ib (blocksAt starts blocks) edges first (orderAt rows listed) visited)
 
 abbrev μ-loop : tie.MeasureT-loop
 μ-loop ia ib starts blocks edges rows₀ visited₀ listed₀ first₀ rows visited listed first = blocks - first
@@ -20,8 +21,7 @@ walk-from-requires : tie.Need-walk-from-requires Inv-loop μ-loop
 walk-from-requires c κs =
     let at-loop-test = c .before .before in
     let at-loop = at-loop-test .before in
-    let start = at-loop .before in
-    let pre = start .pre in
+    let pre = at-loop .before .pre in
     (pre .0, pre .1, at-loop-test .loop-test .taken, at-loop .loop .inv .1 .free)
 
 returns : tie.Need-returns Inv-loop μ-loop
@@ -29,8 +29,7 @@ returns c =
     let at-walk-from = c .before .before in
     let at-loop-test = at-walk-from .before .before .before in
     let at-loop = at-loop-test .before in
-    let start = at-loop .before in
-    let pre = start .pre in
+    let pre = at-loop .before .pre in
     walks-lost (pre .0) (pre .1) (at-loop .loop .inv .1) (at-loop-test .loop-test .taken) (at-walk-from .walk-from .ensures)
     (not-yes _ (c .if1 .taken))
 
@@ -45,8 +44,7 @@ loop-again c =
     let at-walk-from = c .before .before in
     let at-loop-test = at-walk-from .before .before .before in
     let at-loop = at-loop-test .before in
-    let start = at-loop .before in
-    let pre = start .pre in (
+    let pre = at-loop .before .pre in (
       omega arith,
       walks-more (pre .0) (pre .1) (at-loop .loop .inv .1) (at-loop-test .loop-test .taken) (at-walk-from .walk-from .ensures)
           (not-no _ (c .if1 .left)),
@@ -55,8 +53,7 @@ loop-again c =
 returns-2 : tie.Need-returns-2 Inv-loop μ-loop
 returns-2 c =
     let at-loop = c .before in
-    let start = at-loop .before in
-    let pre = start .pre in
+    let pre = at-loop .before .pre in
     walks-end (pre .0) (pre .1) (at-loop .loop .inv .1) (at-loop .loop .inv .0) (c .loop-test .left)
 
 pub path-walks-spec : {M : Type 1} → statement M

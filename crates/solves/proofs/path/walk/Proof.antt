@@ -25,8 +25,7 @@ returns : tie.Need-returns Inv-loop μ-loop
 returns c =
     let at-loop-test = c .before .before in
     let at-loop = at-loop-test .before in
-    let start = at-loop .before in
-    let pre = start .pre in
+    let pre = at-loop .before .pre in
     walk-met (pre .0) (pre .1) (at-loop .loop .inv .1) (at-loop-test .loop-test .taken) (c .if1 .taken)
 
 element-write-visited : tie.Need-element-write-visited Inv-loop μ-loop
@@ -52,51 +51,44 @@ append-requires c κs =
     let at-if1 = c .before .before .before in
     let at-loop-test = at-if1 .before .before in
     let at-loop = at-loop-test .before in
-    let start = at-loop .before in
-    let pre = start .pre in
+    let pre = at-loop .before .pre in
     append-fits (pre .0) (pre .1) (at-loop .loop .inv .1) (at-loop-test .loop-test .taken) (at-if1 .if1 .left)
 
 mul-neighbor : tie.Need-mul-neighbor Inv-loop μ-loop
 mul-neighbor c =
     let at-loop-test = c .before .before .before .before .before .before in
     let at-loop = at-loop-test .before in
-    let start = at-loop .before in
-    omega (arith, row-there (start .pre .0) (at-loop .loop .inv .1 .here))
+    omega (arith, row-there (at-loop .before .pre .0) (at-loop .loop .inv .1 .here))
 
 element-copy-out-neighbor : tie.Need-element-copy-out-neighbor Inv-loop μ-loop
 element-copy-out-neighbor c =
     let at-loop-test = c .before .before .before .before .before .before in
     let at-loop = at-loop-test .before in
-    let start = at-loop .before in
-    omega (arith, row-there (start .pre .0) (at-loop .loop .inv .1 .here))
+    omega (arith, row-there (at-loop .before .pre .0) (at-loop .loop .inv .1 .here))
 
 neighbor-requires : tie.Need-neighbor-requires Inv-loop μ-loop
 neighbor-requires c κs =
     let at-if12 = c .before .before .before .before .before .before in
     let at-loop = at-if12 .before .before in
-    let start = at-loop .before in
-    a-body (start .pre .0) (at-loop .loop .inv .1 .here)
+    a-body (at-loop .before .pre .0) (at-loop .loop .inv .1 .here)
 
 mul-neighbor-2 : tie.Need-mul-neighbor-2 Inv-loop μ-loop
 mul-neighbor-2 c =
     let at-if1 = c .before .before .before .before .before .before in
     let at-loop = at-if1 .before .before .before in
-    let start = at-loop .before in
-    omega (arith, row-there (start .pre .0) (at-loop .loop .inv .1 .here))
+    omega (arith, row-there (at-loop .before .pre .0) (at-loop .loop .inv .1 .here))
 
 element-copy-out-neighbor-2 : tie.Need-element-copy-out-neighbor-2 Inv-loop μ-loop
 element-copy-out-neighbor-2 c =
     let at-if1 = c .before .before .before .before .before .before in
     let at-loop = at-if1 .before .before .before in
-    let start = at-loop .before in
-    omega (arith, row-there (start .pre .0) (at-loop .loop .inv .1 .here))
+    omega (arith, row-there (at-loop .before .pre .0) (at-loop .loop .inv .1 .here))
 
 neighbor-requires-2 : tie.Need-neighbor-requires-2 Inv-loop μ-loop
 neighbor-requires-2 c κs =
     let at-row = c .before .before .before .before .before .before in
     let at-loop = at-row .before .before .before .before in
-    let start = at-loop .before in
-    b-body (start .pre .0) (at-loop .loop .inv .1 .here)
+    b-body (at-loop .before .pre .0) (at-loop .loop .inv .1 .here)
 
 next-block-requires : tie.Need-next-block-requires Inv-loop μ-loop
 next-block-requires c κs = search needs
@@ -110,8 +102,7 @@ returns-2 c =
     let at-if1 = at-append .before .before .before .before in
     let at-loop-test = at-if1 .before .before in
     let at-loop = at-loop-test .before in
-    let start = at-loop .before in
-    let pre = start .pre in
+    let pre = at-loop .before .pre in
     walk-ends (pre .0) (pre .1) (at-loop .loop .inv .1) (at-loop-test .loop-test .taken) (at-if1 .if1 .left) (at-append .append .ensures)
     (at-neighbor .neighbor .ensures) (at-neighbor2 .neighbor2 .ensures) (at-next-block .next-block .ensures) (c .if2 .taken)
 
@@ -119,8 +110,7 @@ add-k : tie.Need-add-k Inv-loop μ-loop
 add-k c =
     let at-append = c .before .before .before .before .before .before in
     let at-loop-test = at-append .before .before .before .before .before .before in
-    let start = at-loop-test .before .before in
-    let pre = start .pre in
+    let pre = at-loop-test .before .before .pre in
     omega (arith, at-loop-test .loop-test .taken, pre .0 .few, pre .0 .most)
 
 loop-less : tie.Need-loop-less Inv-loop μ-loop
@@ -138,8 +128,7 @@ loop-again c =
     let at-if1 = at-append .before .before .before .before in
     let at-loop-test = at-if1 .before .before in
     let at-loop = at-loop-test .before in
-    let start = at-loop .before in
-    let pre = start .pre in (
+    let pre = at-loop .before .pre in (
       omega (arith, at-loop-test .loop-test .taken),
       walk-more (pre .0) (pre .1) (at-loop .loop .inv .1) (at-loop-test .loop-test .taken) (at-if1 .if1 .left) (at-append .append .ensures)
           (at-neighbor .neighbor .ensures) (at-neighbor2 .neighbor2 .ensures) (at-next-block .next-block .ensures) (c .if2 .left),
@@ -148,8 +137,7 @@ loop-again c =
 returns-3 : tie.Need-returns-3 Inv-loop μ-loop
 returns-3 c =
     let at-loop = c .before in
-    let start = at-loop .before in
-    let pre = start .pre in
+    let pre = at-loop .before .pre in
     walk-spent (pre .0) (pre .1) (at-loop .loop .inv .1) (at-loop .loop .inv .0) (c .loop-test .left)
 
 pub walk-spec : {M : Type 1} → statement M
