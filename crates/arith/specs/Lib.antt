@@ -1,4 +1,4 @@
--- Definitions that a reader must believe: Real, Root, SquareRoot, Hypot, Fault, Angle, ExactSums and Flow. The others are laws of them.
+-- Definitions that a reader must believe: Real, Root, SquareRoot, Hypot, Fault, Angle, ExactSums, Flow and Run. The others are laws of them.
 pub mod Real
 pub mod Root
 pub mod SquareRoot
@@ -7,6 +7,9 @@ pub mod Fault
 pub mod Angle
 pub mod ExactSums
 pub mod Flow
+pub mod Run
 pub mod FlowLaws
+pub mod RunLaws
+pub mod UpToLaws
 pub mod RealLaws
 pub mod Laws

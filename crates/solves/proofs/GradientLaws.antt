@@ -1,5 +1,5 @@
 -- The conjugate gradients: the test of a residual, the diagonal, and a pass in its two halves; then what stands before the loop.
-use Prim.Native.Nat.{ℕ, _+_, _*_, _-_, _≤_, _<_, _^_}
+use Prim.Native.Nat.{ℕ, _+_, _*_, _≤_, _<_, _^_}
 use mathlib.Core.Path.{_≡_, refl, sym, _∙_, ap}
 use mathlib.Core.Bool.{Bool, true, false, not, _||_}
 use mathlib.Core.List.{List, [], _∷_, _++_}
@@ -11,39 +11,48 @@ use Rattle.arith.specs.Real.{ratio, isFinite, _⊕_, _⊗_, _⊘_}
 use Rattle.arith.specs.Root.{sqrt}
 use Rattle.arith.specs.Flow.{Turn, go, stop, turns, loop, tab}
 use Rattle.arith.specs.FlowLaws.{turns-more, turns-end, then-go, then-stop, loop-none, loop-more, loop-stop, loop-end}
+use Rattle.arith.specs.Run.{ran, again, leave, fail, over, upTo}
+use Rattle.arith.specs.RunLaws.{ticks, try-go, try-stop, leave-yes, leave-no}
 use Rattle.vectors.specs.declared.vector.Vec3.{Vec3}
 use Rattle.vectors.specs.Vector.{dotOf}
 use Rattle.vectors.specs.Matrix.{applyOf}
 use Rattle.rows.specs.declared.geometry.EqualityRow.{EqualityRow}
-use Rattle.rows.specs.Fault.{nonConvergent, arithmeticOverflow, Result, try}
+use Rattle.rows.specs.Fault.{Fault, nonConvergent, Result}
 use Rattle.rows.specs.View.{at, Out, Kept}
 use Rattle.rows.specs.Region.{tab-length, tab-ext, kept-refl, kept-then, kept-more, kept-set}
 use Rattle.solves.specs.declared.places.MassResponse.{MassResponse}
-use Rattle.solves.specs.declared.gradients.Test.{Test}
-use Rattle.solves.specs.declared.gradients.Test.the-variants as Tests
-use Rattle.solves.specs.declared.Step.{Step}
+use Rattle.solves.specs.declared.End.{End}
+use Rattle.solves.specs.declared.End.the-variants as Ends
+use Rattle.solves.specs.declared.Pass.{Pass}
+use Rattle.solves.specs.declared.Pass.the-variants as Passes
+use Rattle.solves.specs.declared.Table.{Table}
+use Rattle.solves.specs.System.{System, Counting}
 use Rattle.solves.specs.Region.{vecAt, Filled, Does}
 use Rattle.solves.specs.RegionLaws.{vec-at, vec-in, kept-vec, vec-more, filled-vec, filled-more}
-use Rattle.solves.specs.Solver.{rowIn, massIn, dot, operator, plus, minus, difference, within, toleranceFor, Search, spent, search, diagonalOf, Prepared, prepareRow, prepare, trueResidual, scaledSquare, nextDirection, advance, settle, gradientPass, gradients}
-use Rattle.solves.specs.Path.{Ending, ended}
-use Rattle.solves.specs.Answer.{passAs, testAs, trueAs}
-use Rattle.solves.specs.View.{rowOn, rowsOn, massAt, massesAt, searchAt, preparedAt, Rows, Shares, Passing, Work, MASSES, RHS, SOLUTION, RESIDUAL, DIRECTION, PRODUCT, DIAGONAL}
-use Rattle.solves.specs.DoesLaws.{goes-on, returns-if, try-go, try-stop}
-use Rattle.solves.specs.ViewLaws.{kept-rows, kept-masses, row-in, mass-in}
-use Rattle.solves.proofs.OperatorLaws.{on-a, on-b, Moves}
-use Rattle.solves.proofs.SearchLaws.{first-go, first-stop}
+use Rattle.solves.specs.Solver.{rowIn, massIn, dot, operator, plus, minus, difference, within, toleranceFor, Search, diagonalOf, Prepared}
+use Rattle.solves.specs.Solver.{prepareRow, prepare, Tested, trueResidual, scaledSquare, nextDirection, advance}
+use Rattle.solves.specs.Search.{settle, gradientPass, gradients}
+use Rattle.solves.specs.Answer.{ranAs, testAs, trueAs}
+use Rattle.solves.specs.View.{rowOn, rowsOn, massAt, massesAt, systemOn, searchAt, preparedAt, Rows, Beside, Moves, Passing, Preparing, Testing, Work}
+use Rattle.solves.specs.View.{VECTOR, ROWS-MOST, MASSES, RHS, SOLUTION, RESIDUAL, DIRECTION, PRODUCT, DIAGONAL}
+use Rattle.solves.specs.DoesLaws.{goes-on, returns-if, does-stop, does-as}
+use Rattle.solves.specs.ViewLaws.{row-in, mass-in, passing-vector, passing-moves, passing-testing}
+use Rattle.solves.proofs.OperatorLaws.{on-a, on-b}
+use Rattle.solves.proofs.SearchLaws.{passing-system, work-system}
 
 -- residual_test
 module _ (residual : List Float) (tolerance : Float) where
-  pub test-over : stop arithmeticOverflow ≡ dot residual residual → stop arithmeticOverflow ≡ within residual tolerance
+  pub test-over : {f : Fault} → stop f ≡ dot residual residual → stop f ≡ within residual tolerance
   unfolding within
   test-over e = then-stop (λ square. go (Ieee.le (sqrt binary64 square) tolerance)) e
 
-  pub test-there : {square root : Float} {b : Bool} → go square ≡ dot residual residual → root ≡ sqrt binary64 square → Ieee.le root tolerance ≡ b → go b ≡ within residual tolerance
+  pub test-there : {square root : Float} {b : Bool} → go square ≡ dot residual residual → root ≡ sqrt binary64 square → Ieee.le root tolerance ≡ b
+      → go b ≡ within residual tolerance
   unfolding within
-  test-there {square} {root} {b} e f h = ap go (sym h ∙ ap (λ (x : Float). Ieee.le x tolerance) f) ∙ then-go (λ square. go (Ieee.le (sqrt binary64 square) tolerance)) e
+  test-there {square} {root} {b} e f h =
+      ap go (sym h ∙ ap (λ (x : Float). Ieee.le x tolerance) f) ∙ then-go (λ square. go (Ieee.le (sqrt binary64 square) tolerance)) e
 
-pub test-is : {r q : Test} {x : Result Bool} → testAs r ≡ x → r ≡ q → testAs q ≡ x
+pub test-is : {r q : Pass} {x : Result Bool} → testAs r ≡ x → r ≡ q → testAs q ≡ x
 test-is e h = sym (ap testAs h) ∙ e
 
 -- diagonal_entry
@@ -62,20 +71,8 @@ other : {a : Bool} (b : Bool) → a ≡ false → a || b ≡ b
 other b h = ap (λ (x : Bool). x || b) h
 
 -- places within places
-one-out : (o k i : ℕ) → k < 96 → Out o 96 i → Out (o + k) 1 i
+one-out : (o k i : ℕ) → k < VECTOR → Beside o i → Out (o + k) 1 i
 one-out o k i h x = omega arith
-
-passing-product : (i : ℕ) → Out SOLUTION (DIAGONAL - SOLUTION) i → Out PRODUCT 96 i
-passing-product i x = omega arith
-
-passing-residual : (i : ℕ) → Out SOLUTION (DIAGONAL - SOLUTION) i → Out RESIDUAL 96 i
-passing-residual i x = omega arith
-
-passing-solution : (i : ℕ) → Out SOLUTION (DIAGONAL - SOLUTION) i → Out SOLUTION 96 i
-passing-solution i x = omega arith
-
-passing-direction : (i : ℕ) → Out SOLUTION (DIAGONAL - SOLUTION) i → Out DIRECTION 96 i
-passing-direction i x = omega arith
 
 module _ {z : List Float} {ia ib : List ℕ} {rows n count : ℕ} (pre : Rows z ia ib rows n count) (s₀ : List Float) where
   abbrev R : List EqualityRow
@@ -84,21 +81,21 @@ module _ {z : List Float} {ia ib : List ℕ} {rows n count : ℕ} (pre : Rows z 
   abbrev M : List MassResponse
   M = massesAt s₀ MASSES count
 
+  abbrev S : System
+  S = record { rows = R; masses = M }
+
   abbrev E : List Float
   E = vecAt s₀ RESIDUAL n
 
   abbrev nothing : Prepared
   nothing = record { diagonal = []; direction = []; rho = ratio 0 1 }
 
-  abbrev pub Prepares : ℕ → Type 0
-  Prepares i = (Out DIAGONAL 96 i) × (Out DIRECTION 96 i)
-
   abbrev pub PreparedSo : ℕ → List Float → Float → Type 0
-  PreparedSo k s rho = Does Prepares s₀ s (go (preparedAt s k rho)) (loop k (prepareRow R M E) nothing)
+  PreparedSo k s rho = Does Preparing s₀ s (go (preparedAt s k rho)) (loop k (prepareRow S E) nothing)
 
   pub prepared-none : {zero : Float} → zero ≡ ratio 0 1 → PreparedSo 0 s₀ zero
   unfolding tab
-  prepared-none e = record { kept = kept-refl _ s₀; is = (λ j. go (record { diagonal = []; direction = []; rho = e j })) ∙ loop-none (prepareRow R M E) nothing }
+  prepared-none e = record { kept = kept-refl _ s₀; is = (λ j. go (record { diagonal = []; direction = []; rho = e j })) ∙ loop-none (prepareRow S E) nothing }
 
   module _ {k : ℕ} {s : List Float} {rho : Float} (inv : PreparedSo k s rho) (h : k < n) (l : length s ≡ length z) {row : EqualityRow} {ma mb : MassResponse} {d zero : Float} {f : Bool}
       (er : row ≡ rowOn ia ib s rows k) (ea : ma ≡ massAt s MASSES (row .a)) (eb : mb ≡ massAt s MASSES (row .b)) (ed : d ≡ diagonalOf row ma mb) (ef : f ≡ isFinite d) (ez : zero ≡ ratio 0 1) where
@@ -121,18 +118,18 @@ module _ {z : List Float} {ia ib : List ℕ} {rows n count : ℕ} (pre : Rows z 
     small : (b : Bool) → not f ≡ false → Ieee.le d zero ≡ b → not (isFinite D) || Ieee.le D (ratio 0 1) ≡ b
     small b q w = other _ (sym (ap not (ef ∙ ap isFinite d-is)) ∙ q) ∙ sym (λ j. Ieee.le (d-is j) (ez j)) ∙ w
 
-    refused : not (isFinite D) || Ieee.le D (ratio 0 1) ≡ true → Does Prepares s₀ s (stop nonConvergent) (loop n (prepareRow R M E) nothing)
+    refused : not (isFinite D) || Ieee.le D (ratio 0 1) ≡ true → Does Preparing s₀ s (stop nonConvergent) (loop n (prepareRow S E) nothing)
     unfolding prepareRow
-    refused q = record { kept = inv .kept; is = loop-stop (prepareRow R M E) nothing n h (inv .is) (then-stop _ (returns-if _ q)) }
+    refused q = record { kept = inv .kept; is = loop-stop (prepareRow S E) nothing n h (inv .is) (then-stop _ (returns-if _ q)) }
 
-    whole : Does Prepares s₀ s (stop nonConvergent) (loop n (prepareRow R M E) nothing) → Does Prepares s₀ s (stop nonConvergent) (prepare R M E)
+    whole : Does Preparing s₀ s (stop nonConvergent) (loop n (prepareRow S E) nothing) → Does Preparing s₀ s (stop nonConvergent) (prepare S E)
     unfolding prepare
-    whole d = record { kept = d .kept; is = d .is ∙ ap (λ (m : ℕ). loop m (prepareRow R M E) nothing) (sym (tab-length n (rowOn ia ib s₀ rows))) }
+    whole d = record { kept = d .kept; is = d .is ∙ ap (λ (m : ℕ). loop m (prepareRow S E) nothing) (sym (tab-length n (rowOn ia ib s₀ rows))) }
 
-    pub prepared-wild : not f ≡ true → Does Prepares s₀ s (stop nonConvergent) (prepare R M E)
+    pub prepared-wild : not f ≡ true → Does Preparing s₀ s (stop nonConvergent) (prepare S E)
     prepared-wild q = whole (refused (wild q))
 
-    pub prepared-small : not f ≡ false → Ieee.le d zero ≡ true → Does Prepares s₀ s (stop nonConvergent) (prepare R M E)
+    pub prepared-small : not f ≡ false → Ieee.le d zero ≡ true → Does Preparing s₀ s (stop nonConvergent) (prepare S E)
     prepared-small q w = whole (refused (small true q w))
 
     abbrev x : Float
@@ -157,16 +154,17 @@ module _ {z : List Float} {ia ib : List ℕ} {rows n count : ℕ} (pre : Rows z 
     unfolding prepareRow
     prepared-again q w = record {
       kept = kept-then (kept-then (inv .kept) (kept-set s (DIAGONAL + k) d) (λ i y. one-out DIAGONAL k i (omega (arith, pre .most)) (y .0))) (kept-set (set s (DIAGONAL + k) d) (DIRECTION + k) x) (λ i y. one-out DIRECTION k i (omega (arith, pre .most)) (y .1));
-      is = loop-more (prepareRow R M E) nothing (inv .is)
+      is = loop-more (prepareRow S E) nothing (inv .is)
           ((λ j. go (record { diagonal = diagonal-more j; direction = direction-more j; rho = rho ⊕ r-is j ⊗ x-is j }))
           ∙ then-go _ (goes-on _ (small false q w)));
     }
 
-  pub prepared-ends : {k : ℕ} {s : List Float} {rho : Float} → PreparedSo k s rho → k ≤ n → n ≤ k → Does Prepares s₀ s (go (preparedAt s n rho)) (prepare R M E)
+  pub prepared-ends : {k : ℕ} {s : List Float} {rho : Float} → PreparedSo k s rho → k ≤ n → n ≤ k
+      → Does Preparing s₀ s (go (preparedAt s n rho)) (prepare S E)
   unfolding prepare
   prepared-ends {k} {s} {rho} inv a b =
       let same : k ≡ n = omega arith in
-      record { kept = inv .kept; is = ap (λ (m : ℕ). go (preparedAt s m rho)) (sym same) ∙ loop-end (prepareRow R M E) nothing a b (inv .is) ∙ ap (λ (m : ℕ). loop m (prepareRow R M E) nothing) (sym (tab-length n (rowOn ia ib s₀ rows))) }
+      record { kept = inv .kept; is = ap (λ (m : ℕ). go (preparedAt s m rho)) (sym same) ∙ loop-end (prepareRow S E) nothing a b (inv .is) ∙ ap (λ (m : ℕ). loop m (prepareRow S E) nothing) (sym (tab-length n (rowOn ia ib s₀ rows))) }
 
 -- scaled_square
 abbrev pub squareTurn : List Float → List Float → ℕ → Float → Float
@@ -186,7 +184,7 @@ module _ (s : List Float) (beta : Float) where
   abbrev pub direct : ℕ → Float
   direct k = at s (RESIDUAL + k) ⊘ at s (DIAGONAL + k) ⊕ beta ⊗ at s (DIRECTION + k)
 
-  pub direct-more : {k : ℕ} {t : List Float} → Filled DIRECTION k direct s t → k < 96 → DIRECTION + k < length t
+  pub direct-more : {k : ℕ} {t : List Float} → Filled DIRECTION k direct s t → k < VECTOR → DIRECTION + k < length t
       → Filled DIRECTION (k + 1) direct s (set t (DIRECTION + k) (at t (RESIDUAL + k) ⊘ at t (DIAGONAL + k) ⊕ beta ⊗ at t (DIRECTION + k)))
   direct-more {k} {t} f h l =
       let x : at t (RESIDUAL + k) ≡ at s (RESIDUAL + k) = f .kept .same (RESIDUAL + k) (omega arith) in
@@ -194,8 +192,8 @@ module _ (s : List Float) (beta : Float) where
       let w : at t (DIRECTION + k) ≡ at s (DIRECTION + k) = f .kept .same (DIRECTION + k) (omega arith) in
       filled-more f l (cc)
 
-  pub direct-is : {k n : ℕ} {t : List Float} → Filled DIRECTION k direct s t → k ≤ n → n ≤ k → n ≤ 96
-      → Does (λ i. Out DIRECTION 96 i) s t (vecAt t DIRECTION n) (nextDirection (vecAt s RESIDUAL n) (vecAt s DIAGONAL n) beta (vecAt s DIRECTION n))
+  pub direct-is : {k n : ℕ} {t : List Float} → Filled DIRECTION k direct s t → k ≤ n → n ≤ k → n ≤ ROWS-MOST
+      → Does (Beside DIRECTION) s t (vecAt t DIRECTION n) (nextDirection (vecAt s RESIDUAL n) (vecAt s DIAGONAL n) beta (vecAt s DIRECTION n))
   unfolding nextDirection
   direct-is {k} {n} {t} f h l m =
       let same : k ≡ n = omega arith in
@@ -209,246 +207,258 @@ module _ (s : List Float) (beta : Float) where
       three j q = cc (vec-at s RESIDUAL n j q, vec-at s DIAGONAL n j q, vec-at s DIRECTION n j q)
 
 -- true_residual
-abbrev pub Trues : ℕ → Type 0
-Trues i = (Shares i) × (Out PRODUCT 96 i) × (Out RESIDUAL 96 i)
+module _ {s : List Float} {ia ib : List ℕ} (table : Table) (pre : Rows s ia ib (table .place) (table .rows) (table .bodies)) (tolerance : Float) where
+  abbrev n₁ : ℕ
+  n₁ = table .rows
 
-module _ {s : List Float} {ia ib : List ℕ} {rows n count : ℕ} (pre : Rows s ia ib rows n count) (tolerance : Float) where
-  abbrev R₁ : List EqualityRow
-  R₁ = rowsOn ia ib s rows n
+  abbrev M₁ : System
+  M₁ = systemOn ia ib s table
 
-  abbrev M₁ : List MassResponse
-  M₁ = massesAt s MASSES count
+  abbrev True : Result Tested
+  True = trueResidual M₁ (vecAt s RHS n₁) tolerance (vecAt s SOLUTION n₁) (vecAt s RESIDUAL n₁)
 
-  abbrev True : Turn (List Float) (Result (List Float))
-  True = trueResidual R₁ M₁ (vecAt s RHS n) tolerance (vecAt s SOLUTION n) (vecAt s RESIDUAL n)
-
-  pub true-lost : stop arithmeticOverflow ≡ within (vecAt s RESIDUAL n) tolerance → Does Trues s s (stop (stop arithmeticOverflow)) True
+  pub true-beyond : go false ≡ within (vecAt s RESIDUAL n₁) tolerance → Does Testing s s (go (record { residual = vecAt s RESIDUAL n₁; solved = false })) True
   unfolding trueResidual
-  true-lost e = record { kept = kept-refl _ s; is = then-stop _ (try-stop e) }
+  true-beyond e = record { kept = kept-refl _ s; is = then-go _ e }
 
-  pub true-far : go false ≡ within (vecAt s RESIDUAL n) tolerance → Does Trues s s (go (vecAt s RESIDUAL n)) True
+  pub true-wild : {f : Fault} → stop f ≡ within (vecAt s RESIDUAL n₁) tolerance → Does Testing s s (stop f) True
   unfolding trueResidual
-  true-far e = record { kept = kept-refl _ s; is = then-go _ (try-go e) }
+  true-wild e = record { kept = kept-refl _ s; is = then-stop _ e }
 
-  module _ (e : go true ≡ within (vecAt s RESIDUAL n) tolerance) where
-    pub true-lost-2 : {s₁ : List Float} → Does (Moves PRODUCT) s s₁ (stop arithmeticOverflow) (operator R₁ M₁ (vecAt s SOLUTION n)) → Does Trues s s₁ (stop (stop arithmeticOverflow)) True
+  module _ (e : go true ≡ within (vecAt s RESIDUAL n₁) tolerance) {s₁ : List Float} where
+    pub true-unmoved : {f : Fault} → Does (Moves PRODUCT) s s₁ (stop f) (operator M₁ (vecAt s SOLUTION n₁)) → Does Testing s s₁ (stop f) True
     unfolding trueResidual
-    true-lost-2 d = record { kept = kept-more (d .kept) (λ i x. (x .0, x .1)); is = then-stop _ (try-stop (d .is)) ∙ then-go _ (try-go e) }
+    true-unmoved d = record { kept = kept-more (d .kept) (λ i x. (x .0, x .1)); is = then-stop _ (d .is) ∙ then-go _ e }
 
-    module _ {s₁ : List Float} (d₁ : Does (Moves PRODUCT) s s₁ (go (vecAt s₁ PRODUCT n)) (operator R₁ M₁ (vecAt s SOLUTION n)))
-        {s₂ : List Float} (d₂ : Does (λ i. Out RESIDUAL 96 i) s₁ s₂ (vecAt s₂ RESIDUAL n) (difference (vecAt s₁ RHS n) (vecAt s₁ PRODUCT n))) where
-      again-is : vecAt s₂ RESIDUAL n ≡ difference (vecAt s RHS n) (vecAt s₁ PRODUCT n)
-      again-is = d₂ .is ∙ ap (λ (l : List Float). difference l (vecAt s₁ PRODUCT n)) (kept-vec (d₁ .kept) RHS n (λ i x y. omega (arith, pre .most)))
+    module _ (d₁ : Does (Moves PRODUCT) s s₁ (go (vecAt s₁ PRODUCT n₁)) (operator M₁ (vecAt s SOLUTION n₁))) {s₂ : List Float}
+        (d₂ : Does (Beside RESIDUAL) s₁ s₂ (vecAt s₂ RESIDUAL n₁) (difference (vecAt s₁ RHS n₁) (vecAt s₁ PRODUCT n₁))) where
+      again-is : vecAt s₂ RESIDUAL n₁ ≡ difference (vecAt s RHS n₁) (vecAt s₁ PRODUCT n₁)
+      again-is = d₂ .is ∙ ap (λ (l : List Float). difference l (vecAt s₁ PRODUCT n₁)) (kept-vec (d₁ .kept) RHS n₁ (λ i x y. omega (arith, pre .most)))
 
-      solution-is : vecAt s₂ SOLUTION n ≡ vecAt s SOLUTION n
-      solution-is = kept-vec (d₂ .kept) SOLUTION n (λ i x y. omega (arith, pre .most)) ∙ kept-vec (d₁ .kept) SOLUTION n (λ i x y. omega (arith, pre .most))
-
-      ended-is : (r : Test) → testAs r ≡ within (difference (vecAt s RHS n) (vecAt s₁ PRODUCT n)) tolerance → trueAs r s₂ n ≡ True
+      tested-is : (r : Pass) → testAs r ≡ within (difference (vecAt s RHS n₁) (vecAt s₁ PRODUCT n₁)) tolerance → trueAs r (vecAt s₂ RESIDUAL n₁) ≡ True
       unfolding trueResidual
-      ended-is Tests.Within f = ap (λ (l : List Float). stop (go l)) solution-is ∙ then-stop _ (returns-if _ refl) ∙ then-go _ (try-go f) ∙ then-go _ (try-go (d₁ .is)) ∙ then-go _ (try-go e)
-      ended-is Tests.Beyond f = ap go again-is ∙ then-go _ (goes-on {E = Result (List Float)} (go (vecAt s SOLUTION n)) refl) ∙ then-go _ (try-go f) ∙ then-go _ (try-go (d₁ .is)) ∙ then-go _ (try-go e)
-      ended-is Tests.ArithmeticOverflow f = then-stop _ (try-stop f) ∙ then-go _ (try-go (d₁ .is)) ∙ then-go _ (try-go e)
+      tested-is Passes.Again f = (λ j. go (record { residual = again-is j; solved = false })) ∙ then-go _ f ∙ then-go _ (d₁ .is) ∙ then-go _ e
+      tested-is (Passes.Over Ends.Done) f = (λ j. go (record { residual = again-is j; solved = true })) ∙ then-go _ f ∙ then-go _ (d₁ .is) ∙ then-go _ e
+      tested-is (Passes.Over Ends.NonConvergent) f = then-stop _ f ∙ then-go _ (d₁ .is) ∙ then-go _ e
+      tested-is (Passes.Over Ends.ArithmeticOverflow) f = then-stop _ f ∙ then-go _ (d₁ .is) ∙ then-go _ e
 
-      pub true-again : (r : Test) → testAs r ≡ within (vecAt s₂ RESIDUAL n) tolerance → Does Trues s s₂ (trueAs r s₂ n) True
-      true-again r f = record { kept = kept-then (kept-more (d₁ .kept) (λ i x. (x .0, x .1))) (d₂ .kept) (λ i x. x .2); is = ended-is r (f ∙ ap (λ (l : List Float). within l tolerance) again-is) }
+      pub true-again : (r : Pass) → testAs r ≡ within (vecAt s₂ RESIDUAL n₁) tolerance → Does Testing s s₂ (trueAs r (vecAt s₂ RESIDUAL n₁)) True
+      true-again r f = record {
+        kept = kept-then (kept-more (d₁ .kept) (λ i x. (x .0, x .1))) (d₂ .kept) (λ i x. x .2);
+        is = tested-is r (f ∙ ap (λ (l : List Float). within l tolerance) again-is);
+      }
 
 -- advance
-module _ {s : List Float} {ia ib : List ℕ} {rows n count : ℕ} (pre : Rows s ia ib rows n count) (rho : Float) where
-  abbrev R₂ : List EqualityRow
-  R₂ = rowsOn ia ib s rows n
+module _ {s : List Float} {ia ib : List ℕ} (table : Table) (pre : Rows s ia ib (table .place) (table .rows) (table .bodies)) (rho : Float) where
+  abbrev n₂ : ℕ
+  n₂ = table .rows
 
-  abbrev M₂ : List MassResponse
-  M₂ = massesAt s MASSES count
+  abbrev M₂ : System
+  M₂ = systemOn ia ib s table
 
-  abbrev Advanced : Turn Search (Result (List Float))
-  Advanced = advance R₂ M₂ (searchAt s n rho)
+  abbrev Advanced : Result Search
+  Advanced = advance M₂ (searchAt s n₂ rho)
 
-  pub advance-lost-1 : {s₁ : List Float} → Does (Moves PRODUCT) s s₁ (stop arithmeticOverflow) (operator R₂ M₂ (vecAt s DIRECTION n)) → Does Passing s s₁ (stop (stop arithmeticOverflow)) Advanced
+  pub advance-unmoved : {s₁ : List Float} {f : Fault} → Does (Moves PRODUCT) s s₁ (stop f) (operator M₂ (vecAt s DIRECTION n₂)) → Does Passing s s₁ (stop f) Advanced
   unfolding advance
-  advance-lost-1 d = record { kept = kept-more (d .kept) (λ i x. (x .1, passing-product i (x .0))); is = then-stop _ (try-stop (d .is)) }
+  advance-unmoved d = does-stop _ (passing-moves PRODUCT (omega arith) (omega arith)) d
 
-  module _ {s₁ : List Float} (d₁ : Does (Moves PRODUCT) s s₁ (go (vecAt s₁ PRODUCT n)) (operator R₂ M₂ (vecAt s DIRECTION n))) where
+  module _ {s₁ : List Float} (d₁ : Does (Moves PRODUCT) s s₁ (go (vecAt s₁ PRODUCT n₂)) (operator M₂ (vecAt s DIRECTION n₂))) where
     k₁ : Kept Passing s s₁
-    k₁ = kept-more (d₁ .kept) (λ i x. (x .1, passing-product i (x .0)))
+    k₁ = kept-more (d₁ .kept) (passing-moves PRODUCT (omega arith) (omega arith))
 
-    curve : dot (vecAt s₁ DIRECTION n) (vecAt s₁ PRODUCT n) ≡ dot (vecAt s DIRECTION n) (vecAt s₁ PRODUCT n)
-    curve = ap (λ (l : List Float). dot l (vecAt s₁ PRODUCT n)) (kept-vec (d₁ .kept) DIRECTION n (λ i x y. omega (arith, pre .most)))
+    curve : dot (vecAt s₁ DIRECTION n₂) (vecAt s₁ PRODUCT n₂) ≡ dot (vecAt s DIRECTION n₂) (vecAt s₁ PRODUCT n₂)
+    curve = ap (λ (l : List Float). dot l (vecAt s₁ PRODUCT n₂)) (kept-vec (d₁ .kept) DIRECTION n₂ (λ i x y. omega (arith, pre .most)))
 
-    pub advance-lost-2 : stop arithmeticOverflow ≡ dot (vecAt s₁ DIRECTION n) (vecAt s₁ PRODUCT n) → Does Passing s s₁ (stop (stop arithmeticOverflow)) Advanced
+    pub advance-unmeasured : {f : Fault} → stop f ≡ dot (vecAt s₁ DIRECTION n₂) (vecAt s₁ PRODUCT n₂) → Does Passing s s₁ (stop f) Advanced
     unfolding advance
-    advance-lost-2 e = record { kept = k₁; is = then-stop _ (try-stop (e ∙ curve)) ∙ then-go _ (try-go (d₁ .is)) }
+    advance-unmeasured e = record { kept = k₁; is = then-stop _ (e ∙ curve) ∙ then-go _ (d₁ .is) }
 
-    module _ {y zero : Float} (ez : zero ≡ ratio 0 1) (e₁ : go y ≡ dot (vecAt s₁ DIRECTION n) (vecAt s₁ PRODUCT n)) where
+    module _ {y zero : Float} (ez : zero ≡ ratio 0 1) (e₁ : go y ≡ dot (vecAt s₁ DIRECTION n₂) (vecAt s₁ PRODUCT n₂)) where
       flat-is : Ieee.le y zero ≡ Ieee.le y (ratio 0 1)
       flat-is = ap (Ieee.le y) ez
 
-      pub advance-flat : Ieee.le y zero ≡ true → Does Passing s s₁ (stop (stop nonConvergent)) Advanced
+      pub advance-flat : Ieee.le y zero ≡ true → Does Passing s s₁ (stop nonConvergent) Advanced
       unfolding advance
-      advance-flat g = record { kept = k₁; is = then-stop _ (returns-if _ (either _ (sym flat-is ∙ g))) ∙ then-go _ (try-go (e₁ ∙ curve)) ∙ then-go _ (try-go (d₁ .is)) }
+      advance-flat g = record { kept = k₁; is = then-stop _ (returns-if _ (either _ (sym flat-is ∙ g))) ∙ then-go _ (e₁ ∙ curve) ∙ then-go _ (d₁ .is) }
 
       module _ (h₁ : Ieee.le y zero ≡ false) {f : Bool} (ef : f ≡ isFinite rho) where
-        pub advance-wild : not f ≡ true → Does Passing s s₁ (stop (stop nonConvergent)) Advanced
+        pub advance-wild : not f ≡ true → Does Passing s s₁ (stop nonConvergent) Advanced
         unfolding advance
-        advance-wild g = record { kept = k₁; is = then-stop _ (returns-if _ (other _ (sym flat-is ∙ h₁) ∙ sym (ap not ef) ∙ g)) ∙ then-go _ (try-go (e₁ ∙ curve)) ∙ then-go _ (try-go (d₁ .is)) }
+        advance-wild g = record {
+          kept = k₁;
+          is = then-stop _ (returns-if _ (other _ (sym flat-is ∙ h₁) ∙ sym (ap not ef) ∙ g)) ∙ then-go _ (e₁ ∙ curve) ∙ then-go _ (d₁ .is);
+        }
 
         module _ (h₂ : not f ≡ false) {s₂ s₃ : List Float}
-            (d₂ : Does (λ i. Out SOLUTION 96 i) s₁ s₂ (vecAt s₂ SOLUTION n) (plus (vecAt s₁ SOLUTION n) (rho ⊘ y) (vecAt s₁ DIRECTION n)))
-            (d₃ : Does (λ i. Out RESIDUAL 96 i) s₂ s₃ (vecAt s₃ RESIDUAL n) (minus (vecAt s₂ RESIDUAL n) (rho ⊘ y) (vecAt s₂ PRODUCT n))) where
-          sol₃ : vecAt s₃ SOLUTION n ≡ plus (vecAt s SOLUTION n) (rho ⊘ y) (vecAt s DIRECTION n)
+            (d₂ : Does (Beside SOLUTION) s₁ s₂ (vecAt s₂ SOLUTION n₂) (plus (vecAt s₁ SOLUTION n₂) (rho ⊘ y) (vecAt s₁ DIRECTION n₂)))
+            (d₃ : Does (Beside RESIDUAL) s₂ s₃ (vecAt s₃ RESIDUAL n₂) (minus (vecAt s₂ RESIDUAL n₂) (rho ⊘ y) (vecAt s₂ PRODUCT n₂))) where
+          sol₃ : vecAt s₃ SOLUTION n₂ ≡ plus (vecAt s SOLUTION n₂) (rho ⊘ y) (vecAt s DIRECTION n₂)
           sol₃ =
-              let a = kept-vec (d₁ .kept) SOLUTION n (λ i x y. omega (arith, pre .most)) in
-              let b = kept-vec (d₁ .kept) DIRECTION n (λ i x y. omega (arith, pre .most)) in
-              let c = kept-vec (d₃ .kept) SOLUTION n (λ i x y. omega (arith, pre .most)) in
+              let a = kept-vec (d₁ .kept) SOLUTION n₂ (λ i x y. omega (arith, pre .most)) in
+              let b = kept-vec (d₁ .kept) DIRECTION n₂ (λ i x y. omega (arith, pre .most)) in
+              let c = kept-vec (d₃ .kept) SOLUTION n₂ (λ i x y. omega (arith, pre .most)) in
               let e = d₂ .is in
               cc
 
-          res₃ : vecAt s₃ RESIDUAL n ≡ minus (vecAt s RESIDUAL n) (rho ⊘ y) (vecAt s₁ PRODUCT n)
+          res₃ : vecAt s₃ RESIDUAL n₂ ≡ minus (vecAt s RESIDUAL n₂) (rho ⊘ y) (vecAt s₁ PRODUCT n₂)
           res₃ =
-              let a = kept-vec (d₁ .kept) RESIDUAL n (λ i x y. omega (arith, pre .most)) in
-              let b = kept-vec (d₂ .kept) RESIDUAL n (λ i x y. omega (arith, pre .most)) in
-              let c = kept-vec (d₂ .kept) PRODUCT n (λ i x y. omega (arith, pre .most)) in
+              let a = kept-vec (d₁ .kept) RESIDUAL n₂ (λ i x y. omega (arith, pre .most)) in
+              let b = kept-vec (d₂ .kept) RESIDUAL n₂ (λ i x y. omega (arith, pre .most)) in
+              let c = kept-vec (d₂ .kept) PRODUCT n₂ (λ i x y. omega (arith, pre .most)) in
               let e = d₃ .is in
               cc
 
-          dir₃ : vecAt s₃ DIRECTION n ≡ vecAt s DIRECTION n
-          dir₃ = kept-vec (d₃ .kept) DIRECTION n (λ i x y. omega (arith, pre .most)) ∙ kept-vec (d₂ .kept) DIRECTION n (λ i x y. omega (arith, pre .most)) ∙ kept-vec (d₁ .kept) DIRECTION n (λ i x y. omega (arith, pre .most))
+          dir₃ : vecAt s₃ DIRECTION n₂ ≡ vecAt s DIRECTION n₂
+          dir₃ = kept-vec (d₃ .kept) DIRECTION n₂ (λ i x y. omega (arith, pre .most)) ∙ kept-vec (d₂ .kept) DIRECTION n₂ (λ i x y. omega (arith, pre .most))
+              ∙ kept-vec (d₁ .kept) DIRECTION n₂ (λ i x y. omega (arith, pre .most))
 
-          pub advance-done : Does Passing s s₃ (go (searchAt s₃ n rho)) Advanced
+          pub advance-done : Does Passing s s₃ (go (searchAt s₃ n₂ rho)) Advanced
           unfolding advance
           advance-done = record {
-            kept = kept-then (kept-then k₁ (d₂ .kept) (λ i x. passing-solution i (x .0))) (d₃ .kept) (λ i x. passing-residual i (x .0));
+            kept = kept-then (kept-then k₁ (d₂ .kept) (passing-vector SOLUTION (omega arith) (omega arith)))
+                (d₃ .kept) (passing-vector RESIDUAL (omega arith) (omega arith));
             is = (λ j. go (record { solution = sol₃ j; residual = res₃ j; direction = dir₃ j; rho = rho }))
-                ∙ then-go _ (goes-on _ (other _ (sym flat-is ∙ h₁) ∙ sym (ap not ef) ∙ h₂)) ∙ then-go _ (try-go (e₁ ∙ curve)) ∙ then-go _ (try-go (d₁ .is));
+                ∙ then-go _ (goes-on _ (other _ (sym flat-is ∙ h₁) ∙ sym (ap not ef) ∙ h₂)) ∙ then-go _ (e₁ ∙ curve) ∙ then-go _ (d₁ .is);
           }
 
 -- settle
-module _ {s : List Float} {ia ib : List ℕ} {rows n count : ℕ} (pre : Rows s ia ib rows n count) (tolerance rho : Float) where
-  abbrev Settled : Turn Search (Result (List Float))
-  Settled = settle (rowsOn ia ib s rows n) (massesAt s MASSES count) (vecAt s RHS n) (vecAt s DIAGONAL n) tolerance (searchAt s n rho)
+module _ {s : List Float} {ia ib : List ℕ} (table : Table) (pre : Rows s ia ib (table .place) (table .rows) (table .bodies)) (tolerance rho : Float) where
+  abbrev n₃ : ℕ
+  n₃ = table .rows
 
-  abbrev Truth : Turn (List Float) (Result (List Float))
-  Truth = trueResidual (rowsOn ia ib s rows n) (massesAt s MASSES count) (vecAt s RHS n) tolerance (vecAt s SOLUTION n) (vecAt s RESIDUAL n)
+  abbrev Settled : Counting (Turn Search (List Float))
+  Settled = settle (systemOn ia ib s table) (vecAt s RHS n₃) (vecAt s DIAGONAL n₃) tolerance (searchAt s n₃ rho)
 
-  pub settle-stop : {t : List Float} {a : Result (List Float)} → Does Trues s t (stop a) Truth → Does Passing s t (stop a) Settled
-  unfolding settle
-  settle-stop d = record { kept = kept-more (d .kept) (λ i x. (x .1, passing-product i (x .0), passing-residual i (x .0))); is = then-stop _ (d .is) }
+  abbrev Truth : Result Tested
+  Truth = trueResidual (systemOn ia ib s table) (vecAt s RHS n₃) tolerance (vecAt s SOLUTION n₃) (vecAt s RESIDUAL n₃)
 
-  module _ {t : List Float} (d : Does Trues s t (go (vecAt t RESIDUAL n)) Truth) {next : Float} (en : next ≡ scaledSquare (vecAt t RESIDUAL n) (vecAt t DIAGONAL n)) {u : List Float}
-      (e : Does (λ i. Out DIRECTION 96 i) t u (vecAt u DIRECTION n) (nextDirection (vecAt t RESIDUAL n) (vecAt t DIAGONAL n) (next ⊘ rho) (vecAt t DIRECTION n))) where
-    diag : vecAt t DIAGONAL n ≡ vecAt s DIAGONAL n
-    diag = kept-vec (d .kept) DIAGONAL n (λ i x y. omega (arith, pre .most))
+  module _ {t : List Float} where
+    sol₀ : {x : Result Tested} → Does Testing s t x Truth → vecAt t SOLUTION n₃ ≡ vecAt s SOLUTION n₃
+    sol₀ d = kept-vec (d .kept) SOLUTION n₃ (λ i x y. omega (arith, pre .most))
 
-    next-is : next ≡ scaledSquare (vecAt t RESIDUAL n) (vecAt s DIAGONAL n)
-    next-is = en ∙ ap (scaledSquare (vecAt t RESIDUAL n)) diag
-
-    sol : vecAt u SOLUTION n ≡ vecAt s SOLUTION n
-    sol = kept-vec (e .kept) SOLUTION n (λ i x y. omega (arith, pre .most)) ∙ kept-vec (d .kept) SOLUTION n (λ i x y. omega (arith, pre .most))
-
-    res : vecAt u RESIDUAL n ≡ vecAt t RESIDUAL n
-    res = kept-vec (e .kept) RESIDUAL n (λ i x y. omega (arith, pre .most))
-
-    dir : vecAt u DIRECTION n ≡ nextDirection (vecAt t RESIDUAL n) (vecAt s DIAGONAL n) (scaledSquare (vecAt t RESIDUAL n) (vecAt s DIAGONAL n) ⊘ rho) (vecAt s DIRECTION n)
-    dir = e .is ∙ λ j. nextDirection (vecAt t RESIDUAL n) (diag j) (next-is j ⊘ rho) (kept-vec (d .kept) DIRECTION n (λ i x y. omega (arith, pre .most)) j)
-
-    pub settle-next : Does Passing s u (go (searchAt u n next)) Settled
+    over-is : (end : End) → Does Testing s t (ranAs end (record { residual = vecAt t RESIDUAL n₃; solved = true })) Truth → ran (over (ranAs end (vecAt t SOLUTION n₃))) 0 0 ≡ Settled
     unfolding settle
-    settle-next = record {
-      kept = kept-then (kept-more (d .kept) (λ i x. (x .1, passing-product i (x .0), passing-residual i (x .0)))) (e .kept) (λ i x. passing-direction i (x .0));
-      is = (λ j. go (record { solution = sol j; residual = res j; direction = dir j; rho = next-is j })) ∙ then-go _ (d .is);
-    }
+    over-is Ends.Done d = ap leave (sol₀ d) ∙ leave-yes _ _ refl ∙ try-go _ (d .is)
+    over-is Ends.NonConvergent d = try-stop _ (d .is)
+    over-is Ends.ArithmeticOverflow d = try-stop _ (d .is)
+
+    pub settle-over : (r : Pass) (end : End) → r ≡ Passes.Over end → Does Testing s t (trueAs r (vecAt t RESIDUAL n₃)) Truth
+        → Does Passing s t (ran (over (ranAs end (vecAt t SOLUTION n₃))) 0 0) Settled
+    settle-over r end e d = record { kept = kept-more (d .kept) passing-testing; is = over-is end (does-as (λ (q : Pass). trueAs q (vecAt t RESIDUAL n₃)) e d) }
+
+    module _ (r : Pass) (h : r ≡ Passes.Again) (d : Does Testing s t (trueAs r (vecAt t RESIDUAL n₃)) Truth) {next : Float}
+        (en : next ≡ scaledSquare (vecAt t RESIDUAL n₃) (vecAt t DIAGONAL n₃)) {u : List Float}
+        (e : Does (Beside DIRECTION) t u (vecAt u DIRECTION n₃) (nextDirection (vecAt t RESIDUAL n₃) (vecAt t DIAGONAL n₃) (next ⊘ rho) (vecAt t DIRECTION n₃))) where
+      diag : vecAt t DIAGONAL n₃ ≡ vecAt s DIAGONAL n₃
+      diag = kept-vec (d .kept) DIAGONAL n₃ (λ i x y. omega (arith, pre .most))
+
+      next-is : next ≡ scaledSquare (vecAt t RESIDUAL n₃) (vecAt s DIAGONAL n₃)
+      next-is = en ∙ ap (scaledSquare (vecAt t RESIDUAL n₃)) diag
+
+      sol : vecAt u SOLUTION n₃ ≡ vecAt s SOLUTION n₃
+      sol = kept-vec (e .kept) SOLUTION n₃ (λ i x y. omega (arith, pre .most)) ∙ sol₀ d
+
+      res : vecAt u RESIDUAL n₃ ≡ vecAt t RESIDUAL n₃
+      res = kept-vec (e .kept) RESIDUAL n₃ (λ i x y. omega (arith, pre .most))
+
+      dir : vecAt u DIRECTION n₃
+          ≡ nextDirection (vecAt t RESIDUAL n₃) (vecAt s DIAGONAL n₃) (scaledSquare (vecAt t RESIDUAL n₃) (vecAt s DIAGONAL n₃) ⊘ rho) (vecAt s DIRECTION n₃)
+      dir = e .is ∙ λ j. nextDirection (vecAt t RESIDUAL n₃) (diag j) (next-is j ⊘ rho) (kept-vec (d .kept) DIRECTION n₃ (λ i x y. omega (arith, pre .most)) j)
+
+      pub settle-next : Does Passing s u (ran (go (go (searchAt u n₃ next))) 0 1) Settled
+      unfolding settle
+      settle-next = record {
+        kept = kept-then (kept-more (d .kept) passing-testing) (e .kept) (passing-vector DIRECTION (omega arith) (omega arith));
+        is = (λ j. ran (go (go (record { solution = sol j; residual = res j; direction = dir j; rho = next-is j }))) 0 1) ∙ ticks (again _)
+            ∙ leave-no _ _ refl ∙ try-go _ (does-as (λ (q : Pass). trueAs q (vecAt t RESIDUAL n₃)) h d .is);
+      }
 
 -- gradient_pass
-module _ {s : List Float} {ia ib : List ℕ} {rows n count : ℕ} (pre : Rows s ia ib rows n count) (tolerance rho : Float) where
-  abbrev Pass : Turn Search (Result (List Float))
-  Pass = gradientPass (rowsOn ia ib s rows n) (massesAt s MASSES count) (vecAt s RHS n) (vecAt s DIAGONAL n) tolerance (searchAt s n rho)
+module _ {s : List Float} {ia ib : List ℕ} (table : Table) (pre : Rows s ia ib (table .place) (table .rows) (table .bodies)) (tolerance rho : Float) where
+  abbrev n₄ : ℕ
+  n₄ = table .rows
 
-  pub pass-lost : stop arithmeticOverflow ≡ within (vecAt s RESIDUAL n) tolerance → Does Passing s s (stop (stop arithmeticOverflow)) Pass
+  abbrev M₄ : System
+  M₄ = systemOn ia ib s table
+
+  abbrev Whole : Counting (Turn Search (List Float))
+  Whole = gradientPass M₄ (vecAt s RHS n₄) (vecAt s DIAGONAL n₄) tolerance (searchAt s n₄ rho)
+
+  near-is : (end : End) → ranAs end true ≡ within (vecAt s RESIDUAL n₄) tolerance → ran (over (ranAs end (vecAt s SOLUTION n₄))) 0 0 ≡ Whole
   unfolding gradientPass
-  pass-lost e = record { kept = kept-refl _ s; is = then-stop _ (try-stop e) }
+  near-is Ends.Done e = leave-yes _ _ refl ∙ try-go _ e
+  near-is Ends.NonConvergent e = try-stop _ e
+  near-is Ends.ArithmeticOverflow e = try-stop _ e
 
-  pub pass-near : go true ≡ within (vecAt s RESIDUAL n) tolerance → Does Passing s s (stop (go (vecAt s SOLUTION n))) Pass
-  unfolding gradientPass
-  pass-near e = record { kept = kept-refl _ s; is = then-stop _ (returns-if _ refl) ∙ then-go _ (try-go e) }
+  pub pass-over : {r : Pass} (end : End) → r ≡ Passes.Over end → testAs r ≡ within (vecAt s RESIDUAL n₄) tolerance
+      → Does Passing s s (ran (over (ranAs end (vecAt s SOLUTION n₄))) 0 0) Whole
+  pass-over end e f = record { kept = kept-refl _ s; is = near-is end (test-is f e) }
 
-  module _ (e : go false ≡ within (vecAt s RESIDUAL n) tolerance) where
-    pub pass-stop : {t : List Float} {a : Result (List Float)} → Does Passing s t (stop a) (advance (rowsOn ia ib s rows n) (massesAt s MASSES count) (searchAt s n rho)) → Does Passing s t (stop a) Pass
+  module _ {r : Pass} (h : r ≡ Passes.Again) (e : testAs r ≡ within (vecAt s RESIDUAL n₄) tolerance) {t : List Float} where
+    pub pass-stuck : {f : Fault} → Does Passing s t (stop f) (advance M₄ (searchAt s n₄ rho)) → Does Passing s t (fail f) Whole
     unfolding gradientPass
-    pass-stop d = record { kept = d .kept; is = then-stop _ (d .is) ∙ then-go _ (goes-on {E = Result (List Float)} (go (vecAt s SOLUTION n)) refl) ∙ then-go _ (try-go e) }
+    pass-stuck d = record { kept = d .kept; is = try-stop _ (d .is) ∙ leave-no _ _ refl ∙ try-go _ (test-is e h) }
 
-    pub pass-on : {t u : List Float} {x : Turn Search (Result (List Float))} → Does Passing s t (go (searchAt t n rho)) (advance (rowsOn ia ib s rows n) (massesAt s MASSES count) (searchAt s n rho))
-        → Does Passing t u x (settle (rowsOn ia ib t rows n) (massesAt t MASSES count) (vecAt t RHS n) (vecAt t DIAGONAL n) tolerance (searchAt t n rho)) → Does Passing s u x Pass
+    pub pass-on : {u : List Float} {x : Counting (Turn Search (List Float))} → Does Passing s t (go (searchAt t n₄ rho)) (advance M₄ (searchAt s n₄ rho))
+        → Does Passing t u x (settle (systemOn ia ib t table) (vecAt t RHS n₄) (vecAt t DIAGONAL n₄) tolerance (searchAt t n₄ rho)) → Does Passing s u x Whole
     unfolding gradientPass
-    pass-on {t} {u} {x} d f = record {
+    pass-on {u} {x} d f = record {
       kept = kept-then (d .kept) (f .kept) (λ i x. x);
       is = f .is
-          ∙ (λ j. settle (kept-rows (d .kept) ia ib rows n (λ i x y. omega (arith, pre .table, pre .most)) j) (kept-masses (d .kept) MASSES count (λ i x y. omega (arith, pre .bodies)) j)
-          (kept-vec (d .kept) RHS n (λ i x y. omega (arith, pre .most)) j) (kept-vec (d .kept) DIAGONAL n (λ i x y. omega (arith, pre .most)) j) tolerance (searchAt t n rho))
-          ∙ then-go _ (d .is) ∙ then-go _ (goes-on {E = Result (List Float)} (go (vecAt s SOLUTION n)) refl) ∙ then-go _ (try-go e);
+          ∙ (λ j. settle (passing-system table pre (d .kept) j) (kept-vec (d .kept) RHS n₄ (λ i x y. omega (arith, pre .most)) j)
+          (kept-vec (d .kept) DIAGONAL n₄ (λ i x y. omega (arith, pre .most)) j) tolerance (searchAt t n₄ rho))
+          ∙ try-go _ (d .is) ∙ leave-no _ _ refl ∙ try-go _ (test-is e h);
     }
 
--- one pass from s, which the loop has reached, as a pass over what stood at s₀
-pub gradient-from : {z : List Float} {ia ib : List ℕ} {rows n count : ℕ} (pre : Rows z ia ib rows n count) (tolerance rho : Float) {s₀ s t : List Float} (r : Step) → Kept Passing s₀ s
-    → Does Passing s t (passAs r t n) (gradientPass (rowsOn ia ib s rows n) (massesAt s MASSES count) (vecAt s RHS n) (vecAt s DIAGONAL n) tolerance (searchAt s n rho))
-    → Does Passing s t (passAs r t n) (gradientPass (rowsOn ia ib s₀ rows n) (massesAt s₀ MASSES count) (vecAt s₀ RHS n) (vecAt s₀ DIAGONAL n) tolerance (searchAt s n rho))
-gradient-from {z} {ia} {ib} {rows} {n} {count} pre tolerance rho {s₀} {s} {t} r k d = record {
-  kept = d .kept;
-  is = d .is ∙ λ j. gradientPass (kept-rows k ia ib rows n (λ i x y. omega (arith, pre .table, pre .most)) j) (kept-masses k MASSES count (λ i x y. omega (arith, pre .bodies)) j)
-      (kept-vec k RHS n (λ i x y. omega (arith, pre .most)) j) (kept-vec k DIAGONAL n (λ i x y. omega (arith, pre .most)) j) tolerance (searchAt s n rho);
-}
-
 -- before the loop
-module _ {s : List Float} {ia ib : List ℕ} {rows n count : ℕ} (pre : Rows s ia ib rows n count) where
-  abbrev R₃ : List EqualityRow
-  R₃ = rowsOn ia ib s rows n
+module _ {s : List Float} {ia ib : List ℕ} (table : Table) (pre : Rows s ia ib (table .place) (table .rows) (table .bodies)) where
+  abbrev n₅ : ℕ
+  n₅ = table .rows
 
-  abbrev M₃ : List MassResponse
-  M₃ = massesAt s MASSES count
+  abbrev M₅ : System
+  M₅ = systemOn ia ib s table
 
-  abbrev N : ℕ
-  N = 2 * length R₃ + 32
+  abbrev Gradients : Counting (List Float)
+  Gradients = gradients M₅ (vecAt s RHS n₅) (vecAt s SOLUTION n₅) (vecAt s RESIDUAL n₅)
 
-  abbrev Gradients : Ending
-  Gradients = ended (gradients R₃ M₃ (vecAt s RHS n) (vecAt s SOLUTION n) (vecAt s RESIDUAL n))
+  abbrev Prepared₅ : Result Prepared
+  Prepared₅ = prepare M₅ (vecAt s RESIDUAL n₅)
 
-  abbrev Prepared₃ : Result Prepared
-  Prepared₃ = prepare R₃ M₃ (vecAt s RESIDUAL n)
-
-  pub gradients-refused : {s₁ : List Float} → Does (λ i. (Out DIAGONAL 96 i) × (Out DIRECTION 96 i)) s s₁ (stop nonConvergent) Prepared₃ → Does Work s s₁ (ended (record { answer = stop nonConvergent; passes = 0 })) Gradients
+  pub gradients-refused : {s₁ : List Float} {f : Fault} → Does Preparing s s₁ (stop f) Prepared₅ → Does Work s s₁ (fail f) Gradients
   unfolding gradients
-  gradients-refused d = record { kept = kept-more (d .kept) (λ i x. omega arith); is = ap (λ x. ended (spent N x)) (then-stop _ (first-stop (d .is))) }
+  gradients-refused d = record { kept = kept-more (d .kept) (λ i x. omega arith); is = try-stop _ (d .is) }
 
-  module _ {s₁ : List Float} {rho : Float} (d₁ : Does (λ i. (Out DIAGONAL 96 i) × (Out DIRECTION 96 i)) s s₁ (go (preparedAt s₁ n rho)) Prepared₃) where
+  module _ {s₁ : List Float} {rho : Float} (d₁ : Does Preparing s s₁ (go (preparedAt s₁ n₅ rho)) Prepared₅) where
     kk : Kept Work s s₁
     kk = kept-more (d₁ .kept) (λ i x. omega arith)
 
-    rhs₁ : vecAt s₁ RHS n ≡ vecAt s RHS n
-    rhs₁ = kept-vec kk RHS n (λ i x y. omega (arith, pre .most))
+    rhs₁ : vecAt s₁ RHS n₅ ≡ vecAt s RHS n₅
+    rhs₁ = kept-vec kk RHS n₅ (λ i x y. omega (arith, pre .most))
 
-    pub gradients-lost : stop arithmeticOverflow ≡ toleranceFor (ratio 1 (10 ^ 12)) (vecAt s₁ RHS n) → Does Work s s₁ (ended (record { answer = stop arithmeticOverflow; passes = 0 })) Gradients
+    pub gradients-intolerant : {f : Fault} → stop f ≡ toleranceFor (ratio 1 (10 ^ 12)) (vecAt s₁ RHS n₅) → Does Work s s₁ (fail f) Gradients
     unfolding gradients
-    gradients-lost e = record { kept = kk; is = ap (λ x. ended (spent N x)) (then-stop _ (first-stop (e ∙ ap (toleranceFor (ratio 1 (10 ^ 12))) rhs₁)) ∙ then-go _ (first-go (d₁ .is))) }
+    gradients-intolerant e = record { kept = kk; is = try-stop _ (e ∙ ap (toleranceFor (ratio 1 (10 ^ 12))) rhs₁) ∙ try-go _ (d₁ .is) }
 
-    module _ {tolerance : Float} (e : go tolerance ≡ toleranceFor (ratio 1 (10 ^ 12)) (vecAt s₁ RHS n)) where
-      len : n ≡ length R₃
-      len = sym (tab-length n (rowOn ia ib s rows))
+    module _ {tolerance : Float} (e : go tolerance ≡ toleranceFor (ratio 1 (10 ^ 12)) (vecAt s₁ RHS n₅)) where
+      len : n₅ ≡ length (M₅ .rows)
+      len = sym (tab-length n₅ (rowOn ia ib s (table .place)))
 
-      begun : searchAt s₁ n rho ≡ record { solution = vecAt s SOLUTION n; residual = vecAt s RESIDUAL n; direction = vecAt s₁ DIRECTION n; rho = rho }
+      begun : searchAt s₁ n₅ rho ≡ record { solution = vecAt s SOLUTION n₅; residual = vecAt s RESIDUAL n₅; direction = vecAt s₁ DIRECTION n₅; rho = rho }
       begun = λ j. record {
-        solution = kept-vec (d₁ .kept) SOLUTION n (λ i x y. omega (arith, pre .most)) j;
-        residual = kept-vec (d₁ .kept) RESIDUAL n (λ i x y. omega (arith, pre .most)) j;
-        direction = vecAt s₁ DIRECTION n;
+        solution = kept-vec (d₁ .kept) SOLUTION n₅ (λ i x y. omega (arith, pre .most)) j;
+        residual = kept-vec (d₁ .kept) RESIDUAL n₅ (λ i x y. omega (arith, pre .most)) j;
+        direction = vecAt s₁ DIRECTION n₅;
         rho = rho;
       }
 
-      looped : ended (spent (2 * n + 32) (search (gradientPass (rowsOn ia ib s₁ rows n) (massesAt s₁ MASSES count) (vecAt s₁ RHS n) (vecAt s₁ DIAGONAL n) tolerance) (2 * n + 32) (searchAt s₁ n rho)))
-          ≡ ended (spent N (search (gradientPass R₃ M₃ (vecAt s RHS n) (vecAt s₁ DIAGONAL n) tolerance) N (record { solution = vecAt s SOLUTION n; residual = vecAt s RESIDUAL n; direction = vecAt s₁ DIRECTION n; rho = rho })))
-      looped = λ j. ended (spent (2 * len j + 32) (search (gradientPass (kept-rows kk ia ib rows n (λ i x y. omega (arith, pre .table, pre .most)) j) (kept-masses kk MASSES count (λ i x y. omega (arith, pre .bodies)) j) (rhs₁ j) (vecAt s₁ DIAGONAL n) tolerance) (2 * len j + 32) (begun j)))
-
-      pub gradients-whole : {t : List Float} {y : Ending}
-          → Does Passing s₁ t y (ended (spent (2 * n + 32) (search (gradientPass (rowsOn ia ib s₁ rows n) (massesAt s₁ MASSES count) (vecAt s₁ RHS n) (vecAt s₁ DIAGONAL n) tolerance) (2 * n + 32) (searchAt s₁ n rho))))
+      pub gradients-whole : {t : List Float} {y : Counting (List Float)}
+          → Does Work s₁ t y (upTo (2 * n₅ + 32) nonConvergent (gradientPass (systemOn ia ib s₁ table) (vecAt s₁ RHS n₅) (vecAt s₁ DIAGONAL n₅) tolerance) (searchAt s₁ n₅ rho))
           → Does Work s t y Gradients
       unfolding gradients
       gradients-whole {t} {y} d = record {
-        kept = kept-then kk (d .kept) (λ i q. omega arith);
-        is = d .is ∙ looped ∙ ap (λ x. ended (spent N x)) (then-go _ (first-go (e ∙ ap (toleranceFor (ratio 1 (10 ^ 12))) rhs₁)) ∙ then-go _ (first-go (d₁ .is)));
+        kept = kept-then kk (d .kept) (λ i q. q);
+        is = d .is
+            ∙ (λ j. upTo (2 * len j + 32) nonConvergent (gradientPass (work-system table pre kk j) (rhs₁ j) (vecAt s₁ DIAGONAL n₅) tolerance) (begun j))
+            ∙ try-go _ (e ∙ ap (toleranceFor (ratio 1 (10 ^ 12))) rhs₁) ∙ try-go _ (d₁ .is);
       }

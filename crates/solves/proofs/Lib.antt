@@ -7,3 +7,4 @@ pub mod GradientLaws
 pub mod BlockLaws
 pub mod FactorLaws
 pub mod RefineLaws
+pub mod SolveLaws

@@ -15,20 +15,21 @@ use Rattle.vectors.specs.declared.vector.Vec3.{Vec3}
 use Rattle.vectors.specs.Vector.{dotOf}
 use Rattle.vectors.specs.Matrix.{applyOf}
 use Rattle.rows.specs.declared.geometry.EqualityRow.{EqualityRow}
-use Rattle.rows.specs.Fault.{arithmeticOverflow, Result}
+use Rattle.rows.specs.Fault.{Fault, arithmeticOverflow, Result}
 use Rattle.rows.specs.View.{at, Out, Kept}
 use Rattle.rows.specs.Region.{tab-length, tab-at, kept-set, kept-refl, kept-then, kept-more}
 use Rattle.solves.specs.declared.places.Generalized.{Generalized}
 use Rattle.solves.specs.declared.places.MassResponse.{MassResponse}
-use Rattle.solves.specs.declared.Outcome.{Outcome}
-use Rattle.solves.specs.declared.Outcome.the-variants as Outcomes
+use Rattle.solves.specs.declared.End.{End}
+use Rattle.solves.specs.declared.Table.{Table}
 use Rattle.solves.specs.Region.{vecAt, Filled, Does}
 use Rattle.solves.specs.RegionLaws.{vec-at, vec-in, kept-vec, vec-more}
 use Rattle.solves.specs.Solver.{rowIn, generalizedIn, massIn, noGeneralized, noMass, tryNumber, sumProducts, dot, pushed, pushInto, pushRow, transpose, scaled, scaleAll, rate, rates, operator, noShare, through, addThrough, crossEnd, crossMass}
 use Rattle.solves.specs.Answer.{ranAs}
-use Rattle.solves.specs.View.{rowOn, rowsOn, generalizedAt, generalizedsAt, massAt, massesAt, Rows, Place, Shares, GENERALIZED, MASSES}
-use Rattle.solves.specs.DoesLaws.{number-yes, number-no, ran-done, ran-over, does-stop, does-then}
-use Rattle.solves.specs.ViewLaws.{kept-rows, kept-masses, row-in, share-in, mass-in, shares-set, shares-more, shares-none}
+use Rattle.solves.specs.View.{rowOn, rowsOn, generalizedAt, sharesIn, massAt, massesAt, systemOn, Rows, Place, Shares, Beside, Moves}
+use Rattle.solves.specs.View.{BODIES-MOST, VECTOR, RHS, GENERALIZED, MASSES, END}
+use Rattle.solves.specs.DoesLaws.{number-yes, number-no, faultOf, does-stop, does-then, does-eq}
+use Rattle.solves.specs.ViewLaws.{out-within, kept-rows, kept-masses, row-in, share-in, mass-in, shares-set, shares-more, shares-none}
 
 -- dot
 abbrev pub dotTurn : List Float → List Float → ℕ → Float → Float
@@ -53,40 +54,44 @@ module _ (s : List Float) (a b n : ℕ) {total : Float} {t : Bool} (e : total �
   dot-over h = number-no long f h
 
 -- push_into
-module _ (s : List Float) (index : ℕ) (linear angular : Vec3) (value : Float) (count : ℕ) (h : index < count) (most : count ≤ 16)
+module _ (s : List Float) (index : ℕ) (linear angular : Vec3) (value : Float) (count : ℕ) (h : index < count) (most : count ≤ BODIES-MOST)
     {body : Generalized} (eb : body ≡ generalizedAt s GENERALIZED index) where
-  in-list : body ≡ generalizedIn (generalizedsAt s GENERALIZED count) index
+  in-list : body ≡ generalizedIn (sharesIn s count) index
   in-list = eb ∙ sym (tab-at count (generalizedAt s GENERALIZED) noGeneralized index h)
 
   pub into-done : {g : Generalized} {t : List Float} → go g ≡ pushed body linear angular value → (Kept (λ j. Out (GENERALIZED + 6 * index) 6 j) s t) × (generalizedAt t GENERALIZED index ≡ g)
-      → Does Shares s t (go (generalizedsAt t GENERALIZED count)) (pushInto index linear angular value (generalizedsAt s GENERALIZED count))
+      → Does Shares s t (go (sharesIn t count)) (pushInto index linear angular value (sharesIn s count))
   unfolding pushInto
   into-done ep st = record {
     kept = kept-more (st .0) (λ i q. omega arith);
     is = sym (ap go (shares-set GENERALIZED count index h st)) ∙ then-go _ (ep ∙ ap (λ (b : Generalized). pushed b linear angular value) in-list);
   }
 
-  pub into-over : stop arithmeticOverflow ≡ pushed body linear angular value → Does Shares s s (stop arithmeticOverflow) (pushInto index linear angular value (generalizedsAt s GENERALIZED count))
+  pub into-over : stop arithmeticOverflow ≡ pushed body linear angular value → Does Shares s s (stop arithmeticOverflow) (pushInto index linear angular value (sharesIn s count))
   unfolding pushInto
   into-over ep = record { kept = kept-refl Shares s; is = then-stop _ (ep ∙ ap (λ (b : Generalized). pushed b linear angular value) in-list) }
 
 -- push_row
-module _ {s t : List Float} (count : ℕ) (row : EqualityRow) (value : Float) {r : Outcome}
-    (d : Does Shares s t (ranAs r (generalizedsAt t GENERALIZED count)) (pushInto (row .a) (row .«linear_a») (row .«angular_a») value (generalizedsAt s GENERALIZED count))) where
-  pub row-over : r ≡ Outcomes.ArithmeticOverflow → Does Shares s t (stop arithmeticOverflow) (pushRow row value (generalizedsAt s GENERALIZED count))
-  unfolding pushRow
-  row-over h = does-stop _ d Shares _ (λ i q. q) h
+module _ (count : ℕ) (row : EqualityRow) (value : Float) (s : List Float) where
+  abbrev OnA : Result (List Generalized)
+  OnA = pushInto (row .a) (row .«linear_a») (row .«angular_a») value (sharesIn s count)
 
-  pub row-then : {u : List Float} {y : Result (List Generalized)} → r ≡ Outcomes.Done
-      → Does Shares t u y (pushInto (row .b) (row .«linear_b») (row .«angular_b») value (generalizedsAt t GENERALIZED count)) → Does Shares s u y (pushRow row value (generalizedsAt s GENERALIZED count))
-  unfolding pushRow
-  row-then h e = does-then _ d Shares Shares _ (λ i q. q) (λ i q. q) h e
+  module _ {t : List Float} where
+    pub row-failed : {f : Fault} → Does Shares s t (stop f) OnA → Does Shares s t (stop f) (pushRow row value (sharesIn s count))
+    unfolding pushRow
+    row-failed d = does-stop _ (λ i q. q) d
+
+    pub row-then : {u : List Float} {y : Result (List Generalized)} → Does Shares s t (go (sharesIn t count)) OnA
+        → Does Shares t u y (pushInto (row .b) (row .«linear_b») (row .«angular_b») value (sharesIn t count))
+        → Does Shares s u y (pushRow row value (sharesIn s count))
+    unfolding pushRow
+    row-then d e = does-then _ (λ i q. q) (λ i q. q) d e
 
 -- transpose
 abbrev pub rowTurn : List EqualityRow → List Float → ℕ → List Generalized → Result (List Generalized)
 rowTurn rows values k out = pushRow (rowIn rows k) (at values k) out
 
-module _ {z : List Float} {ia ib : List ℕ} {rows n count : ℕ} (pre : Rows z ia ib rows n count) {values : ℕ} (place : Place values) (s₀ : List Float) where
+module _ {z : List Float} {ia ib : List ℕ} {rows n count : ℕ} (pre : Rows z ia ib rows n count) {values : ℕ} (place : Place z values) (s₀ : List Float) where
   abbrev R : List EqualityRow
   R = rowsOn ia ib s₀ rows n
 
@@ -94,46 +99,53 @@ module _ {z : List Float} {ia ib : List ℕ} {rows n count : ℕ} (pre : Rows z 
   Vs = vecAt s₀ values n
 
   abbrev pub TransposeSo : ℕ → List Float → Type 0
-  TransposeSo k s = Does Shares s₀ s (go (generalizedsAt s GENERALIZED count)) (loop k (rowTurn R Vs) (generalizedsAt s₀ GENERALIZED count))
+  TransposeSo k s = Does Shares s₀ s (go (sharesIn s count)) (loop k (rowTurn R Vs) (sharesIn s₀ count))
 
   pub transpose-none : TransposeSo 0 s₀
-  transpose-none = record { kept = kept-refl Shares s₀; is = loop-none (rowTurn R Vs) (generalizedsAt s₀ GENERALIZED count) }
+  transpose-none = record { kept = kept-refl Shares s₀; is = loop-none (rowTurn R Vs) (sharesIn s₀ count) }
 
   module _ {k : ℕ} {s : List Float} {row : EqualityRow} {v : Float} (inv : TransposeSo k s) (h : k < n) (er : row ≡ rowOn ia ib s rows k) (ev : v ≡ at s (values + k)) where
-    turn : pushRow row v (generalizedsAt s GENERALIZED count) ≡ rowTurn R Vs k (generalizedsAt s GENERALIZED count)
+    turn : pushRow row v (sharesIn s count) ≡ rowTurn R Vs k (sharesIn s count)
     turn =
         let a : row ≡ rowIn R k = row-in (inv .kept) ia ib rows n k (λ i x y. omega arith) h er in
         let b : v ≡ at Vs k = vec-in (inv .kept) values n k (λ i x y. omega arith) h ev in
         cc
 
-    pub transpose-again : {t : List Float} {r : Outcome} → Does Shares s t (ranAs r (generalizedsAt t GENERALIZED count)) (pushRow row v (generalizedsAt s GENERALIZED count)) → r ≡ Outcomes.Done → TransposeSo (k + 1) t
-    transpose-again d q = record { kept = kept-then (inv .kept) (d .kept) (λ i x. x); is = loop-more (rowTurn R Vs) (generalizedsAt s₀ GENERALIZED count) (inv .is) (ran-done _ d q ∙ turn) }
+    pub transpose-again : {t : List Float} → Does Shares s t (go (sharesIn t count)) (pushRow row v (sharesIn s count)) → TransposeSo (k + 1) t
+    transpose-again d = record {
+      kept = kept-then (inv .kept) (d .kept) (λ i x. x);
+      is = loop-more (rowTurn R Vs) (sharesIn s₀ count) (inv .is) (d .is ∙ turn);
+    }
 
-    pub transpose-stops : {t : List Float} {r : Outcome} → Does Shares s t (ranAs r (generalizedsAt t GENERALIZED count)) (pushRow row v (generalizedsAt s GENERALIZED count)) → r ≡ Outcomes.ArithmeticOverflow → Does Shares s₀ t (stop arithmeticOverflow) (loop n (rowTurn R Vs) (generalizedsAt s₀ GENERALIZED count))
-    transpose-stops d q = record { kept = kept-then (inv .kept) (d .kept) (λ i x. x); is = loop-stop (rowTurn R Vs) (generalizedsAt s₀ GENERALIZED count) n h (inv .is) (ran-over _ d q ∙ turn) }
+    pub transpose-failed : {t : List Float} {f : Fault} → Does Shares s t (stop f) (pushRow row v (sharesIn s count))
+        → Does Shares s₀ t (stop f) (loop n (rowTurn R Vs) (sharesIn s₀ count))
+    transpose-failed d = record {
+      kept = kept-then (inv .kept) (d .kept) (λ i x. x);
+      is = loop-stop (rowTurn R Vs) (sharesIn s₀ count) n h (inv .is) (d .is ∙ turn);
+    }
 
   pub transpose-ends : {k : ℕ} {s : List Float} → TransposeSo k s → k ≤ n → n ≤ k → TransposeSo n s
-  transpose-ends inv a b = record { kept = inv .kept; is = loop-end (rowTurn R Vs) (generalizedsAt s₀ GENERALIZED count) a b (inv .is) }
+  transpose-ends inv a b = record { kept = inv .kept; is = loop-end (rowTurn R Vs) (sharesIn s₀ count) a b (inv .is) }
 
-  pub transpose-from : {t : List Float} {y : Result (List Generalized)} → Filled GENERALIZED (6 * count) (λ _. ratio 0 1) z s₀ → Does Shares s₀ t y (loop n (rowTurn R Vs) (generalizedsAt s₀ GENERALIZED count))
+  pub transpose-from : {t : List Float} {y : Result (List Generalized)} → Filled GENERALIZED (6 * count) (λ _. ratio 0 1) z s₀ → Does Shares s₀ t y (loop n (rowTurn R Vs) (sharesIn s₀ count))
       → Does Shares z t y (transpose (rowsOn ia ib z rows n) (vecAt z values n) count)
   unfolding transpose
   transpose-from {t} {y} f d = record {
     kept = kept-then (kept-more (f .kept) (λ i x. omega arith)) (d .kept) (λ i x. x);
     is = d .is
-        ∙ ap (λ (l : List EqualityRow). loop n (rowTurn l Vs) (generalizedsAt s₀ GENERALIZED count)) (kept-rows (f .kept) ia ib rows n (λ i x y. omega arith))
-        ∙ ap (λ (l : List Float). loop n (rowTurn (rowsOn ia ib z rows n) l) (generalizedsAt s₀ GENERALIZED count)) (kept-vec (f .kept) values n (λ i x y. omega arith))
+        ∙ ap (λ (l : List EqualityRow). loop n (rowTurn l Vs) (sharesIn s₀ count)) (kept-rows (f .kept) ia ib rows n (λ i x y. omega arith))
+        ∙ ap (λ (l : List Float). loop n (rowTurn (rowsOn ia ib z rows n) l) (sharesIn s₀ count)) (kept-vec (f .kept) values n (λ i x y. omega arith))
         ∙ ap (loop n (rowTurn (rowsOn ia ib z rows n) (vecAt z values n))) (shares-none GENERALIZED count f)
         ∙ ap (λ (m : ℕ). loop m (rowTurn (rowsOn ia ib z rows n) (vecAt z values n)) (replicate count noShare)) (sym (tab-length n (rowOn ia ib z rows)));
   }
 
 -- scale_all
-module _ (s₀ : List Float) (count : ℕ) (most : count ≤ 16) where
+module _ (s₀ : List Float) (count : ℕ) (most : count ≤ BODIES-MOST) where
   abbrev pub scaling : ℕ → Result Generalized
-  scaling k = scaled (generalizedIn (generalizedsAt s₀ GENERALIZED count) k) (massIn (massesAt s₀ MASSES count) k)
+  scaling k = scaled (generalizedIn (sharesIn s₀ count) k) (massIn (massesAt s₀ MASSES count) k)
 
   abbrev pub ScaleSo : ℕ → List Float → Type 0
-  ScaleSo k s = Does (λ i. Out GENERALIZED (6 * k) i) s₀ s (go (generalizedsAt s GENERALIZED k)) (scaleAll (generalizedsAt s₀ GENERALIZED count) (massesAt s₀ MASSES count) k)
+  ScaleSo k s = Does (λ i. Out GENERALIZED (6 * k) i) s₀ s (go (sharesIn s k)) (scaleAll (sharesIn s₀ count) (massesAt s₀ MASSES count) k)
 
   pub scale-none : ScaleSo 0 s₀
   unfolding tab
@@ -142,7 +154,7 @@ module _ (s₀ : List Float) (count : ℕ) (most : count ≤ 16) where
   module _ {k : ℕ} {s : List Float} {value : Generalized} {mass : MassResponse} (inv : ScaleSo k s) (h : k < count) (ev : value ≡ generalizedAt s GENERALIZED k) (em : mass ≡ massAt s MASSES k) where
     scale-turn : scaled value mass ≡ scaling k
     scale-turn =
-        let a : value ≡ generalizedIn (generalizedsAt s₀ GENERALIZED count) k = share-in (inv .kept) GENERALIZED count k (λ i x y. omega arith) h ev in
+        let a : value ≡ generalizedIn (sharesIn s₀ count) k = share-in (inv .kept) GENERALIZED count k (λ i x y. omega arith) h ev in
         let b : mass ≡ massIn (massesAt s₀ MASSES count) k = mass-in (inv .kept) MASSES count k (λ i x y. omega arith) h em in
         cc
 
@@ -155,24 +167,24 @@ module _ (s₀ : List Float) (count : ℕ) (most : count ≤ 16) where
     pub scale-stops : stop arithmeticOverflow ≡ scaled value mass → Does Shares s₀ s (stop arithmeticOverflow) (each count scaling)
     scale-stops q = record { kept = kept-more (inv .kept) (λ i x. omega arith); is = each-stop scaling count h (inv .is) (q ∙ scale-turn) }
 
-  pub scale-ends : {k : ℕ} {s : List Float} → ScaleSo k s → k ≤ count → count ≤ k → Does Shares s₀ s (go (generalizedsAt s GENERALIZED count)) (each count scaling)
+  pub scale-ends : {k : ℕ} {s : List Float} → ScaleSo k s → k ≤ count → count ≤ k → Does Shares s₀ s (go (sharesIn s count)) (each count scaling)
   scale-ends {k} {s} inv a b =
       let same : k ≡ count = omega arith in
-      record { kept = kept-more (inv .kept) (λ i x. omega arith); is = ap (λ (m : ℕ). go (generalizedsAt s GENERALIZED m)) (sym same) ∙ each-end scaling a b (inv .is) }
+      record { kept = kept-more (inv .kept) (λ i x. omega arith); is = ap (λ (m : ℕ). go (sharesIn s m)) (sym same) ∙ each-end scaling a b (inv .is) }
 
 -- rates
-module _ {z : List Float} {ia ib : List ℕ} {rows n count : ℕ} (pre : Rows z ia ib rows n count) {out : ℕ} (place : Place out) (s₀ : List Float) where
+module _ {z : List Float} {ia ib : List ℕ} {rows n count : ℕ} (pre : Rows z ia ib rows n count) {out : ℕ} (place : Place z out) (s₀ : List Float) where
   abbrev Q : List EqualityRow
   Q = rowsOn ia ib s₀ rows n
 
   abbrev M : List Generalized
-  M = generalizedsAt s₀ GENERALIZED count
+  M = sharesIn s₀ count
 
   abbrev pub rating : ℕ → Result Float
   rating k = tryNumber (rate (rowIn Q k) (generalizedIn M (rowIn Q k .a)) (generalizedIn M (rowIn Q k .b)))
 
   abbrev pub RatesSo : ℕ → List Float → Type 0
-  RatesSo k s = Does (λ i. Out out 96 i) s₀ s (go (vecAt s out k)) (rates Q k M)
+  RatesSo k s = Does (Beside out) s₀ s (go (vecAt s out k)) (rates Q k M)
 
   pub rates-none : RatesSo 0 s₀
   unfolding tab
@@ -189,16 +201,16 @@ module _ {z : List Float} {ia ib : List ℕ} {rows n count : ℕ} (pre : Rows z 
         let w : b ≡ generalizedIn M (row .b) = share-in (inv .kept) GENERALIZED count (row .b) (λ i x y. omega arith) lb eb in
         cc
 
-    stored : Kept (λ i. Out out 96 i) s₀ (set s (out + k) v)
-    stored = kept-then (inv .kept) (kept-set s (out + k) v) (λ i x. omega arith)
+    stored : Kept (Beside out) s₀ (set s (out + k) v)
+    stored = kept-then (inv .kept) (kept-set s (out + k) v) (λ i x. out-within out VECTOR (out + k) 1 i (omega arith) (omega (arith, pre .most)) x)
 
     pub rates-again : t ≡ true → RatesSo (k + 1) (set s (out + k) v)
     rates-again q = record { kept = stored; is = ap go (vec-more s out k v (omega arith)) ∙ each-more rating (inv .is) (number-yes rate-turn et q) }
 
-    pub rates-stops : t ≡ false → Does (λ i. Out out 96 i) s₀ (set s (out + k) v) (stop arithmeticOverflow) (each n rating)
+    pub rates-stops : t ≡ false → Does (Beside out) s₀ (set s (out + k) v) (stop arithmeticOverflow) (each n rating)
     rates-stops q = record { kept = stored; is = each-stop rating n h (inv .is) (number-no rate-turn et q) }
 
-  pub rates-ends : {k : ℕ} {s : List Float} → RatesSo k s → k ≤ n → n ≤ k → Does (λ i. Out out 96 i) s₀ s (go (vecAt s out n)) (each n rating)
+  pub rates-ends : {k : ℕ} {s : List Float} → RatesSo k s → k ≤ n → n ≤ k → Does (Beside out) s₀ s (go (vecAt s out n)) (each n rating)
   rates-ends {k} {s} inv a b =
       let same : k ≡ n = omega arith in
       record { kept = inv .kept; is = ap (λ (m : ℕ). go (vecAt s out m)) (sym same) ∙ each-end rating a b (inv .is) }
@@ -206,6 +218,10 @@ module _ {z : List Float} {ia ib : List ℕ} {rows n count : ℕ} (pre : Rows z 
 -- operator
 pub rows-kept : {s t : List Float} {ia ib : List ℕ} {rows n count : ℕ} → Rows s ia ib rows n count → length t ≡ length s → Rows t ia ib rows n count
 rows-kept pre e = record { whole = omega arith; table = pre .table; most = pre .most; bodies = pre .bodies; a-there = pre .a-there; b-there = pre .b-there }
+
+-- a vector before the shares is a place for the operator
+pub place-of : {s : List Float} (off : ℕ) → RHS ≤ off → off + VECTOR ≤ GENERALIZED → END ≤ length s → Place s off
+place-of off h l w = record { low = h; apart = omega arith; there = omega arith }
 
 -- a row that was loaded is on bodies below count
 module _ {s : List Float} {ia ib : List ℕ} {rows n count : ℕ} (pre : Rows s ia ib rows n count) {k : ℕ} (h : k < n) (t : List Float) {row : EqualityRow} (e : row ≡ rowOn ia ib t rows k) where
@@ -215,43 +231,52 @@ module _ {s : List Float} {ia ib : List ℕ} {rows n count : ℕ} (pre : Rows s 
   pub on-b : row .b < count
   on-b = subst (λ (q : EqualityRow). q .b < count) (sym e) (pre .b-there k h)
 
-abbrev pub Moves : ℕ → ℕ → Type 0
-Moves out i = (Shares i) × (Out out 96 i)
+module _ {s : List Float} {ia ib : List ℕ} (table : Table) (pre : Rows s ia ib (table .place) (table .rows) (table .bodies)) (input out : ℕ) where
+  abbrev count : ℕ
+  count = table .bodies
 
-module _ {s : List Float} {ia ib : List ℕ} {rows n count : ℕ} (pre : Rows s ia ib rows n count) {input : ℕ} (from : Place input) {out : ℕ} (place : Place out)
-    {t : List Float} (r : Outcome) (d : Does Shares s t (ranAs r (generalizedsAt t GENERALIZED count)) (transpose (rowsOn ia ib s rows n) (vecAt s input n) count)) where
+  abbrev Whole : Result (List Float)
+  Whole = operator (systemOn ia ib s table) (vecAt s input (table .rows))
+
+  abbrev Pushed : Result (List Generalized)
+  Pushed = transpose (rowsOn ia ib s (table .place) (table .rows)) (vecAt s input (table .rows)) count
+
   -- `length masses` is count
-  first : Does Shares s t (ranAs r (generalizedsAt t GENERALIZED count)) (transpose (rowsOn ia ib s rows n) (vecAt s input n) (length (massesAt s MASSES count)))
-  first = record { kept = d .kept; is = d .is ∙ ap (transpose (rowsOn ia ib s rows n) (vecAt s input n)) (sym (tab-length count (massAt s MASSES))) }
+  len : count ≡ length (massesAt s MASSES count)
+  len = sym (tab-length count (massAt s MASSES))
 
-  pub operator-1 : r ≡ Outcomes.ArithmeticOverflow → Does (Moves out) s t (stop arithmeticOverflow) (operator (rowsOn ia ib s rows n) (massesAt s MASSES count) (vecAt s input n))
-  unfolding operator
-  operator-1 h = does-stop _ first (Moves out) _ (λ i x. x .0) h
+  module _ {t : List Float} where
+    first : {x : Result (List Generalized)} → Does Shares s t x Pushed
+        → Does Shares s t x (transpose (rowsOn ia ib s (table .place) (table .rows)) (vecAt s input (table .rows)) (length (massesAt s MASSES count)))
+    first d = record { kept = d .kept; is = d .is ∙ ap (transpose (rowsOn ia ib s (table .place) (table .rows)) (vecAt s input (table .rows))) len }
 
-  module _ (h : r ≡ Outcomes.Done) {u : List Float} (q : Outcome) (e : Does Shares t u (ranAs q (generalizedsAt u GENERALIZED count)) (scaleAll (generalizedsAt t GENERALIZED count) (massesAt t MASSES count) count)) where
-    second : Does Shares t u (ranAs q (generalizedsAt u GENERALIZED count)) (scaleAll (generalizedsAt t GENERALIZED count) (massesAt s MASSES count) (length (massesAt s MASSES count)))
-    second = record {
-      kept = e .kept;
-      is = e .is ∙ ap (λ (l : List MassResponse). scaleAll (generalizedsAt t GENERALIZED count) l count) (kept-masses (d .kept) MASSES count (λ i x y. omega arith))
-          ∙ ap (scaleAll (generalizedsAt t GENERALIZED count) (massesAt s MASSES count)) (sym (tab-length count (massAt s MASSES)));
-    }
-
-    pub operator-2 : q ≡ Outcomes.ArithmeticOverflow → Does (Moves out) s u (stop arithmeticOverflow) (operator (rowsOn ia ib s rows n) (massesAt s MASSES count) (vecAt s input n))
+    pub operator-pushes-failed : {f : Fault} → Does Shares s t (stop f) Pushed → Does (Moves out) s t (stop f) Whole
     unfolding operator
-    operator-2 g = does-then _ first (Moves out) (Moves out) _ (λ i x. x .0) (λ i x. x) h (does-stop _ second (Moves out) _ (λ i x. x .0) g)
+    operator-pushes-failed d = does-stop _ (λ i x. x .0) (first d)
 
-    pub operator-3 : q ≡ Outcomes.Done → {w : List Float} {y : Result (List Float)}
-        → Does (λ i. Out out 96 i) u w y (rates (rowsOn ia ib u rows n) n (generalizedsAt u GENERALIZED count))
-        → Does (Moves out) s w y (operator (rowsOn ia ib s rows n) (massesAt s MASSES count) (vecAt s input n))
-    unfolding operator
-    operator-3 g {w} {y} f = does-then _ first (Moves out) (Moves out) _ (λ i x. x .0) (λ i x. x) h (does-then _ second (Moves out) (λ i. Out out 96 i) _ (λ i x. x .0) (λ i x. x .1) g third)
-      where
-        third : Does (λ i. Out out 96 i) u w y (rates (rowsOn ia ib s rows n) (length (rowsOn ia ib s rows n)) (generalizedsAt u GENERALIZED count))
-        third = record {
-          kept = f .kept;
-          is = f .is ∙ ap (λ (l : List EqualityRow). rates l n (generalizedsAt u GENERALIZED count)) (kept-rows (e .kept) ia ib rows n (λ i x y. omega arith) ∙ kept-rows (d .kept) ia ib rows n (λ i x y. omega arith))
-              ∙ ap (λ (m : ℕ). rates (rowsOn ia ib s rows n) m (generalizedsAt u GENERALIZED count)) (sym (tab-length n (rowOn ia ib s rows)));
-        }
+    module _ (d : Does Shares s t (go (sharesIn t count)) Pushed) {u : List Float} where
+      second : {x : Result (List Generalized)} → Does Shares t u x (scaleAll (sharesIn t count) (massesAt t MASSES count) count)
+          → Does Shares t u x (scaleAll (sharesIn t count) (massesAt s MASSES count) (length (massesAt s MASSES count)))
+      second e = record {
+        kept = e .kept;
+        is = e .is ∙ λ j. scaleAll (sharesIn t count) (kept-masses (d .kept) MASSES count (λ i x y. omega (arith, pre .bodies)) j) (len j);
+      }
+
+      pub operator-scales-failed : {f : Fault} → Does Shares t u (stop f) (scaleAll (sharesIn t count) (massesAt t MASSES count) count) → Does (Moves out) s u (stop f) Whole
+      unfolding operator
+      operator-scales-failed e = does-then _ (λ i x. x .0) (λ i x. x) (first d) (does-stop _ (λ i x. x .0) (second e))
+
+      pub operator-rates : Does Shares t u (go (sharesIn u count)) (scaleAll (sharesIn t count) (massesAt t MASSES count) count) → {w : List Float} {y : Result (List Float)}
+          → Does (Beside out) u w y (rates (rowsOn ia ib u (table .place) (table .rows)) (table .rows) (sharesIn u count)) → Does (Moves out) s w y Whole
+      unfolding operator
+      operator-rates e {w} {y} f = does-then _ (λ i x. x .0) (λ i x. x) (first d) (does-then _ (λ i x. x .0) (λ i x. x .1) (second e) third)
+        where
+          kept : rowsOn ia ib u (table .place) (table .rows) ≡ rowsOn ia ib s (table .place) (table .rows)
+          kept = kept-rows (e .kept) ia ib (table .place) (table .rows) (λ i x y. omega (arith, pre .table, pre .most))
+              ∙ kept-rows (d .kept) ia ib (table .place) (table .rows) (λ i x y. omega (arith, pre .table, pre .most))
+
+          third : Does (Beside out) u w y (rates (rowsOn ia ib s (table .place) (table .rows)) (length (rowsOn ia ib s (table .place) (table .rows))) (sharesIn u count))
+          third = record { kept = f .kept; is = f .is ∙ λ j. rates (kept j) (sym (tab-length (table .rows) (rowOn ia ib s (table .place))) j) (sharesIn u count) }
 
 -- cross_mass
 pub through-is : (mass : MassResponse) (al aa bl ba : Vec3) {d e : Float} {w : Vec3} → d ≡ dotOf al bl → w ≡ applyOf (mass .angular) ba → e ≡ dotOf aa w → mass .linear ⊗ d ⊕ e ≡ through mass al aa bl ba

@@ -1,37 +1,42 @@
--- Searches of at most so many passes, each over the scratch: the loop's invariant, its ends, and what stands before it. Least squares and the gradients share them.
+-- Loops of at most so many passes, each over the scratch: by `Reached` the loop, its ends, and what stands before it. Least squares, the gradients
+-- and the refinements share them.
 use Prim.Native.Nat.{ℕ, _+_, _≤_, _<_, _^_}
-use mathlib.Core.Path.{_≡_, refl, sym, _∙_, ap, subst}
+use mathlib.Core.Path.{_≡_, refl, sym, _∙_, ap}
 use mathlib.Core.List.{List}
+use native.Mathlib.Nat.{add-zero}
+use native.Mathlib.Omega.{arith}
 use lib.Ieee.{Float, binary64, ofBits, round}
 use Rattle.arith.specs.Real.{F, ratio, _⊕_, _⊗_}
 use Rattle.arith.specs.Root.{sqrt}
-use Rattle.arith.specs.Flow.{Turn, go, stop, loop}
-use Rattle.arith.specs.FlowLaws.{then-go, then-stop, loop-none, loop-more, loop-stop, loop-end}
-use Rattle.rows.specs.Fault.{Fault, nonConvergent, arithmeticOverflow, Result, try}
+use Rattle.arith.specs.Flow.{Turn, go, stop}
+use Rattle.arith.specs.FlowLaws.{then-go, then-stop}
+use Rattle.arith.specs.Run.{Run, ran, after, _>>=_, _>>_, tick, over, upTo}
+use Rattle.arith.specs.RunLaws.{run-is, Reached, reached-none, reached-again, reached-over, reached-spent}
+use Rattle.rows.specs.Fault.{nonConvergent, arithmeticOverflow, Result}
 use Rattle.rows.specs.View.{Kept}
-use Rattle.rows.specs.Region.{kept-refl, kept-then}
-use Rattle.solves.specs.declared.Step.{Step}
-use Rattle.solves.specs.declared.Step.the-variants as Steps
-use Rattle.solves.specs.Region.{Does}
-use Rattle.solves.specs.Solver.{dot, toleranceFor, Search, Solve, after, spent, search}
+use Rattle.rows.specs.Region.{Over, kept-refl, kept-then}
 use Rattle.solves.specs.declared.End.{End}
 use Rattle.solves.specs.declared.Ended.{Ended}
-use Rattle.solves.specs.Path.{Ending, ended}
-use Rattle.solves.specs.Answer.{passAs, endAs, endedWith, solveAs}
-use Rattle.solves.specs.View.{searchAt}
-
--- before the loop: nothing is counted yet
-pub first-go : {A : Type 0} {x : A} {r : Result A} → go x ≡ r → go x ≡ after 0 (try r)
-first-go e = ap (λ r. after 0 (try r)) e
-
-pub first-stop : {A : Type 0} {f : Fault} {r : Result A} → stop f ≡ r → stop (record { answer = stop f; passes = 0 }) ≡ after 0 (try r)
-first-stop e = ap (λ r. after 0 (try r)) e
+use Rattle.solves.specs.declared.Next.{Next}
+use Rattle.solves.specs.declared.Next.the-variants as Nexts
+use Rattle.solves.specs.declared.Table.{Table}
+use Rattle.solves.specs.declared.search.Which.{Which}
+use Rattle.solves.specs.System.{Counting}
+use Rattle.solves.specs.Region.{vecAt, Does}
+use Rattle.solves.specs.RegionLaws.{kept-vec}
+use Rattle.solves.specs.Solver.{dot, toleranceFor, Search}
+use Rattle.solves.specs.Answer.{ranAs, searchAs, endedAs, endedWith, passOf}
+use Rattle.solves.specs.View.{searchAt, systemOn, Rows, Passing, Work, RHS, SOLUTION, DIAGONAL}
+use Rattle.solves.specs.DoesLaws.{does-eq}
+use Rattle.solves.specs.ViewLaws.{system-kept}
 
 -- scale * (1.0 + dot(rhs, rhs)?.sqrt())
 module _ (scale : Float) (rhs : List Float) where
-  pub tolerance-go : {square root one : Float} → go square ≡ dot rhs rhs → root ≡ sqrt binary64 square → one ≡ ratio 1 1 → go (scale ⊗ (one ⊕ root)) ≡ toleranceFor scale rhs
+  pub tolerance-go : {square root one : Float} → go square ≡ dot rhs rhs → root ≡ sqrt binary64 square → one ≡ ratio 1 1
+      → go (scale ⊗ (one ⊕ root)) ≡ toleranceFor scale rhs
   unfolding toleranceFor
-  tolerance-go {square} {root} {one} e f g = (λ j. go (scale ⊗ (g j ⊕ f j))) ∙ then-go (λ square. go (scale ⊗ (ratio 1 1 ⊕ sqrt binary64 square))) e
+  tolerance-go {square} {root} {one} e f g =
+      (λ j. go (scale ⊗ (g j ⊕ f j))) ∙ then-go (λ square. go (scale ⊗ (ratio 1 1 ⊕ sqrt binary64 square))) e
 
   pub tolerance-stop : stop arithmeticOverflow ≡ dot rhs rhs → stop arithmeticOverflow ≡ toleranceFor scale rhs
   unfolding toleranceFor
@@ -47,37 +52,67 @@ unfolding ofBits round
 tenth-12 = refl
 
 -- an end that the code makes
-pub new-ended : {r : Ended} {e : End} {p m : ℕ} {P : ℕ → Type 0} {s t : List Float} (x : List Float) {d : Ending} → r ≡ endedWith e p → p ≤ m → Does P s t (endAs e p x) d → (Does P s t (solveAs r x) d) × (r .passes ≤ m)
-new-ended {r} {e} {p} {m} {P} {s} {t} x h l d = (
-  record { kept = d .kept; is = ap (λ (q : Ended). solveAs q x) h ∙ d .is },
-  subst (λ (q : Ended). q .passes ≤ m) (sym h) l,
-)
+pub new-ended : {A : Type 0} {r : Ended} {e : End} {k : ℕ} {P : ℕ → Type 0} {s t : List Float} (x : A) {d : Counting A}
+    → r ≡ endedWith e k → Does P s t (endedAs (endedWith e k) x) d → Does P s t (endedAs r x) d
+new-ended x h d = record { kept = d .kept; is = ap (λ (q : Ended). endedAs q x) h ∙ d .is }
 
--- the loop
-pub step-is : {r q : Step} (t : List Float) (n : ℕ) {x : Turn Search (Result (List Float))} → passAs r t n ≡ x → r ≡ q → passAs q t n ≡ x
-step-is t n e h = sym (ap (λ (o : Step). passAs o t n) h) ∙ e
+-- a pass does the same to the system, the right side and the diagonal that the loop began with
+module _ {z : List Float} {ia ib : List ℕ} (table : Table) (pre : Rows z ia ib (table .place) (table .rows) (table .bodies)) where
+  pub passing-system : {s t : List Float} → Kept Passing s t → systemOn ia ib t table ≡ systemOn ia ib s table
+  passing-system k = system-kept ia ib table (λ i x y. omega arith) (pre .table) (pre .most) (pre .bodies) k
 
-module _ (P : ℕ → Type 0) (n : ℕ) (pass : Search → Turn Search (Result (List Float))) (s₀ : List Float) (start : Float) where
-  abbrev turned : ℕ → Search → Turn Search Solve
-  turned k x = after k (pass x)
+  pub work-system : {s t : List Float} → Kept Work s t → systemOn ia ib t table ≡ systemOn ia ib s table
+  work-system k = system-kept ia ib table (λ i x y. omega arith) (pre .table) (pre .most) (pre .bodies) k
 
-  abbrev pub SearchSo : ℕ → List Float → Float → Type 0
-  SearchSo k s rho = Does P s₀ s (go (searchAt s n rho)) (search pass k (searchAt s₀ n start))
+  module _ (which : Which) (tolerance : Float) where
+    abbrev pub PassAt : List Float → Search → Counting (Turn Search (List Float))
+    PassAt s = passOf which (systemOn ia ib s table) (vecAt s RHS (table .rows)) (vecAt s DIAGONAL (table .rows)) tolerance
 
-  pub search-none : SearchSo 0 s₀ start
-  search-none = record { kept = kept-refl P s₀; is = loop-none turned (searchAt s₀ n start) }
+    pub pass-kept : {s t : List Float} → Kept Passing s t → (x : Search) → PassAt t x ≡ PassAt s x
+    pass-kept k x = λ j. passOf which (passing-system k j) (kept-vec k RHS (table .rows) (λ i x y. omega (arith, pre .most)) j)
+        (kept-vec k DIAGONAL (table .rows) (λ i x y. omega (arith, pre .most)) j) tolerance x
 
-  module _ (k : ℕ) {s : List Float} {rho : Float} (inv : SearchSo k s rho) {t : List Float} (r : Step) (d : Does P s t (passAs r t n) (pass (searchAt s n rho))) where
-    pub search-kept : Kept P s₀ t
-    search-kept = kept-then (inv .kept) (d .kept) (λ i q. q)
+-- ---- a loop over the scratch that counts one linear pass a turn: before turn k it stands at s with a. One law for all three.
+module _ {A B : Type 0} (P : ℕ → Type 0) (most : ℕ) (pass : A → Counting (Turn A B)) (s₀ : List Float) (start : A) where
+  pub record Came (k : ℕ) (s : List Float) (a : A) : Type 0 where
+    pub kept : Kept P s₀ s
+    pub reached : Reached most nonConvergent pass start k a 0 k
 
-    pub search-again : {next : Float} → r ≡ Steps.Next next → SearchSo (k + 1) t next
-    search-again e = record { kept = search-kept; is = loop-more turned (searchAt s₀ n start) (inv .is) (ap (after k) (step-is t n (d .is) e)) }
+  abbrev Whole : Counting B
+  Whole = upTo most nonConvergent pass start
 
-    pub search-stops : (most : ℕ) {q : Step} {a : Result (List Float)} → k < most → r ≡ q → stop a ≡ passAs q t n
-        → Does P s₀ t (ended (record { answer = a; passes = k })) (ended (spent most (search pass most (searchAt s₀ n start))))
-    search-stops most h e f = record { kept = search-kept; is = ap (λ x. ended (spent most x)) (loop-stop turned (searchAt s₀ n start) most h (inv .is) (ap (after k) (f ∙ step-is t n (d .is) e))) }
+  pub came-none : Came 0 s₀ start
+  came-none = record { kept = kept-refl P s₀; reached = reached-none most nonConvergent pass start }
 
-  pub search-spent : (most : ℕ) {k : ℕ} {s : List Float} {rho : Float} → SearchSo k s rho → k ≤ most → most ≤ k
-      → Does P s₀ s (ended (record { answer = stop nonConvergent; passes = most })) (ended (spent most (search pass most (searchAt s₀ n start))))
-  search-spent most inv a b = record { kept = inv .kept; is = ap (λ x. ended (spent most x)) (loop-end turned (searchAt s₀ n start) a b (inv .is)) }
+  module _ {k : ℕ} {s : List Float} {a : A} (inv : Came k s a) (h : k < most) {t : List Float} (kept : Kept P s t) where
+    pub came-again : {b : A} → ran (go (go b)) 0 1 ≡ pass a → Came (k + 1) t b
+    came-again e = record { kept = kept-then (inv .kept) kept (λ i q. q); reached = reached-again most nonConvergent pass start (inv .reached) h e }
+
+    pub came-over : {j : ℕ} (r : Result B) → ran (over r) 0 j ≡ pass a → Does P s₀ t (ran r 0 (k + j)) Whole
+    came-over r e = record { kept = kept-then (inv .kept) kept (λ i q. q); is = reached-over most nonConvergent pass start (inv .reached) h r e }
+
+    -- by a turn that counted none
+    pub came-out : (r : Result B) → ran (over r) 0 0 ≡ pass a → Does P s₀ t (ran r 0 k) Whole
+    came-out r e = does-eq (run-is refl (sym (add-zero k))) (came-over r e)
+
+  pub came-spent : {k : ℕ} {s : List Float} {a : A} → Came k s a → most ≤ k → Does P s₀ s (ran (stop nonConvergent) 0 most) Whole
+  came-spent {k} inv h =
+      let same : most ≡ k = omega (arith, inv .reached .turns) in
+      record { kept = inv .kept; is = run-is refl same ∙ reached-spent most nonConvergent pass start (inv .reached) h }
+
+-- ---- both searches: rho goes to the next pass
+module _ (n most : ℕ) (pass : Search → Counting (Turn Search (List Float))) (s₀ : List Float) (start : Float) where
+  abbrev pub Searched : ℕ → List Float → Float → Type 0
+  Searched k s rho = Came Passing most pass s₀ (searchAt s₀ n start) k s (searchAt s n rho)
+
+  module _ {k : ℕ} {s : List Float} {rho : Float} (inv : Searched k s rho) (h : k < most) {t : List Float} (r : Next)
+      (d : Does Passing s t (searchAs r t n) (pass (searchAt s n rho))) where
+    case : {q : Next} → r ≡ q → searchAs q t n ≡ pass (searchAt s n rho)
+    case e = sym (ap (λ (q : Next). searchAs q t n) e) ∙ d .is
+
+    pub search-again : {next : Float} → r ≡ Nexts.Rho next → Searched (k + 1) t next
+    search-again e = came-again Passing most pass s₀ (searchAt s₀ n start) inv h (d .kept) (case e)
+
+    pub search-over : {end : End} → r ≡ Nexts.Over end
+        → Does Passing s₀ t (endedAs (endedWith end k) (vecAt t SOLUTION n)) (upTo most nonConvergent pass (searchAt s₀ n start))
+    search-over {end} e = came-out Passing most pass s₀ (searchAt s₀ n start) inv h (d .kept) (ranAs end (vecAt t SOLUTION n)) (case e)

@@ -1,35 +1,41 @@
 -- The code's answers as the definitions' results.
-use Prim.Native.Nat.{ℕ, _+_, _*_, _≤_}
-use mathlib.Core.Path.{_≡_}
+use Prim.Native.Nat.{ℕ, _+_, _*_}
 use mathlib.Core.Bool.{Bool, true, false, cond}
 use mathlib.Core.List.{List}
 use lib.Ieee.{Float}
 use Rattle.arith.specs.Flow.{Turn, go, stop}
+use Rattle.arith.specs.Run.{ran, over}
+use Rattle.rows.specs.declared.geometry.EqualityRow.{EqualityRow}
 use Rattle.rows.specs.Fault.{nonConvergent, arithmeticOverflow, number, Result}
 use Rattle.solves.specs.declared.Sum.{Sum}
 use Rattle.solves.specs.declared.Sum.the-variants as Sums
-use Rattle.solves.specs.declared.Outcome.{Outcome}
-use Rattle.solves.specs.declared.Outcome.the-variants as Outcomes
-use Rattle.solves.specs.declared.Step.{Step}
-use Rattle.solves.specs.declared.Step.the-variants as Steps
+use Rattle.solves.specs.declared.Part.{Part}
+use Rattle.solves.specs.declared.Part.the-variants as Parts
 use Rattle.solves.specs.declared.End.{End}
 use Rattle.solves.specs.declared.End.the-variants as Ends
+use Rattle.solves.specs.declared.Pass.{Pass}
+use Rattle.solves.specs.declared.Pass.the-variants as Passes
+use Rattle.solves.specs.declared.Next.{Next}
+use Rattle.solves.specs.declared.Next.the-variants as Nexts
 use Rattle.solves.specs.declared.Ended.{Ended}
+use Rattle.solves.specs.declared.Table.{Table}
 use Rattle.solves.specs.declared.places.Generalized.{Generalized}
 use Rattle.solves.specs.declared.operator.Share.{Share}
 use Rattle.solves.specs.declared.operator.Share.the-variants as Shares
-use Rattle.solves.specs.declared.gradients.Test.{Test}
-use Rattle.solves.specs.declared.gradients.Test.the-variants as Tests
-use Rattle.solves.specs.declared.Part.{Part}
-use Rattle.solves.specs.declared.Part.the-variants as Parts
 use Rattle.solves.specs.declared.gradients.Prepared as Rho
 use Rattle.solves.specs.declared.gradients.Prepared.the-variants as Rhos
-use Rattle.solves.specs.Solver.{Search, Prepared, Solve}
+use Rattle.solves.specs.declared.search.Which.{Which}
+use Rattle.solves.specs.declared.search.Which.the-variants as Whichs
 use Rattle.solves.specs.declared.path.PathOrder.{PathOrder}
-use Rattle.solves.specs.Path.{Seen, Ending, declined, ended}
+use Rattle.solves.specs.System.{System, rowsIn, Counting}
+use Rattle.solves.specs.Solver.{Search, Prepared, Tested}
+use Rattle.solves.specs.Path.{Seen}
+use Rattle.solves.specs.Search.{leastPass, gradientPass}
+use Rattle.solves.specs.Lent.{Lent, came, left}
 use Rattle.solves.specs.Region.{vecAt, Does}
-use Rattle.solves.specs.View.{searchAt, preparedAt, orderOf, seenOf, generalizedsAt, Shares, Work, SOLUTION, RESIDUAL, GENERALIZED}
+use Rattle.solves.specs.View.{searchAt, preparedAt, orderOf, seenOf, rowsOn, sharesIn, systemIn, Shares, Work, SOLUTION}
 
+-- ---- the Rust's Result
 abbrev pub sumAs : Sum → Result Float
 sumAs (Sums.Value x) = go x
 sumAs Sums.ArithmeticOverflow = stop arithmeticOverflow
@@ -38,52 +44,65 @@ abbrev pub shareAs : Share → Result Generalized
 shareAs (Shares.Value g) = go g
 shareAs Shares.ArithmeticOverflow = stop arithmeticOverflow
 
--- a run that left x
-abbrev pub ranAs : {A : Type 0} → Outcome → A → Result A
-ranAs Outcomes.Done x = go x
-ranAs Outcomes.ArithmeticOverflow x = stop arithmeticOverflow
+abbrev pub preparedAs : Rho.Prepared → List Float → ℕ → Result Prepared
+preparedAs (Rhos.Rho rho) s n = go (preparedAt s n rho)
+preparedAs Rhos.NonConvergent s n = stop nonConvergent
 
-abbrev pub testAs : Test → Result Bool
-testAs Tests.Within = go true
-testAs Tests.Beyond = go false
-testAs Tests.ArithmeticOverflow = stop arithmeticOverflow
+-- a call that left x
+abbrev pub ranAs : {A : Type 0} → End → A → Result A
+ranAs Ends.Done x = go x
+ranAs Ends.NonConvergent x = stop nonConvergent
+ranAs Ends.ArithmeticOverflow x = stop arithmeticOverflow
 
--- a part of a solve that left x
 abbrev pub partAs : {A : Type 0} → Part → A → Result A
 partAs Parts.Done x = go x
 partAs Parts.NonConvergent x = stop nonConvergent
 partAs Parts.ArithmeticOverflow x = stop arithmeticOverflow
 
-abbrev pub preparedAs : Rho.Prepared → List Float → ℕ → Result Prepared
-preparedAs (Rhos.Rho rho) s n = go (preparedAt s n rho)
-preparedAs Rhos.NonConvergent s n = stop nonConvergent
+abbrev pub isDone : End → Bool
+isDone Ends.Done = true
+isDone Ends.NonConvergent = false
+isDone Ends.ArithmeticOverflow = false
 
--- the true residual at s, or the end of the solve
-abbrev pub trueAs : Test → List Float → ℕ → Turn (List Float) (Result (List Float))
-trueAs Tests.Within s n = stop (go (vecAt s SOLUTION n))
-trueAs Tests.Beyond s n = go (vecAt s RESIDUAL n)
-trueAs Tests.ArithmeticOverflow s n = stop (stop arithmeticOverflow)
+-- ---- passes
+-- a pass that left a for the next, or b
+abbrev pub passAs : {A B : Type 0} → Pass → A → B → Result (Turn A B)
+passAs Passes.Again a b = go (go a)
+passAs (Passes.Over end) a b = over (ranAs end b)
 
--- a pass that left s
-abbrev pub passAs : Step → List Float → ℕ → Turn Search (Result (List Float))
-passAs (Steps.Next rho) s n = go (searchAt s n rho)
-passAs Steps.Solved s n = stop (go (vecAt s SOLUTION n))
-passAs Steps.NonConvergent s n = stop (stop nonConvergent)
-passAs Steps.ArithmeticOverflow s n = stop (stop arithmeticOverflow)
+-- whether a residual is within the tolerance
+abbrev pub testAs : Pass → Result Bool
+testAs Passes.Again = go false
+testAs (Passes.Over end) = ranAs end true
+
+-- the true residual, and whether the solve is done with it
+abbrev pub trueAs : Pass → List Float → Result Tested
+trueAs Passes.Again residual = go (record { residual = residual; solved = false })
+trueAs (Passes.Over end) residual = ranAs end (record { residual = residual; solved = true })
+
+-- a pass of a search that left s, counted where there is to be another
+abbrev pub searchAs : Next → List Float → ℕ → Counting (Turn Search (List Float))
+searchAs (Nexts.Rho rho) s n = ran (go (go (searchAt s n rho))) 0 1
+searchAs (Nexts.Over end) s n = ran (over (ranAs end (vecAt s SOLUTION n))) 0 0
+
+-- the pass of a search, and how many there are at most
+abbrev pub passOf : Which → System → List Float → List Float → Float → Search → Counting (Turn Search (List Float))
+passOf Whichs.LeastSquares system rhs diagonal tolerance = leastPass system tolerance
+passOf Whichs.Gradients system rhs diagonal tolerance = gradientPass system rhs diagonal tolerance
+
+abbrev pub limitOf : Which → ℕ → ℕ
+limitOf Whichs.LeastSquares n = 4 * n + 64
+limitOf Whichs.Gradients n = 2 * n + 32
+
+-- ---- solves
+abbrev pub endedWith : End → ℕ → Ended
+endedWith end linear = record { end = end; linear = linear }
 
 -- a solve that left x for the solution
-abbrev pub endAs : End → ℕ → List Float → Ending
-endAs Ends.Solved passes x = ended (record { answer = go x; passes = passes })
-endAs Ends.Declined passes x = declined
-endAs Ends.NonConvergent passes x = ended (record { answer = stop nonConvergent; passes = passes })
-endAs Ends.ArithmeticOverflow passes x = ended (record { answer = stop arithmeticOverflow; passes = passes })
+abbrev pub endedAs : {A : Type 0} → Ended → A → Counting A
+endedAs r x = ran (ranAs (r .end) x) 0 (r .linear)
 
-abbrev pub endedWith : End → ℕ → Ended
-endedWith end passes = record { end = end; passes = passes }
-
-abbrev pub solveAs : Ended → List Float → Ending
-solveAs r x = endAs (r .end) (r .passes) x
-
+-- ---- the path
 -- the edges that were noted, or declined
 abbrev pub edgesAs : Bool → List ℕ → Turn (List ℕ) (Unit {0})
 edgesAs true edges = go edges
@@ -102,28 +121,23 @@ abbrev pub orderIn : Turn Seen (Unit {0}) → Turn (List ℕ) (Unit {0})
 orderIn (go seen) = go (seen .order)
 orderIn (stop _) = stop tt
 
--- ---- document 01's numbers: 0 where nothing failed, and the fault's number
+-- ---- SPECIFICATION's numbers: 0 where nothing failed, and the fault's number
 abbrev pub resultNumber : {A : Type 0} → Result A → ℕ
 resultNumber (go _) = 0
 resultNumber (stop fault) = number fault
 
-abbrev pub outcomeNumber : Outcome → ℕ
-outcomeNumber Outcomes.Done = 0
-outcomeNumber Outcomes.ArithmeticOverflow = number arithmeticOverflow
+abbrev pub endNumber : End → ℕ
+endNumber Ends.Done = 0
+endNumber Ends.NonConvergent = number nonConvergent
+endNumber Ends.ArithmeticOverflow = number arithmeticOverflow
 
--- `Declined` has none: a linear solve never answers it
-abbrev pub endNumber : End → Turn ℕ (Unit {0})
-endNumber Ends.Solved = go 0
-endNumber Ends.Declined = stop tt
-endNumber Ends.NonConvergent = go (number nonConvergent)
-endNumber Ends.ArithmeticOverflow = go (number arithmeticOverflow)
+-- ---- what the two calls say that the step takes. The number of an answer follows from its equation (DoesLaws `ran-number`).
+-- `transpose`: the bodies' shares of the rows at entry, as f says, or the fault; no more than the shares is touched
+abbrev pub Pushes : Lent Float → Lent ℕ → Lent ℕ → Table → End → (List EqualityRow → Result (List Generalized)) → Type 0
+Pushes s ia ib t r f =
+    Does Shares (came s) (left s) (ranAs r (sharesIn (left s) (t .bodies))) (f (rowsOn (came ia) (came ib) (came s) (t .place) (t .rows)))
 
--- ---- what the two calls say that the step takes; s is the scratch before, t after
--- `transpose` answered r: what it leaves alone (`Shares` says what is free behind that), the shares of `count` bodies or the fault, and the number
-abbrev pub Pushes : List Float → List Float → ℕ → Outcome → Result (List Generalized) → Type 0
-Pushes s t count r shares = (Does Shares s t (ranAs r (generalizedsAt t GENERALIZED count)) shares) × (outcomeNumber r ≡ resultNumber shares)
-
--- `linear_solve` of n rows answered r: what it leaves alone (`Work` says what is free behind that), the solution or the fault with the passes, their limit, and the number
-abbrev pub Solves : List Float → List Float → ℕ → Ended → Solve → Type 0
-Solves s t n r solve =
-    (Does Work s t (solveAs r (vecAt t SOLUTION n)) (ended solve)) × (r .passes ≤ 4 * n + 64) × (endNumber (r .end) ≡ go (resultNumber (solve .answer)))
+-- a linear solve: the system at entry is solved as f says, the solution stands at exit, and no more than `Work` is touched
+abbrev pub Solves : Lent Float → Lent ℕ → Lent ℕ → Table → Ended → (System → Counting (List Float)) → Type 0
+Solves s ia ib t r f =
+    Does Work (came s) (left s) (endedAs r (vecAt (left s) SOLUTION (t .rows))) (f (systemIn s ia ib t))

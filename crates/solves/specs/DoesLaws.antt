@@ -1,26 +1,28 @@
 -- How what functions do composes: `?` after a call, and the frames with it. From an answer's case to the definition's result.
 use Prim.Native.Nat.{ℕ}
-use mathlib.Core.Path.{_≡_, sym, _∙_, ap}
-use mathlib.Core.Bool.{Bool, true, false}
+use mathlib.Core.Path.{_≡_, refl, sym, _∙_, ap}
+use mathlib.Core.Bool.{Bool, true, false, not}
 use mathlib.Core.List.{List}
+use native.Mathlib.Omega.{arith}
 use lib.Ieee.{Float}
 use Rattle.arith.specs.Real.{isFinite}
 use Rattle.arith.specs.Flow.{go, stop, _>>=_, returnIf}
-use Rattle.arith.specs.FlowLaws.{then-go, then-stop}
+use Rattle.arith.specs.FlowLaws.{then-go, then-stop, not-yes, not-no}
+use Rattle.arith.specs.Run.{over}
 use Rattle.vectors.specs.declared.vector.Vec3.{Vec3}
 use Rattle.vectors.specs.Vector.{finiteOf}
-use Rattle.rows.specs.Fault.{Fault, arithmeticOverflow, number, Result, tryFinite, try}
+use Rattle.rows.specs.Fault.{Fault, nonConvergent, arithmeticOverflow, Result, tryFinite}
 use Rattle.rows.specs.Region.{kept-then, kept-more}
 use Rattle.solves.specs.declared.places.Generalized.{Generalized}
 use Rattle.solves.specs.declared.Sum.{Sum}
 use Rattle.solves.specs.declared.Sum.the-variants as Sums
 use Rattle.solves.specs.declared.operator.Share.{Share}
 use Rattle.solves.specs.declared.operator.Share.the-variants as Shares
-use Rattle.solves.specs.declared.Outcome.{Outcome}
-use Rattle.solves.specs.declared.Outcome.the-variants as Outcomes
+use Rattle.solves.specs.declared.End.{End}
+use Rattle.solves.specs.declared.End.the-variants as Ends
 use Rattle.solves.specs.Region.{Does}
 use Rattle.solves.specs.Solver.{tryNumber}
-use Rattle.solves.specs.Answer.{sumAs, shareAs, ranAs, resultNumber}
+use Rattle.solves.specs.Answer.{sumAs, shareAs, ranAs, isDone, endNumber, resultNumber}
 
 -- tests
 pub finite-yes : {v w : Vec3} {b : Bool} → w ≡ v → b ≡ finiteOf w → b ≡ true → go w ≡ tryFinite v
@@ -44,12 +46,6 @@ goes-on {E} e h = ap (λ (x : Bool). returnIf {E = E} x e) (sym h)
 pub returns-if : {E : Type 0} {b : Bool} (e : E) → b ≡ true → stop e ≡ returnIf b e
 returns-if {E} e h = ap (λ (x : Bool). returnIf {E = E} x e) (sym h)
 
-pub try-go : {A B : Type 0} {x : A} {r : Result A} → go x ≡ r → go x ≡ try {B = B} r
-try-go e = ap try e
-
-pub try-stop : {A B : Type 0} {f : Fault} {r : Result A} → stop f ≡ r → stop (stop f) ≡ try {B = B} r
-try-stop e = ap try e
-
 -- an answer's case
 pub share-there : {r : Share} {g : Generalized} {x : Result Generalized} → shareAs r ≡ x → r ≡ Shares.Value g → go g ≡ x
 share-there e h = sym (ap shareAs h) ∙ e
@@ -63,36 +59,71 @@ sum-there e h = sym (ap sumAs h) ∙ e
 pub sum-over : {r : Sum} {x : Result Float} → sumAs r ≡ x → r ≡ Sums.ArithmeticOverflow → stop arithmeticOverflow ≡ x
 sum-over e h = sym (ap sumAs h) ∙ e
 
-module _ {A : Type 0} {P : ℕ → Type 0} {s t : List Float} {r : Outcome} (x : A) {R : Result A} (d : Does P s t (ranAs r x) R) where
-  pub ran-done : r ≡ Outcomes.Done → go x ≡ R
-  ran-done h = sym (ap (λ (o : Outcome). ranAs o x) h) ∙ d .is
+-- ---- how a call ended: what it left, or a fault, which is the same whatever was to be left
+abbrev pub faultOf : End → Fault
+faultOf Ends.Done = nonConvergent
+faultOf Ends.NonConvergent = nonConvergent
+faultOf Ends.ArithmeticOverflow = arithmeticOverflow
 
-  pub ran-over : r ≡ Outcomes.ArithmeticOverflow → stop arithmeticOverflow ≡ R
-  ran-over h = sym (ap (λ (o : Outcome). ranAs o x) h) ∙ d .is
+pub ran-done : {A : Type 0} (x : A) (r : End) → isDone r ≡ true → ranAs r x ≡ go x
+ran-done x Ends.Done h = refl
+ran-done x Ends.NonConvergent h = absurd (let z : _≡_ {A = ℕ} 0 1 = cc in omega arith)
+ran-done x Ends.ArithmeticOverflow h = absurd (let z : _≡_ {A = ℕ} 0 1 = cc in omega arith)
 
-  -- the call failed, and so does the block
-  pub does-stop : {B : Type 0} (Q : ℕ → Type 0) (f : A → Result B) → ((i : ℕ) → Q i → P i) → r ≡ Outcomes.ArithmeticOverflow → Does Q s t (stop arithmeticOverflow) (R >>= f)
-  does-stop Q f w h = record { kept = kept-more (d .kept) w; is = then-stop f (ran-over h) }
+pub ran-failed : {A : Type 0} (x : A) (r : End) → isDone r ≡ false → ranAs r x ≡ stop (faultOf r)
+ran-failed x Ends.Done h = absurd (let z : _≡_ {A = ℕ} 0 1 = cc in omega arith)
+ran-failed x Ends.NonConvergent h = refl
+ran-failed x Ends.ArithmeticOverflow h = refl
+
+-- the number of an answer is its result's
+pub ran-number : {A : Type 0} (x : A) (r : End) {R : Result A} → ranAs r x ≡ R → endNumber r ≡ resultNumber R
+ran-number x r e = here r ∙ ap resultNumber e
+  where
+    here : (r : End) → endNumber r ≡ resultNumber (ranAs r x)
+    here Ends.Done = refl
+    here Ends.NonConvergent = refl
+    here Ends.ArithmeticOverflow = refl
+
+-- the code asked `done`, which answered b
+module _ {A : Type 0} (x : A) (r : End) {b : Bool} (eb : b ≡ isDone r)
+    {P : ℕ → Type 0} {s t : List Float} {R : Result A} (d : Does P s t (ranAs r x) R) where
+  pub went : not b ≡ false → Does P s t (go x) R
+  went h = record { kept = d .kept; is = sym (ran-done x r (sym eb ∙ not-no b h)) ∙ d .is }
+
+  pub failed : not b ≡ true → Does P s t (stop (faultOf r)) R
+  failed h = record { kept = d .kept; is = sym (ran-failed x r (sym eb ∙ not-yes b h)) ∙ d .is }
+
+-- the same fault, in the answer of the caller
+module _ {A : Type 0} (x : A) (r : End) {b : Bool} (eb : b ≡ isDone r) (h : not b ≡ true) where
+  pub fails : ranAs r x ≡ stop (faultOf r)
+  fails = ran-failed x r (sym eb ∙ not-yes b h)
+
+  pub fails-over : {B : Type 0} → over {A = B} (ranAs r x) ≡ stop (faultOf r)
+  fails-over {B} = ap (over {A = B}) fails
+
+-- ---- calls one after the other, each under its frame
+module _ {A B : Type 0} {P Q : ℕ → Type 0} {s t : List Float} {R : Result A} (f : A → Result B) (w : (i : ℕ) → Q i → P i) where
+  -- it failed, and so does the block
+  pub does-stop : {e : Fault} → Does P s t (stop e) R → Does Q s t (stop e) (R >>= f)
+  does-stop d = record { kept = kept-more (d .kept) w; is = then-stop f (d .is) }
 
   -- it went through at t, and the rest goes on from there
-  pub does-then : {B : Type 0} {u : List Float} {y : Result B} (Q T : ℕ → Type 0) (f : A → Result B) → ((i : ℕ) → Q i → P i) → ((i : ℕ) → Q i → T i)
-      → r ≡ Outcomes.Done → Does T t u y (f x) → Does Q s u y (R >>= f)
-  does-then Q T f w v h e = record { kept = kept-then (kept-more (d .kept) w) (e .kept) v; is = e .is ∙ then-go f (ran-done h) }
-
-  pub done : r ≡ Outcomes.Done → Does P s t (go x) R
-  done h = record { kept = d .kept; is = ran-done h }
-
-  pub over : r ≡ Outcomes.ArithmeticOverflow → Does P s t (stop arithmeticOverflow) R
-  over h = record { kept = d .kept; is = ran-over h }
+  pub does-then : {T : ℕ → Type 0} {x : A} {u : List Float} {y : Result B} → ((i : ℕ) → Q i → T i)
+      → Does P s t (go x) R → Does T t u y (f x) → Does Q s u y (R >>= f)
+  does-then v d e = record { kept = kept-then (kept-more (d .kept) w) (e .kept) v; is = e .is ∙ then-go f (d .is) }
 
 -- what a call did, in the case that its answer is q
 pub does-as : {A B : Type 0} {P : ℕ → Type 0} {s t : List Float} (f : B → A) {r q : B} {d : A} → r ≡ q → Does P s t (f r) d → Does P s t (f q) d
 does-as f h e = record { kept = e .kept; is = sym (ap f h) ∙ e .is }
 
--- what a call did, with the number of its answer
-pub done-number : {A : Type 0} {P : ℕ → Type 0} {s t : List Float} {x : A} {d : Result A} → Does P s t (go x) d → (Does P s t (go x) d) × (0 ≡ resultNumber d)
-done-number d = (d, ap resultNumber (d .is))
+-- an answer by another name
+pub does-eq : {A : Type 0} {P : ℕ → Type 0} {s t : List Float} {x y d : A} → x ≡ y → Does P s t y d → Does P s t x d
+does-eq e f = record { kept = f .kept; is = e ∙ f .is }
 
-pub over-number : {A : Type 0} {P : ℕ → Type 0} {s t : List Float} {d : Result A} → Does P s t (stop arithmeticOverflow) d
-    → (Does P s t (stop arithmeticOverflow) d) × (number arithmeticOverflow ≡ resultNumber d)
-over-number d = (d, ap resultNumber (d .is))
+-- under a wider frame
+pub does-more : {A : Type 0} {P Q : ℕ → Type 0} {s t : List Float} {x d : A} → ((i : ℕ) → Q i → P i) → Does P s t x d → Does Q s t x d
+does-more w f = record { kept = kept-more (f .kept) w; is = f .is }
+
+-- a definition by another name
+pub does-is : {A : Type 0} {P : ℕ → Type 0} {s t : List Float} {x d e : A} → Does P s t x d → d ≡ e → Does P s t x e
+does-is f e = record { kept = f .kept; is = f .is ∙ e }

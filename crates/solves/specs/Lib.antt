@@ -1,9 +1,16 @@
--- Definitions that a reader must believe: Solver and Path, after solver.rs. Region and View say where the scratch holds what, Answer how the code's answers are read. The others are laws, for this crate and the step: RegionLaws and ViewLaws of views, DoesLaws of calls one after the other.
+-- Definitions that a reader must believe: System, Solver, Path and Search, after solver.rs. Layout, Lent, Region and View say where the scratch holds
+-- what, Answer how the code's answers are read. The others are laws, for this crate and the step: RegionLaws and ViewLaws of views, DoesLaws of
+-- calls one after the other, LimitLaws of the passes that a solve counts at most.
+pub mod System
 pub mod Solver
 pub mod Path
+pub mod Search
+pub mod Layout
+pub mod Lent
 pub mod Region
 pub mod View
 pub mod Answer
 pub mod RegionLaws
 pub mod DoesLaws
 pub mod ViewLaws
+pub mod LimitLaws

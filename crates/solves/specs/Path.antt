@@ -1,5 +1,5 @@
--- solver.rs, fn path_solve and fn linear_solve. A path's Schur matrix is block tridiagonal once its rows are ordered along the path, and a Cholesky factor of band 12 solves it.
-use Prim.Native.Nat.{ℕ, _+_, _*_, _-_, _^_, min}
+-- solver.rs, fn path_solve up to its refinements. A path's Schur matrix is block tridiagonal once its rows are ordered along the path, and a Cholesky factor of band 12 solves it.
+use Prim.Native.Nat.{ℕ, _+_, _*_, _-_, min}
 use mathlib.Core.List.{List, [], _∷_, _++_}
 use mathlib.Core.Bool.{Bool, true, false, cond, not, _&&_, _||_}
 use lib.Dec.{eqb}
@@ -10,10 +10,11 @@ use Rattle.arith.specs.Real.{_⊕_, _⊖_, _⊗_, _⊘_, ratio, isFinite}
 use Rattle.arith.specs.Root.{sqrt}
 use Rattle.arith.specs.Flow.{Turn, go, stop, _>>=_, turns, loop, tab, each, returnIf}
 use Rattle.rows.specs.declared.geometry.EqualityRow.{EqualityRow}
-use Rattle.rows.specs.Fault.{nonConvergent, Result, try}
+use Rattle.rows.specs.Fault.{nonConvergent, Result}
 use Rattle.rows.specs.View.{at}
 use Rattle.solves.specs.declared.places.MassResponse.{MassResponse}
-use Rattle.solves.specs.Solver.{rowIn, operator, crossMass, difference, within, toleranceFor, Solve, after, spent, leastSquares, gradients}
+use Rattle.solves.specs.System.{System, rowsIn}
+use Rattle.solves.specs.Solver.{rowIn, operator, crossMass, difference}
 
 -- l[i]
 abbrev pub index : List ℕ → ℕ → ℕ
@@ -198,55 +199,16 @@ module _ (n : ℕ) (order : List ℕ) (scale band : List Float) where
   unfoldable pub backward : List Float → List Float → List Float
   backward y solution = turns backwardTurn n (record { y = y; solution = solution }) .solution
 
--- ---- fn path_solve
+-- ---- fn path_solve: one refinement
 pub record Refined : Type 0 where
   pub solution : List Float
   pub residual : List Float
 
 -- the factor's solution of the residual, added to the solution, and the residual again
-unfoldable pub refine : List EqualityRow → List MassResponse → List Float → ℕ → List ℕ → Factor → Refined → Result Refined
-refine rows masses rhs n order factor s =
+unfoldable pub refine : System → List Float → List ℕ → Factor → Refined → Result Refined
+refine system rhs order factor s =
+    let n : ℕ = rowsIn system in
     let y : List Float = forward n order (factor .scale) (factor .band) (s .residual) in
     let solution : List Float = backward n order (factor .scale) (factor .band) y (s .solution) in do
-      product ← operator rows masses solution
+      product ← operator system solution
       go (record { solution = solution; residual = difference rhs product })
-
--- the refinement numbered k, counted once its residual is known
-unfoldable pub refinement : List EqualityRow → List MassResponse → List Float → ℕ → List ℕ → Factor → Float → ℕ → Refined → Turn Refined Solve
-refinement rows masses rhs n order factor tolerance k s = do
-  s ← after k (try (refine rows masses rhs n order factor s))
-  near ← after (k + 1) (try (within (s .residual) tolerance))
-  _ ← returnIf near (record { answer = go (s .solution); passes = k + 1 })
-  go s
-
--- Ok(false), or how the solve ended
-pub data Ending : Type 0 where
-  declined : Ending
-  ended : Solve → Ending
-
-unfoldable pub pathAlong : List EqualityRow → List MassResponse → List Float → List Float → List ℕ → Solve
-pathAlong rows masses rhs solution order =
-    let n : ℕ = length rows in spent 4 do
-      factor ← after 0 (try (pathFactored rows masses order n))
-      tolerance ← after 0 (try (toleranceFor (ratio 1 (10 ^ 12)) rhs))
-      loop 4 (refinement rows masses rhs n order factor tolerance) (record { solution = solution; residual = rhs })
-
-abbrev pub pathOn : Turn (List ℕ) (Unit {0}) → (List ℕ → Solve) → Ending
-pathOn (go order) along = ended (along order)
-pathOn (stop _) along = declined
-
-unfoldable pub pathSolve : List EqualityRow → List MassResponse → List Float → List Float → Ending
-pathSolve rows masses rhs solution =
-    pathOn (pathOrder (tab (length rows) (λ k. rowIn rows k .a)) (tab (length rows) (λ k. rowIn rows k .b)) (length rows))
-    (pathAlong rows masses rhs solution)
-
--- ---- fn linear_solve: from a solution of zeros, with the right side as residual
-abbrev pub orElse : Ending → Solve → Solve
-orElse declined other = other
-orElse (ended solve) other = solve
-
-unfoldable pub linearSolve : Bool → List EqualityRow → List MassResponse → List Float → Solve
-linearSolve cyclic rows masses rhs =
-    let zeros : List Float = replicate (length rows) (ratio 0 1) in
-    cond cyclic (leastSquares rows masses rhs zeros rhs)
-    (orElse (pathSolve rows masses rhs zeros) (gradients rows masses rhs zeros rhs))

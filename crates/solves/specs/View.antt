@@ -1,4 +1,4 @@
--- Where the scratch keeps what: only this file has places. Reads of the scratch as plain values, and what a write leaves alone.
+-- Reads of the scratch as plain values, and what a write leaves alone. The places are those of Layout.
 use Prim.Native.Nat.{ℕ, zero, suc, _+_, _*_, _-_, _≤_, _<_, min}
 use mathlib.Core.Path.{_≡_}
 use mathlib.Core.Bool.{Bool, false, cond}
@@ -15,64 +15,14 @@ use Rattle.solves.specs.declared.places.MassResponse.{MassResponse}
 use Rattle.solves.specs.declared.path.Blocks.{Blocks}
 use Rattle.solves.specs.declared.path.Order.{Order}
 use Rattle.solves.specs.declared.path.PathOrder.{PathOrder}
+use Rattle.solves.specs.declared.Table.{Table}
+pub use Rattle.solves.specs.Layout.{ROWS-MOST, BODIES-MOST, VECTOR, SHARES, BAND, START-ROWS, ROWS, MASSES, RHS, SOLUTION, RESIDUAL, DIRECTION}
+pub use Rattle.solves.specs.Layout.{PRODUCT, DIAGONAL, NORMAL, GENERALIZED, PATH-BAND, PATH-SCALE, PATH-RHS, END}
+use Rattle.solves.specs.Lent.{Slice, Lent, came}
 use Rattle.solves.specs.Region.{vecAt}
+use Rattle.solves.specs.System.{System}
 use Rattle.solves.specs.Solver.{Search, Prepared}
 use Rattle.solves.specs.Path.{none, Seen, Factor, Refined}
-
--- the places: as src/layout.rt
-abbrev pub START-ROWS : ℕ
-START-ROWS = 0
-
-abbrev pub ROWS : ℕ
-ROWS = 1344
-
-abbrev pub MASSES : ℕ
-MASSES = 2688
-
-abbrev pub IMPULSES : ℕ
-IMPULSES = 2848
-
-abbrev pub RHS : ℕ
-RHS = 2944
-
-abbrev pub SOLUTION : ℕ
-SOLUTION = 3040
-
-abbrev pub RESIDUAL : ℕ
-RESIDUAL = 3136
-
-abbrev pub DIRECTION : ℕ
-DIRECTION = 3232
-
-abbrev pub PRODUCT : ℕ
-PRODUCT = 3328
-
-abbrev pub DIAGONAL : ℕ
-DIAGONAL = 3424
-
-abbrev pub NORMAL : ℕ
-NORMAL = 3520
-
-abbrev pub GENERALIZED : ℕ
-GENERALIZED = 3616
-
-abbrev pub PATH-BAND : ℕ
-PATH-BAND = 3712
-
-abbrev pub PATH-SCALE : ℕ
-PATH-SCALE = 4864
-
-abbrev pub PATH-RHS : ℕ
-PATH-RHS = 4960
-
-abbrev pub START : ℕ
-START = 5056
-
-abbrev pub CANDIDATE : ℕ
-CANDIDATE = 5472
-
-abbrev pub END : ℕ
-END = 5680
 
 -- a row is 14 doubles at off + 14 k, and its bodies are in two lists beside the scratch
 abbrev pub rowOn : List ℕ → List ℕ → List Float → ℕ → ℕ → EqualityRow
@@ -87,6 +37,10 @@ generalizedAt s off i = record { linear = vec3At s (off + 6 * i); angular = vec3
 abbrev pub generalizedsAt : List Float → ℕ → ℕ → List Generalized
 generalizedsAt s off m = tab m (generalizedAt s off)
 
+-- the bodies' shares, where `transpose` leaves them
+abbrev pub sharesIn : List Float → ℕ → List Generalized
+sharesIn s bodies = generalizedsAt s GENERALIZED bodies
+
 abbrev pub massOf : Float → Vec3 → Vec3 → Vec3 → MassResponse
 massOf linear x y z = record { linear = linear; angular = fromCols x y z }
 
@@ -96,59 +50,110 @@ massAt s off i = massOf (at s (off + 10 * i)) (vec3At s (off + 10 * i + 1)) (vec
 abbrev pub massesAt : List Float → ℕ → ℕ → List MassResponse
 massesAt s off m = tab m (massAt s off)
 
+-- the system that stands in a table of rows
+abbrev pub systemOn : List ℕ → List ℕ → List Float → Table → System
+systemOn ia ib s t = record { rows = rowsOn ia ib s (t .place) (t .rows); masses = massesAt s MASSES (t .bodies) }
+
+-- the same at entry, and the right side, the diagonal and the solution
+abbrev pub systemIn : Lent Float → Lent ℕ → Lent ℕ → Table → System
+systemIn s ia ib t = systemOn (came ia) (came ib) (came s) t
+
+abbrev pub rhsOn : Lent Float → Table → List Float
+rhsOn s t = vecAt (came s) RHS (t .rows)
+
+abbrev pub diagonalOn : Lent Float → Table → List Float
+diagonalOn s t = vecAt (came s) DIAGONAL (t .rows)
+
+abbrev pub solutionOn : Lent Float → Table → List Float
+solutionOn s t = vecAt (came s) SOLUTION (t .rows)
+
+abbrev pub residualOn : Lent Float → Table → List Float
+residualOn s t = vecAt (came s) RESIDUAL (t .rows)
+
 abbrev pub searchAt : List Float → ℕ → Float → Search
-searchAt s n rho = record { solution = vecAt s SOLUTION n; residual = vecAt s RESIDUAL n; direction = vecAt s DIRECTION n; rho = rho }
+searchAt s n rho = record {
+  solution = vecAt s SOLUTION n;
+  residual = vecAt s RESIDUAL n;
+  direction = vecAt s DIRECTION n;
+  rho = rho;
+}
+
+abbrev pub searchOn : Lent Float → Table → Float → Search
+searchOn s t rho = searchAt (came s) (t .rows) rho
 
 abbrev pub preparedAt : List Float → ℕ → Float → Prepared
 preparedAt s n rho = record { diagonal = vecAt s DIAGONAL n; direction = vecAt s DIRECTION n; rho = rho }
 
 -- ---- what a call may write, and what it leaves free there
--- No caller can see what is free: every call writes a table before it reads it, the step reads of a solution only the first n of one that was found and of the
--- shares only the first `count` that a transpose made, and it sets the whole scratch to zero before it answers.
--- Outside of the bodies' shares. A transpose leaves free: the shares behind the first `count` and, where it overflows, all of them.
+-- No caller can see what is free: every call writes a table before it reads it, the step reads of a solution only the first n of one that was
+-- found and of the shares only those of its bodies that a transpose made, and it sets the whole scratch to zero before it answers.
+-- Outside of one vector, and of the bodies' shares. A transpose leaves free: the shares behind the last body and, where it overflows, all.
+abbrev pub Beside : ℕ → ℕ → Type 0
+Beside off i = Out off VECTOR i
+
 abbrev pub Shares : ℕ → Type 0
-Shares i = Out GENERALIZED 96 i
+Shares i = Out GENERALIZED SHARES i
 
--- outside of what a pass of the gradients writes: the vectors from the solution to before the diagonal, and the shares
+-- outside of what an application of the operator writes: the shares and the product
+abbrev pub Moves : ℕ → ℕ → Type 0
+Moves out i = (Shares i) × (Beside out i)
+
+-- outside of what a pass of a search writes: the vectors from the solution to before the diagonal, the normal, and the shares
 abbrev pub Passing : ℕ → Type 0
-Passing i = (Out SOLUTION (DIAGONAL - SOLUTION) i) × (Shares i)
+Passing i = (Out SOLUTION (DIAGONAL - SOLUTION) i) × (Out NORMAL (PATH-BAND - NORMAL) i)
 
--- Outside of the solution and of the tables that a linear solve works in, which lie behind it one after the other: residual, direction, product, diagonal, normal,
--- the bodies' shares, and the path's band, scale and right side (`Tables`, by name). A linear solve leaves free: those tables, the solution behind its first n
--- and, where it fails, all of the solution.
+-- outside of what stands before the gradients, and of what the true residual writes
+abbrev pub Preparing : ℕ → Type 0
+Preparing i = (Beside DIAGONAL i) × (Beside DIRECTION i)
+
+abbrev pub Testing : ℕ → Type 0
+Testing i = (Shares i) × (Beside PRODUCT i) × (Beside RESIDUAL i)
+
+-- Outside of the solution and of the tables that a linear solve works in, which lie behind it one after the other: residual, direction, product,
+-- diagonal, normal, the bodies' shares, and the path's band, scale and right side (`Tables`, by name). A linear solve leaves free: those tables,
+-- the solution behind its first n and, where it fails, all of the solution.
 abbrev pub Work : ℕ → Type 0
-Work i = Out SOLUTION (START - SOLUTION) i
+Work i = Out SOLUTION (END - SOLUTION) i
 
 -- i is in none of them, by name: the same as `Work` (ViewLaws `work-tables`, `tables-work`)
 pub record Tables (i : ℕ) : Type 0 where
-  pub solution : Out SOLUTION 96 i
-  pub residual : Out RESIDUAL 96 i
-  pub direction : Out DIRECTION 96 i
-  pub product : Out PRODUCT 96 i
-  pub diagonal : Out DIAGONAL 96 i
-  pub normal : Out NORMAL 96 i
-  pub shares : Out GENERALIZED 96 i
-  pub band : Out PATH-BAND 1152 i
-  pub scale : Out PATH-SCALE 96 i
-  pub side : Out PATH-RHS 96 i
+  pub solution : Beside SOLUTION i
+  pub residual : Beside RESIDUAL i
+  pub direction : Beside DIRECTION i
+  pub product : Beside PRODUCT i
+  pub diagonal : Beside DIAGONAL i
+  pub normal : Beside NORMAL i
+  pub shares : Shares i
+  pub band : Out PATH-BAND BAND i
+  pub scale : Beside PATH-SCALE i
+  pub side : Beside PATH-RHS i
 
 -- n rows in one of the two tables, on bodies below count
 pub record Rows (s : List Float) (ia ib : List ℕ) (rows n count : ℕ) : Type 0 where
   pub whole : END ≤ length s
   pub table : rows ≤ ROWS
-  pub most : n ≤ 96
-  pub bodies : count ≤ 16
+  pub most : n ≤ ROWS-MOST
+  pub bodies : count ≤ BODIES-MOST
   pub a-there : (k : ℕ) → k < n → getD ia k 0 < count
   pub b-there : (k : ℕ) → k < n → getD ib k 0 < count
 
--- a vector's place, among the vectors
-pub record Place (off : ℕ) : Type 0 where
-  pub low : IMPULSES ≤ off
-  pub high : off + 96 ≤ GENERALIZED
+-- what every solve requires
+abbrev pub Ready : Slice Float → Slice ℕ → Slice ℕ → Table → Type 0
+Ready s ia ib t = Rows (s .now) (ia .now) (ib .now) (t .place) (t .rows) (t .bodies)
 
--- two vectors' places do not meet
-abbrev pub Apart : ℕ → ℕ → Type 0
-Apart a b = min (a + 96 - b) (b + 96 - a) ≡ 0
+-- a vector's place: behind rows and masses, and apart from the bodies' shares
+pub record Place (s : List Float) (off : ℕ) : Type 0 where
+  pub low : RHS ≤ off
+  pub apart : min (off + VECTOR - GENERALIZED) (GENERALIZED + SHARES - off) ≡ 0
+  pub there : off + VECTOR ≤ length s
+
+-- what stands at `from` is read before a loop over `to` writes there
+abbrev pub Ahead : ℕ → ℕ → Type 0
+Ahead to from = min (to - from) (from + VECTOR - to) ≡ 0
+
+-- a loop over n doubles can write a vector from another
+abbrev pub Onto : Slice Float → ℕ → ℕ → ℕ → Type 0
+Onto s n to from = (n ≤ ROWS-MOST) × (to + VECTOR ≤ length (s .now)) × (from + VECTOR ≤ length (s .now)) × (Ahead to from)
 
 -- ---- the path's integers, in arrays beside the scratch
 -- the first n of an array
@@ -228,9 +233,13 @@ factorAt s n = record { scale = vecAt s PATH-SCALE n; band = bandAt s n }
 abbrev pub refinedAt : List Float → ℕ → Refined
 refinedAt s n = record { solution = vecAt s SOLUTION n; residual = vecAt s RESIDUAL n }
 
+-- an order of the rows, from an array
+abbrev pub orderOn : Lent ℕ → Table → List ℕ
+orderOn order t = listAt (came order) (t .rows)
+
 -- outside of what the factor and a refinement write
 abbrev pub Factoring : ℕ → Type 0
-Factoring i = (Out PATH-BAND 1152 i) × (Out PATH-SCALE 96 i)
+Factoring i = (Out PATH-BAND BAND i) × (Beside PATH-SCALE i)
 
 abbrev pub Refining : ℕ → Type 0
-Refining i = (Passing i) × (Out PATH-RHS 96 i)
+Refining i = (Passing i) × (Beside PATH-RHS i)

@@ -13,9 +13,11 @@ use Rattle.rows.specs.View.{at, Out, Kept}
 use Rattle.rows.specs.Region.{tab-ext, tab-at, is-tab, tab-set, tab-more, Over, kept-vec3, kept-row}
 use Rattle.solves.specs.declared.places.Generalized.{Generalized}
 use Rattle.solves.specs.declared.places.MassResponse.{MassResponse}
+use Rattle.solves.specs.declared.Table.{Table}
 use Rattle.solves.specs.Region.{Filled}
 use Rattle.solves.specs.Solver.{noShare, noRow, noGeneralized, noMass, rowIn, generalizedIn, massIn}
-use Rattle.solves.specs.View.{rowOn, rowsOn, generalizedAt, generalizedsAt, massAt, massesAt, Work, Tables, SOLUTION, RESIDUAL, DIRECTION, PRODUCT, DIAGONAL, NORMAL, GENERALIZED, PATH-BAND, PATH-SCALE}
+use Rattle.solves.specs.View.{rowOn, rowsOn, generalizedAt, generalizedsAt, massAt, massesAt, systemOn, Beside, Moves, Passing, Testing, Refining, Work, Tables, ROWS, RHS, ROWS-MOST, BODIES-MOST, MASSES, SOLUTION}
+use Rattle.solves.specs.View.{RESIDUAL, DIRECTION, PRODUCT, DIAGONAL, NORMAL, GENERALIZED, PATH-BAND, PATH-SCALE, PATH-RHS, VECTOR, SHARES, BAND, END}
 
 -- views that a write keeps, and elements of them
 module _ {P : ℕ → Type 0} {s t : List Float} (kept : Kept P s t) where
@@ -80,6 +82,37 @@ shares-none {s} {t} off m e = sym (is-tab m (generalizedAt t off) noShare (repli
       angular = record { x = zeroed k (off + 6 * k + 3) h (omega arith) (omega arith) j; y = zeroed k (off + 6 * k + 3 + 1) h (omega arith) (omega arith) j; z = zeroed k (off + 6 * k + 3 + 2) h (omega arith) (omega arith) j };
     }
 
+-- ---- frames within frames
+pub out-within : (a n b m i : ℕ) → a ≤ b → b + m ≤ a + n → Out a n i → Out b m i
+out-within a n b m i h l x = omega arith
+
+-- what a pass writes: a vector before the diagonal, the normal, and the shares
+pub passing-vector : (off : ℕ) → SOLUTION ≤ off → off + VECTOR ≤ DIAGONAL → (i : ℕ) → Passing i → Beside off i
+passing-vector off h l i x = out-within SOLUTION (DIAGONAL - SOLUTION) off VECTOR i h (omega arith) (x .0)
+
+pub passing-moves : (off : ℕ) → SOLUTION ≤ off → off + VECTOR ≤ DIAGONAL → (i : ℕ) → Passing i → Moves off i
+passing-moves off h l i x = (out-within NORMAL (PATH-BAND - NORMAL) GENERALIZED SHARES i (omega arith) (omega arith) (x .1), passing-vector off h l i x)
+
+pub passing-normal : (i : ℕ) → Passing i → Moves NORMAL i
+passing-normal i x = (
+  out-within NORMAL (PATH-BAND - NORMAL) GENERALIZED SHARES i (omega arith) (omega arith) (x .1),
+  out-within NORMAL (PATH-BAND - NORMAL) NORMAL VECTOR i (omega arith) (omega arith) (x .1),
+)
+
+pub passing-testing : (i : ℕ) → Passing i → Testing i
+passing-testing i x =
+    let moves = passing-moves PRODUCT (omega arith) (omega arith) i x in
+    (moves .0, moves .1, passing-vector RESIDUAL (omega arith) (omega arith) i x)
+
+pub passing-work : (i : ℕ) → Work i → Passing i
+passing-work i x = (
+  out-within SOLUTION (END - SOLUTION) SOLUTION (DIAGONAL - SOLUTION) i (omega arith) (omega arith) x,
+  out-within SOLUTION (END - SOLUTION) NORMAL (PATH-BAND - NORMAL) i (omega arith) (omega arith) x,
+)
+
+pub refining-work : (i : ℕ) → Work i → Refining i
+refining-work i x = (passing-work i x, out-within SOLUTION (END - SOLUTION) PATH-RHS VECTOR i (omega arith) (omega arith) x)
+
 -- what a linear solve may write are its ten tables
 pub work-tables : (i : ℕ) → Work i → Tables i
 work-tables i w = record {
@@ -117,11 +150,20 @@ out-join a m n i p q = by (decLt i a)
 
 pub tables-work : (i : ℕ) → Tables i → Work i
 tables-work i t =
-    out-join SOLUTION 96 1920 i (t .solution)
-    (out-join RESIDUAL 96 1824 i (t .residual)
-    (out-join DIRECTION 96 1728 i (t .direction)
-    (out-join PRODUCT 96 1632 i (t .product)
-    (out-join DIAGONAL 96 1536 i (t .diagonal)
-    (out-join NORMAL 96 1440 i (t .normal)
-    (out-join GENERALIZED 96 1344 i (t .shares)
-    (out-join PATH-BAND 1152 192 i (t .band) (out-join PATH-SCALE 96 96 i (t .scale) (t .side)))))))))
+    out-join SOLUTION VECTOR (END - RESIDUAL) i (t .solution)
+    (out-join RESIDUAL VECTOR (END - DIRECTION) i (t .residual)
+    (out-join DIRECTION VECTOR (END - PRODUCT) i (t .direction)
+    (out-join PRODUCT VECTOR (END - DIAGONAL) i (t .product)
+    (out-join DIAGONAL VECTOR (END - NORMAL) i (t .diagonal)
+    (out-join NORMAL VECTOR (END - GENERALIZED) i (t .normal)
+    (out-join GENERALIZED SHARES (END - PATH-BAND) i (t .shares)
+    (out-join PATH-BAND BAND (END - PATH-SCALE) i (t .band)
+    (out-join PATH-SCALE VECTOR (END - PATH-RHS) i (t .scale) (t .side)))))))))
+
+-- what a solve leaves of the system that it began with
+pub system-kept : {P : ℕ → Type 0} {s t : List Float} (ia ib : List ℕ) (table : Table) → Over P 0 RHS → table .place ≤ ROWS → table .rows ≤ ROWS-MOST
+    → table .bodies ≤ BODIES-MOST → Kept P s t → systemOn ia ib t table ≡ systemOn ia ib s table
+system-kept ia ib table w place rows bodies k = λ j. record {
+  rows = kept-rows k ia ib (table .place) (table .rows) (λ i x y. w i (omega arith) (omega arith)) j;
+  masses = kept-masses k MASSES (table .bodies) (λ i x y. w i (omega arith) (omega arith)) j;
+}

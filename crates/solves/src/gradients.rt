@@ -1,10 +1,11 @@
 // The diagonal-scaled conjugate gradients at the end of `linear_solve` in solver.rs.
 use crate::End;
 use crate::Ended;
-use crate::Outcome;
-use crate::Part;
-use crate::Step;
+use crate::Next;
+use crate::Pass;
 use crate::Sum;
+use crate::Table;
+use crate::done;
 use crate::layout::DIAGONAL;
 use crate::layout::DIRECTION;
 use crate::layout::MASSES;
@@ -18,6 +19,8 @@ use crate::operator::tolerance_for;
 use crate::places::MassResponse;
 use crate::places::load_mass;
 use crate::places::load_row;
+use crate::search::Which;
+use crate::search::search;
 use crate::values::add_scaled;
 use crate::values::difference;
 use crate::values::sub_scaled;
@@ -25,22 +28,15 @@ use arith::number::is_finite;
 use arith::root::sqrt;
 use rows::geometry::EqualityRow;
 ghost use mathlib.Core.Path.{_≡_};
-ghost use Prim.Native.Nat.{_+_, _*_, _≤_};
+ghost use Prim.Native.Nat.{_+_, _≤_};
 ghost use lib.ListN.{length};
-ghost use Rattle.rows.specs.Fault.{try};
-ghost use Rattle.rows.specs.View.{Out};
-ghost use Rattle.solves.specs.Solver.{within, diagonalOf, prepare as prepareOf, trueResidual, scaledSquare, nextDirection, advance as advanceOf, settle as settleOf, gradientPass, gradients as gradientsOf, spent, search};
-ghost use Rattle.solves.specs.Path.{ended};
-ghost use Rattle.solves.specs.Answer.{testAs, partAs, preparedAs, trueAs, passAs, solveAs};
+ghost use Rattle.solves.specs.Solver.{within, diagonalOf, prepare as prepareOf, trueResidual, scaledSquare, nextDirection, advance as advanceOf};
+ghost use Rattle.solves.specs.Search.{settle as settleOf, gradientPass, gradients as gradientsOf};
+ghost use Rattle.solves.specs.Answer.{ranAs, testAs, preparedAs, trueAs, searchAs, Solves};
+ghost use Rattle.solves.specs.Lent.{came, left};
 ghost use Rattle.solves.specs.Region.{vecAt, Does};
-ghost use Rattle.solves.specs.View.{rowsOn, massesAt, searchAt, Rows, Shares, Passing, Work, MASSES, RHS, SOLUTION, RESIDUAL, DIRECTION, PRODUCT, DIAGONAL, END};
-
-// Whether a length is within the tolerance.
-pub(crate) enum Test {
-    Within,
-    Beyond,
-    ArithmeticOverflow,
-}
+ghost use Rattle.solves.specs.View.{searchAt, systemIn, rhsOn, diagonalOn, solutionOn, residualOn, searchOn, Ready, Passing, Preparing, Testing, Beside};
+ghost use Rattle.solves.specs.View.{ROWS-MOST, RESIDUAL, DIRECTION, DIAGONAL, END};
 
 // rho, once every entry of the diagonal is above zero.
 pub(crate) enum Prepared {
@@ -48,17 +44,18 @@ pub(crate) enum Prepared {
     NonConvergent,
 }
 
-pub(crate) fn residual_test(s: &[f64], n: usize, tolerance: f64) -> Test
-    requires { ⌜ (END ≤ length (now s)) × (n ≤ 96) ⌝ }
-    ensures { λ r. ⌜ testAs r ≡ within (vecAt (now (s .entry)) RESIDUAL n) tolerance ⌝ }
+// Over where the residual is within the tolerance.
+pub(crate) fn residual_test(s: &[f64], n: usize, tolerance: f64) -> Pass
+    requires { ⌜ (END ≤ length (now s)) × (n ≤ ROWS-MOST) ⌝ }
+    ensures { λ r. ⌜ testAs r ≡ within (vecAt (came s) RESIDUAL n) tolerance ⌝ }
 {
     let Sum::Value(square) = dot(s, RESIDUAL, RESIDUAL, n) else {
-        return Test::ArithmeticOverflow;
+        return Pass::Over(End::ArithmeticOverflow);
     };
     if sqrt(square) <= tolerance {
-        return Test::Within;
+        return Pass::Over(End::Done);
     }
-    Test::Beyond
+    Pass::Again
 }
 
 // A row's own entry of the Schur matrix: a's half, then b's.
@@ -72,20 +69,14 @@ fn diagonal_entry(row: EqualityRow, ma: MassResponse, mb: MassResponse) -> f64
 }
 
 // The diagonal, the first direction, and rho.
-fn prepare(
-    s: &mut [f64],
-    ia: &[usize; 96],
-    ib: &[usize; 96],
-    rows: usize,
-    n: usize,
-    count: usize,
-) -> Prepared
-    requires { ⌜ Rows (now s) (now ia) (now ib) rows n count ⌝ }
-    ensures { λ r. ⌜ Does (λ i. (Out DIAGONAL 96 i) × (Out DIRECTION 96 i)) (now (s .entry)) (now (s .exit)) (preparedAs r (now (s .exit)) n) (prepareOf (rowsOn (now (ia .entry)) (now (ib .entry)) (now (s .entry)) rows n) (massesAt (now (s .entry)) MASSES count) (vecAt (now (s .entry)) RESIDUAL n)) ⌝ }
+fn prepare(s: &mut [f64], ia: &[usize; 96], ib: &[usize; 96], t: Table) -> Prepared
+    requires { ⌜ Ready s ia ib t ⌝ }
+    ensures { λ r. ⌜ Does Preparing (came s) (left s) (preparedAs r (left s) (t .rows)) (prepareOf (systemIn s ia ib t) (residualOn s t)) ⌝ }
 {
+    let n = t.rows;
     let mut rho = 0.0;
     for k in 0..n {
-        let row = load_row(s, ia, ib, rows, k);
+        let row = load_row(s, ia, ib, t.place, k);
         let ma = load_mass(s, MASSES, row.a);
         let mb = load_mass(s, MASSES, row.b);
         let d = diagonal_entry(row, ma, mb);
@@ -106,8 +97,8 @@ fn prepare(
 
 // The sum of r * r / d over the residual and the diagonal.
 fn scaled_square(s: &[f64], n: usize) -> f64
-    requires { ⌜ (END ≤ length (now s)) × (n ≤ 96) ⌝ }
-    ensures { λ r. ⌜ r ≡ scaledSquare (vecAt (now (s .entry)) RESIDUAL n) (vecAt (now (s .entry)) DIAGONAL n) ⌝ }
+    requires { ⌜ (END ≤ length (now s)) × (n ≤ ROWS-MOST) ⌝ }
+    ensures { λ r. ⌜ r ≡ scaledSquare (vecAt (came s) RESIDUAL n) (vecAt (came s) DIAGONAL n) ⌝ }
 {
     let mut total = 0.0;
     for k in 0..n {
@@ -118,78 +109,63 @@ fn scaled_square(s: &[f64], n: usize) -> f64
 }
 
 fn next_direction(s: &mut [f64], beta: f64, n: usize)
-    requires { ⌜ (END ≤ length (now s)) × (n ≤ 96) ⌝ }
-    ensures { λ _. ⌜ Does (Out DIRECTION 96) (now (s .entry)) (now (s .exit)) (vecAt (now (s .exit)) DIRECTION n) (nextDirection (vecAt (now (s .entry)) RESIDUAL n) (vecAt (now (s .entry)) DIAGONAL n) beta (vecAt (now (s .entry)) DIRECTION n)) ⌝ }
+    requires { ⌜ (END ≤ length (now s)) × (n ≤ ROWS-MOST) ⌝ }
+    ensures { λ _. ⌜ Does (Beside DIRECTION) (came s) (left s) (vecAt (left s) DIRECTION n) (nextDirection (vecAt (came s) RESIDUAL n) (vecAt (came s) DIAGONAL n) beta (vecAt (came s) DIRECTION n)) ⌝ }
 {
     for k in 0..n {
         s[DIRECTION + k] = s[RESIDUAL + k] / s[DIAGONAL + k] + beta * s[DIRECTION + k];
     }
 }
 
-// Recomputes the residual, to prevent a success of the recurrence only.
+// Recomputes the residual, to prevent a success of the recurrence only. Over where it is within the tolerance still.
 fn true_residual(
     s: &mut [f64],
     ia: &[usize; 96],
     ib: &[usize; 96],
-    rows: usize,
-    n: usize,
-    count: usize,
+    t: Table,
     tolerance: f64,
-) -> Test
-    requires { ⌜ Rows (now s) (now ia) (now ib) rows n count ⌝ }
-    ensures { λ r. ⌜ Does (λ i. (Shares i) × (Out PRODUCT 96 i) × (Out RESIDUAL 96 i)) (now (s .entry)) (now (s .exit)) (trueAs r (now (s .exit)) n) (trueResidual (rowsOn (now (ia .entry)) (now (ib .entry)) (now (s .entry)) rows n) (massesAt (now (s .entry)) MASSES count) (vecAt (now (s .entry)) RHS n) tolerance (vecAt (now (s .entry)) SOLUTION n) (vecAt (now (s .entry)) RESIDUAL n)) ⌝ }
+) -> Pass
+    requires { ⌜ Ready s ia ib t ⌝ }
+    ensures { λ r. ⌜ Does Testing (came s) (left s) (trueAs r (vecAt (left s) RESIDUAL (t .rows))) (trueResidual (systemIn s ia ib t) (rhsOn s t) tolerance (solutionOn s t) (residualOn s t)) ⌝ }
 {
-    match residual_test(s, n, tolerance) {
-        Test::Within => {
-            if let Outcome::ArithmeticOverflow = operator(
-                s,
-                ia,
-                ib,
-                rows,
-                SOLUTION,
-                PRODUCT,
-                n,
-                count,
-            ) {
-                return Test::ArithmeticOverflow;
-            }
-            difference(s, RESIDUAL, RHS, PRODUCT, n);
-            residual_test(s, n, tolerance)
-        }
-        Test::Beyond => Test::Beyond,
-        Test::ArithmeticOverflow => Test::ArithmeticOverflow,
+    let n = t.rows;
+    let Pass::Over(near) = residual_test(s, n, tolerance) else {
+        return Pass::Again;
+    };
+    if !done(near) {
+        return Pass::Over(near);
     }
+    let end = operator(s, ia, ib, t, SOLUTION, PRODUCT);
+    if !done(end) {
+        return Pass::Over(end);
+    }
+    difference(s, RESIDUAL, RHS, PRODUCT, n);
+    residual_test(s, n, tolerance)
 }
 
 // The first half of a pass: along the direction as far as the curvature says.
-fn advance(
-    s: &mut [f64],
-    ia: &[usize; 96],
-    ib: &[usize; 96],
-    rows: usize,
-    n: usize,
-    count: usize,
-    rho: f64,
-) -> Part
-    requires { ⌜ Rows (now s) (now ia) (now ib) rows n count ⌝ }
-    ensures { λ r. ⌜ Does Passing (now (s .entry)) (now (s .exit)) (try (partAs r (searchAt (now (s .exit)) n rho))) (advanceOf (rowsOn (now (ia .entry)) (now (ib .entry)) (now (s .entry)) rows n) (massesAt (now (s .entry)) MASSES count) (searchAt (now (s .entry)) n rho)) ⌝ }
+fn advance(s: &mut [f64], ia: &[usize; 96], ib: &[usize; 96], t: Table, rho: f64) -> End
+    requires { ⌜ Ready s ia ib t ⌝ }
+    ensures { λ r. ⌜ Does Passing (came s) (left s) (ranAs r (searchAt (left s) (t .rows) rho)) (advanceOf (systemIn s ia ib t) (searchOn s t rho)) ⌝ }
 {
-    if let Outcome::ArithmeticOverflow = operator(s, ia, ib, rows, DIRECTION, PRODUCT, n, count) {
-        return Part::ArithmeticOverflow;
+    let n = t.rows;
+    let end = operator(s, ia, ib, t, DIRECTION, PRODUCT);
+    if !done(end) {
+        return end;
     }
     let Sum::Value(curvature) = dot(s, DIRECTION, PRODUCT, n) else {
-        return Part::ArithmeticOverflow;
+        return End::ArithmeticOverflow;
     };
     if curvature <= 0.0 {
-        return Part::NonConvergent;
+        return End::NonConvergent;
     }
     if !is_finite(rho) {
-        return Part::NonConvergent;
+        return End::NonConvergent;
     }
     let alpha = rho / curvature;
-    add_scaled(s, SOLUTION, alpha, DIRECTION, n);
-    sub_scaled(s, RESIDUAL, alpha, PRODUCT, n);
-    Part::Done
+    add_scaled(s, SOLUTION, SOLUTION, alpha, DIRECTION, n);
+    sub_scaled(s, RESIDUAL, RESIDUAL, alpha, PRODUCT, n);
+    End::Done
 }
 
 // The second half: done, or the next direction.
@@ -197,101 +173,52 @@ fn settle(
     s: &mut [f64],
     ia: &[usize; 96],
     ib: &[usize; 96],
-    rows: usize,
-    n: usize,
-    count: usize,
+    t: Table,
     tolerance: f64,
     rho: f64,
-) -> Step
-    requires { ⌜ Rows (now s) (now ia) (now ib) rows n count ⌝ }
-    ensures { λ r. ⌜ Does Passing (now (s .entry)) (now (s .exit)) (passAs r (now (s .exit)) n) (settleOf (rowsOn (now (ia .entry)) (now (ib .entry)) (now (s .entry)) rows n) (massesAt (now (s .entry)) MASSES count) (vecAt (now (s .entry)) RHS n) (vecAt (now (s .entry)) DIAGONAL n) tolerance (searchAt (now (s .entry)) n rho)) ⌝ }
+) -> Next
+    requires { ⌜ Ready s ia ib t ⌝ }
+    ensures { λ r. ⌜ Does Passing (came s) (left s) (searchAs r (left s) (t .rows)) (settleOf (systemIn s ia ib t) (rhsOn s t) (diagonalOn s t) tolerance (searchOn s t rho)) ⌝ }
 {
-    match true_residual(s, ia, ib, rows, n, count, tolerance) {
-        Test::Within => Step::Solved,
-        Test::Beyond => {
-            let next = scaled_square(s, n);
-            next_direction(s, next / rho, n);
-            Step::Next(next)
-        }
-        Test::ArithmeticOverflow => Step::ArithmeticOverflow,
+    let n = t.rows;
+    if let Pass::Over(end) = true_residual(s, ia, ib, t, tolerance) {
+        return Next::Over(end);
     }
+    let next = scaled_square(s, n);
+    next_direction(s, next / rho, n);
+    Next::Rho(next)
 }
 
-fn gradient_pass(
+pub(crate) fn gradient_pass(
     s: &mut [f64],
     ia: &[usize; 96],
     ib: &[usize; 96],
-    rows: usize,
-    n: usize,
-    count: usize,
+    t: Table,
     tolerance: f64,
     rho: f64,
-) -> Step
-    requires { ⌜ Rows (now s) (now ia) (now ib) rows n count ⌝ }
-    ensures { λ r. ⌜ Does Passing (now (s .entry)) (now (s .exit)) (passAs r (now (s .exit)) n) (gradientPass (rowsOn (now (ia .entry)) (now (ib .entry)) (now (s .entry)) rows n) (massesAt (now (s .entry)) MASSES count) (vecAt (now (s .entry)) RHS n) (vecAt (now (s .entry)) DIAGONAL n) tolerance (searchAt (now (s .entry)) n rho)) ⌝ }
+) -> Next
+    requires { ⌜ Ready s ia ib t ⌝ }
+    ensures { λ r. ⌜ Does Passing (came s) (left s) (searchAs r (left s) (t .rows)) (gradientPass (systemIn s ia ib t) (rhsOn s t) (diagonalOn s t) tolerance (searchOn s t rho)) ⌝ }
 {
-    match residual_test(s, n, tolerance) {
-        Test::Within => Step::Solved,
-        Test::Beyond => match advance(s, ia, ib, rows, n, count, rho) {
-            Part::Done => settle(s, ia, ib, rows, n, count, tolerance, rho),
-            Part::NonConvergent => Step::NonConvergent,
-            Part::ArithmeticOverflow => Step::ArithmeticOverflow,
-        },
-        Test::ArithmeticOverflow => Step::ArithmeticOverflow,
+    if let Pass::Over(end) = residual_test(s, t.rows, tolerance) {
+        return Next::Over(end);
     }
+    let end = advance(s, ia, ib, t, rho);
+    if !done(end) {
+        return Next::Over(end);
+    }
+    settle(s, ia, ib, t, tolerance, rho)
 }
 
-// At most 2n + 32 passes, counted when gone through whole.
-fn gradient_loop(
-    s: &mut [f64],
-    ia: &[usize; 96],
-    ib: &[usize; 96],
-    rows: usize,
-    n: usize,
-    count: usize,
-    tolerance: f64,
-    start: f64,
-) -> Ended
-    requires { ⌜ Rows (now s) (now ia) (now ib) rows n count ⌝ }
-    ensures { λ r. ⌜ (Does Passing (now (s .entry)) (now (s .exit)) (solveAs r (vecAt (now (s .exit)) SOLUTION n)) (ended (spent (2 * n + 32) (search (gradientPass (rowsOn (now (ia .entry)) (now (ib .entry)) (now (s .entry)) rows n) (massesAt (now (s .entry)) MASSES count) (vecAt (now (s .entry)) RHS n) (vecAt (now (s .entry)) DIAGONAL n) tolerance) (2 * n + 32) (searchAt (now (s .entry)) n start))))) × (r .passes ≤ 2 * n + 32) ⌝ }
+pub(crate) fn gradients(s: &mut [f64], ia: &[usize; 96], ib: &[usize; 96], t: Table) -> Ended
+    requires { ⌜ Ready s ia ib t ⌝ }
+    ensures { λ r. ⌜ Solves s ia ib t r (λ system. gradientsOf system (rhsOn s t) (solutionOn s t) (residualOn s t)) ⌝ }
 {
-    let most = 2 * n + 32;
-    let mut rho = start;
-    for k in 0..most {
-        match gradient_pass(s, ia, ib, rows, n, count, tolerance, rho) {
-            Step::Next(next) => {
-                rho = next;
-            }
-            Step::Solved => {
-                return Ended::new(End::Solved, k);
-            }
-            Step::NonConvergent => {
-                return Ended::new(End::NonConvergent, k);
-            }
-            Step::ArithmeticOverflow => {
-                return Ended::new(End::ArithmeticOverflow, k);
-            }
-        }
-    }
-    Ended::new(End::NonConvergent, most)
-}
-
-pub(crate) fn gradients(
-    s: &mut [f64],
-    ia: &[usize; 96],
-    ib: &[usize; 96],
-    rows: usize,
-    n: usize,
-    count: usize,
-) -> Ended
-    requires { ⌜ Rows (now s) (now ia) (now ib) rows n count ⌝ }
-    ensures { λ r. ⌜ (Does Work (now (s .entry)) (now (s .exit)) (solveAs r (vecAt (now (s .exit)) SOLUTION n)) (ended (gradientsOf (rowsOn (now (ia .entry)) (now (ib .entry)) (now (s .entry)) rows n) (massesAt (now (s .entry)) MASSES count) (vecAt (now (s .entry)) RHS n) (vecAt (now (s .entry)) SOLUTION n) (vecAt (now (s .entry)) RESIDUAL n)))) × (r .passes ≤ 2 * n + 32) ⌝ }
-{
-    let Prepared::Rho(rho) = prepare(s, ia, ib, rows, n, count) else {
+    let Prepared::Rho(rho) = prepare(s, ia, ib, t) else {
         return Ended::new(End::NonConvergent, 0);
     };
-    let Sum::Value(tolerance) = tolerance_for(s, 1.0e-12, n) else {
+    let Sum::Value(tolerance) = tolerance_for(s, 1.0e-12, t.rows) else {
         return Ended::new(End::ArithmeticOverflow, 0);
     };
-    gradient_loop(s, ia, ib, rows, n, count, tolerance, rho)
+    search(s, ia, ib, t, Which::Gradients, tolerance, rho)
 }

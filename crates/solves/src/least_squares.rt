@@ -2,9 +2,10 @@
 // a reaction of least residual. It stops on the normal residual, so its success does not mean that the rows are solved.
 use crate::End;
 use crate::Ended;
-use crate::Outcome;
-use crate::Step;
+use crate::Next;
 use crate::Sum;
+use crate::Table;
+use crate::done;
 use crate::layout::DIRECTION;
 use crate::layout::NORMAL;
 use crate::layout::PRODUCT;
@@ -13,104 +14,65 @@ use crate::layout::SOLUTION;
 use crate::operator::dot;
 use crate::operator::operator;
 use crate::operator::tolerance_for;
+use crate::search::Which;
+use crate::search::search;
 use crate::values::add_scaled;
 use crate::values::copy;
-use crate::values::scale_add;
 use crate::values::sub_scaled;
 use arith::root::sqrt;
-ghost use Prim.Native.Nat.{_+_, _*_, _≤_};
-ghost use Rattle.solves.specs.Solver.{spent, search, leastPass, leastSquares};
-ghost use Rattle.solves.specs.Path.{ended};
-ghost use Rattle.solves.specs.Answer.{passAs, solveAs};
-ghost use Rattle.solves.specs.Region.{vecAt, Does};
-ghost use Rattle.solves.specs.View.{rowsOn, massesAt, searchAt, Rows, Work, MASSES, RHS, SOLUTION, RESIDUAL};
+ghost use Rattle.solves.specs.Search.{leastPass, leastSquares};
+ghost use Rattle.solves.specs.Answer.{searchAs, Solves};
+ghost use Rattle.solves.specs.Lent.{came, left};
+ghost use Rattle.solves.specs.Region.{Does};
+ghost use Rattle.solves.specs.View.{systemIn, rhsOn, solutionOn, residualOn, searchOn, Ready, Passing};
 
-fn least_pass(
+pub(crate) fn least_pass(
     s: &mut [f64],
     ia: &[usize; 96],
     ib: &[usize; 96],
-    rows: usize,
-    n: usize,
-    count: usize,
+    t: Table,
     tolerance: f64,
     norm: f64,
-) -> Step
-    requires { ⌜ Rows (now s) (now ia) (now ib) rows n count ⌝ }
-    ensures { λ r. ⌜ Does Work (now (s .entry)) (now (s .exit)) (passAs r (now (s .exit)) n) (leastPass (rowsOn (now (ia .entry)) (now (ib .entry)) (now (s .entry)) rows n) (massesAt (now (s .entry)) MASSES count) tolerance (searchAt (now (s .entry)) n norm)) ⌝ }
+) -> Next
+    requires { ⌜ Ready s ia ib t ⌝ }
+    ensures { λ r. ⌜ Does Passing (came s) (left s) (searchAs r (left s) (t .rows)) (leastPass (systemIn s ia ib t) tolerance (searchOn s t norm)) ⌝ }
 {
+    let n = t.rows;
     if sqrt(norm) <= tolerance {
-        return Step::Solved;
+        return Next::Over(End::Done);
     }
-    if let Outcome::ArithmeticOverflow = operator(s, ia, ib, rows, DIRECTION, PRODUCT, n, count) {
-        return Step::ArithmeticOverflow;
+    let along = operator(s, ia, ib, t, DIRECTION, PRODUCT);
+    if !done(along) {
+        return Next::Over(along);
     }
     let Sum::Value(denominator) = dot(s, PRODUCT, PRODUCT, n) else {
-        return Step::ArithmeticOverflow;
+        return Next::Over(End::ArithmeticOverflow);
     };
     if denominator <= 0.0 {
-        return Step::NonConvergent;
+        return Next::Over(End::NonConvergent);
     }
     let alpha = norm / denominator;
-    add_scaled(s, SOLUTION, alpha, DIRECTION, n);
-    sub_scaled(s, RESIDUAL, alpha, PRODUCT, n);
-    if let Outcome::ArithmeticOverflow = operator(s, ia, ib, rows, RESIDUAL, NORMAL, n, count) {
-        return Step::ArithmeticOverflow;
+    add_scaled(s, SOLUTION, SOLUTION, alpha, DIRECTION, n);
+    sub_scaled(s, RESIDUAL, RESIDUAL, alpha, PRODUCT, n);
+    let back = operator(s, ia, ib, t, RESIDUAL, NORMAL);
+    if !done(back) {
+        return Next::Over(back);
     }
     let Sum::Value(next) = dot(s, NORMAL, NORMAL, n) else {
-        return Step::ArithmeticOverflow;
+        return Next::Over(End::ArithmeticOverflow);
     };
-    scale_add(s, DIRECTION, next / norm, NORMAL, n);
-    Step::Next(next)
+    add_scaled(s, DIRECTION, NORMAL, next / norm, DIRECTION, n);
+    Next::Rho(next)
 }
 
-// At most 4n + 64 passes. A pass is counted when it was gone through whole, and there is no test after the last.
-fn least_loop(
-    s: &mut [f64],
-    ia: &[usize; 96],
-    ib: &[usize; 96],
-    rows: usize,
-    n: usize,
-    count: usize,
-    tolerance: f64,
-    start: f64,
-) -> Ended
-    requires { ⌜ Rows (now s) (now ia) (now ib) rows n count ⌝ }
-    ensures { λ r. ⌜ (Does Work (now (s .entry)) (now (s .exit)) (solveAs r (vecAt (now (s .exit)) SOLUTION n)) (ended (spent (4 * n + 64) (search (leastPass (rowsOn (now (ia .entry)) (now (ib .entry)) (now (s .entry)) rows n) (massesAt (now (s .entry)) MASSES count) tolerance) (4 * n + 64) (searchAt (now (s .entry)) n start))))) × (r .passes ≤ 4 * n + 64) ⌝ }
+pub(crate) fn least_squares(s: &mut [f64], ia: &[usize; 96], ib: &[usize; 96], t: Table) -> Ended
+    requires { ⌜ Ready s ia ib t ⌝ }
+    ensures { λ r. ⌜ Solves s ia ib t r (λ system. leastSquares system (rhsOn s t) (solutionOn s t) (residualOn s t)) ⌝ }
 {
-    let most = 4 * n + 64;
-    let mut norm = start;
-    for k in 0..most {
-        match least_pass(s, ia, ib, rows, n, count, tolerance, norm) {
-            Step::Next(next) => {
-                norm = next;
-            }
-            Step::Solved => {
-                return Ended::new(End::Solved, k);
-            }
-            Step::NonConvergent => {
-                return Ended::new(End::NonConvergent, k);
-            }
-            Step::ArithmeticOverflow => {
-                return Ended::new(End::ArithmeticOverflow, k);
-            }
-        }
-    }
-    Ended::new(End::NonConvergent, most)
-}
-
-pub(crate) fn least_squares(
-    s: &mut [f64],
-    ia: &[usize; 96],
-    ib: &[usize; 96],
-    rows: usize,
-    n: usize,
-    count: usize,
-) -> Ended
-    requires { ⌜ Rows (now s) (now ia) (now ib) rows n count ⌝ }
-    ensures { λ r. ⌜ (Does Work (now (s .entry)) (now (s .exit)) (solveAs r (vecAt (now (s .exit)) SOLUTION n)) (ended (leastSquares (rowsOn (now (ia .entry)) (now (ib .entry)) (now (s .entry)) rows n) (massesAt (now (s .entry)) MASSES count) (vecAt (now (s .entry)) RHS n) (vecAt (now (s .entry)) SOLUTION n) (vecAt (now (s .entry)) RESIDUAL n)))) × (r .passes ≤ 4 * n + 64) ⌝ }
-{
-    if let Outcome::ArithmeticOverflow = operator(s, ia, ib, rows, RESIDUAL, NORMAL, n, count) {
-        return Ended::new(End::ArithmeticOverflow, 0);
+    let n = t.rows;
+    let end = operator(s, ia, ib, t, RESIDUAL, NORMAL);
+    if !done(end) {
+        return Ended::new(end, 0);
     }
     let Sum::Value(norm) = dot(s, NORMAL, NORMAL, n) else {
         return Ended::new(End::ArithmeticOverflow, 0);
@@ -119,5 +81,5 @@ pub(crate) fn least_squares(
         return Ended::new(End::ArithmeticOverflow, 0);
     };
     copy(s, DIRECTION, NORMAL, n);
-    least_loop(s, ia, ib, rows, n, count, tolerance, norm)
+    search(s, ia, ib, t, Which::LeastSquares, tolerance, norm)
 }

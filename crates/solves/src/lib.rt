@@ -6,16 +6,30 @@ mod least_squares;
 pub mod operator;
 mod path;
 pub mod places;
+mod search;
 pub mod solver;
 pub mod values;
 
 ghost use mathlib.Core.Path.{_≡_};
-ghost use Rattle.solves.specs.Answer.{endedWith};
+ghost use Rattle.solves.specs.Answer.{isDone, endedWith};
 
-// How a call ended that can only leave the finite numbers.
-pub enum Outcome {
+// How a call ended: the Rust's `Result<(), _>`.
+pub enum End {
     Done,
+    NonConvergent,
     ArithmeticOverflow,
+}
+
+// How a pass of a loop ended: there is to be another, or the loop is over.
+pub enum Pass {
+    Again,
+    Over(End),
+}
+
+// How a pass of a search ended: with the number that the next pass needs, or the search is over.
+pub(crate) enum Next {
+    Rho(f64),
+    Over(End),
 }
 
 // A sum, if it is finite.
@@ -24,39 +38,41 @@ pub enum Sum {
     ArithmeticOverflow,
 }
 
-// How a part of a solve ended that can also fail to converge.
+// How a part of the path's factor ended.
 pub(crate) enum Part {
     Done,
     NonConvergent,
     ArithmeticOverflow,
 }
 
-// How one pass of a search ended. `Next` carries the number that the next pass needs.
-pub(crate) enum Step {
-    Next(f64),
-    Solved,
-    NonConvergent,
-    ArithmeticOverflow,
-}
-
-// How a linear solve ended. `Declined` is the path's answer on a graph that is no path.
-pub enum End {
-    Solved,
-    Declined,
-    NonConvergent,
-    ArithmeticOverflow,
-}
-
-// The end of a linear solve with the passes that it counted.
+// The end of a linear solve, with the passes that it counted.
 pub struct Ended {
     pub end: End,
-    pub passes: usize,
+    pub linear: usize,
+}
+
+// Rows in the scratch: where they stand, how many, and on how many bodies.
+pub struct Table {
+    pub place: usize,
+    pub rows: usize,
+    pub bodies: usize,
+}
+
+// What `?` asks of a call that went through.
+pub fn done(end: End) -> bool
+    ensures { λ r. ⌜ r ≡ isDone end ⌝ }
+{
+    match end {
+        End::Done => true,
+        End::NonConvergent => false,
+        End::ArithmeticOverflow => false,
+    }
 }
 
 impl Ended {
-    pub(crate) fn new(end: End, passes: usize) -> Ended
-        ensures { λ r. ⌜ r ≡ endedWith end passes ⌝ }
+    pub(crate) fn new(end: End, linear: usize) -> Ended
+        ensures { λ r. ⌜ r ≡ endedWith end linear ⌝ }
     {
-        Ended { end, passes }
+        Ended { end, linear }
     }
 }

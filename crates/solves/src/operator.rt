@@ -1,9 +1,12 @@
 // `dot`, `transpose`, `operator` and `cross_mass` of solver.rs.
-use crate::Outcome;
+use crate::End;
 use crate::Sum;
+use crate::Table;
+use crate::done;
 use crate::layout::GENERALIZED;
 use crate::layout::MASSES;
 use crate::layout::RHS;
+use crate::layout::SHARE;
 use crate::places::Generalized;
 use crate::places::MassResponse;
 use crate::places::load_generalized;
@@ -18,11 +21,14 @@ use vectors::vector::Vec3;
 ghost use mathlib.Core.Path.{_≡_};
 ghost use Prim.Native.Nat.{_+_, _≤_, _<_};
 ghost use lib.ListN.{length};
-ghost use Rattle.rows.specs.View.{Out};
 ghost use Rattle.solves.specs.Answer.{sumAs, shareAs, ranAs, Pushes};
+ghost use Rattle.solves.specs.Lent.{came, left};
 ghost use Rattle.solves.specs.Region.{vecAt, Does};
-ghost use Rattle.solves.specs.Solver.{sumProducts, dot as dotOf, toleranceFor, pushed as pushedOf, pushInto, pushRow, transpose as transposeOf, scaled as scaledOf, scaleAll, rate as rateOf, rates as ratesOf, operator as operatorOf, through as throughOf, addThrough, crossEnd, crossMass};
-ghost use Rattle.solves.specs.View.{rowsOn, generalizedsAt, massesAt, Rows, Place, Shares, GENERALIZED, MASSES, RHS, END};
+ghost use Rattle.solves.specs.Solver.{sumProducts, dot as dotOf, toleranceFor, pushed as pushedOf, pushInto, pushRow, transpose as transposeOf};
+ghost use Rattle.solves.specs.Solver.{scaled as scaledOf, scaleAll, rate as rateOf, rates as ratesOf, operator as operatorOf};
+ghost use Rattle.solves.specs.Solver.{through as throughOf, addThrough, crossEnd, crossMass};
+ghost use Rattle.solves.specs.View.{rowsOn, sharesIn, massesAt, systemIn, rhsOn, Ready, Place, Shares, Beside, Moves};
+ghost use Rattle.solves.specs.View.{ROWS-MOST, BODIES-MOST, MASSES, RHS, END};
 
 // A share, if it is finite.
 pub(crate) enum Share {
@@ -32,7 +38,7 @@ pub(crate) enum Share {
 
 fn products(s: &[f64], a: usize, b: usize, n: usize) -> f64
     requires { ⌜ (a + n ≤ length (now s)) × (b + n ≤ length (now s)) ⌝ }
-    ensures { λ r. ⌜ r ≡ sumProducts (vecAt (now (s .entry)) a n) (vecAt (now (s .entry)) b n) n ⌝ }
+    ensures { λ r. ⌜ r ≡ sumProducts (vecAt (came s) a n) (vecAt (came s) b n) n ⌝ }
 {
     let mut total = 0.0;
     for k in 0..n {
@@ -43,7 +49,7 @@ fn products(s: &[f64], a: usize, b: usize, n: usize) -> f64
 
 pub(crate) fn dot(s: &[f64], a: usize, b: usize, n: usize) -> Sum
     requires { ⌜ (a + n ≤ length (now s)) × (b + n ≤ length (now s)) ⌝ }
-    ensures { λ r. ⌜ sumAs r ≡ dotOf (vecAt (now (s .entry)) a n) (vecAt (now (s .entry)) b n) ⌝ }
+    ensures { λ r. ⌜ sumAs r ≡ dotOf (vecAt (came s) a n) (vecAt (came s) b n) ⌝ }
 {
     let total = products(s, a, b, n);
     if is_finite(total) {
@@ -54,8 +60,8 @@ pub(crate) fn dot(s: &[f64], a: usize, b: usize, n: usize) -> Sum
 
 // The tolerance of a solve: `scale` times one more than the length of the right side.
 pub(crate) fn tolerance_for(s: &[f64], scale: f64, n: usize) -> Sum
-    requires { ⌜ (END ≤ length (now s)) × (n ≤ 96) ⌝ }
-    ensures { λ r. ⌜ sumAs r ≡ toleranceFor scale (vecAt (now (s .entry)) RHS n) ⌝ }
+    requires { ⌜ (END ≤ length (now s)) × (n ≤ ROWS-MOST) ⌝ }
+    ensures { λ r. ⌜ sumAs r ≡ toleranceFor scale (vecAt (came s) RHS n) ⌝ }
 {
     let Sum::Value(square) = dot(s, RHS, RHS, n) else {
         return Sum::ArithmeticOverflow;
@@ -86,58 +92,47 @@ fn push_into(
     linear: Vec3,
     angular: Vec3,
     value: f64,
-    count: usize,
-) -> Outcome
-    requires { ⌜ (END ≤ length (now s)) × (index < count) × (count ≤ 16) ⌝ }
-    ensures { λ r. ⌜ Does Shares (now (s .entry)) (now (s .exit)) (ranAs r (generalizedsAt (now (s .exit)) GENERALIZED count)) (pushInto index linear angular value (generalizedsAt (now (s .entry)) GENERALIZED count)) ⌝ }
+    bodies: usize,
+) -> End
+    requires { ⌜ (END ≤ length (now s)) × (index < bodies) × (bodies ≤ BODIES-MOST) ⌝ }
+    ensures { λ r. ⌜ Does Shares (came s) (left s) (ranAs r (sharesIn (left s) bodies)) (pushInto index linear angular value (sharesIn (came s) bodies)) ⌝ }
 {
     let body = load_generalized(s, GENERALIZED, index);
     if let Share::Value(g) = pushed(body, linear, angular, value) {
         store_generalized(s, GENERALIZED, index, g);
-        return Outcome::Done;
+        return End::Done;
     }
-    Outcome::ArithmeticOverflow
+    End::ArithmeticOverflow
 }
 
-fn push_row(s: &mut [f64], row: EqualityRow, value: f64, count: usize) -> Outcome
-    requires { ⌜ (END ≤ length (now s)) × (row .a < count) × (row .b < count) × (count ≤ 16) ⌝ }
-    ensures { λ r. ⌜ Does Shares (now (s .entry)) (now (s .exit)) (ranAs r (generalizedsAt (now (s .exit)) GENERALIZED count)) (pushRow row value (generalizedsAt (now (s .entry)) GENERALIZED count)) ⌝ }
+fn push_row(s: &mut [f64], row: EqualityRow, value: f64, bodies: usize) -> End
+    requires { ⌜ (END ≤ length (now s)) × (row .a < bodies) × (row .b < bodies) × (bodies ≤ BODIES-MOST) ⌝ }
+    ensures { λ r. ⌜ Does Shares (came s) (left s) (ranAs r (sharesIn (left s) bodies)) (pushRow row value (sharesIn (came s) bodies)) ⌝ }
 {
-    if let Outcome::ArithmeticOverflow = push_into(
-        s,
-        row.a,
-        row.linear_a,
-        row.angular_a,
-        value,
-        count,
-    ) {
-        return Outcome::ArithmeticOverflow;
+    let end = push_into(s, row.a, row.linear_a, row.angular_a, value, bodies);
+    if !done(end) {
+        return end;
     }
-    push_into(s, row.b, row.linear_b, row.angular_b, value, count)
+    push_into(s, row.b, row.linear_b, row.angular_b, value, bodies)
 }
 
 // Each body's share of the rows times their values.
-pub fn transpose(
-    s: &mut [f64],
-    ia: &[usize; 96],
-    ib: &[usize; 96],
-    rows: usize,
-    values: usize,
-    n: usize,
-    count: usize,
-) -> Outcome
-    requires { ⌜ (Rows (now s) (now ia) (now ib) rows n count) × (Place values) ⌝ }
-    ensures { λ r. ⌜ Pushes (now (s .entry)) (now (s .exit)) count r (transposeOf (rowsOn (now (ia .entry)) (now (ib .entry)) (now (s .entry)) rows n) (vecAt (now (s .entry)) values n) count) ⌝ }
+pub fn transpose(s: &mut [f64], ia: &[usize; 96], ib: &[usize; 96], t: Table, values: usize) -> End
+    requires { ⌜ (Ready s ia ib t) × (Place (now s) values) ⌝ }
+    ensures { λ r. ⌜ Pushes s ia ib t r (λ rows. transposeOf rows (vecAt (came s) values (t .rows)) (t .bodies)) ⌝ }
 {
-    clear(s, GENERALIZED, 6 * count);
+    let n = t.rows;
+    let bodies = t.bodies;
+    clear(s, GENERALIZED, SHARE * bodies);
     for k in 0..n {
-        let row = load_row(s, ia, ib, rows, k);
+        let row = load_row(s, ia, ib, t.place, k);
         let value = s[values + k];
-        if let Outcome::ArithmeticOverflow = push_row(s, row, value, count) {
-            return Outcome::ArithmeticOverflow;
+        let end = push_row(s, row, value, bodies);
+        if !done(end) {
+            return end;
         }
     }
-    Outcome::Done
+    End::Done
 }
 
 // A share through the mass response of its body.
@@ -157,20 +152,20 @@ fn scaled(value: Generalized, mass: MassResponse) -> Share
     Share::ArithmeticOverflow
 }
 
-fn scale_all(s: &mut [f64], count: usize) -> Outcome
-    requires { ⌜ (END ≤ length (now s)) × (count ≤ 16) ⌝ }
-    ensures { λ r. ⌜ Does Shares (now (s .entry)) (now (s .exit)) (ranAs r (generalizedsAt (now (s .exit)) GENERALIZED count)) (scaleAll (generalizedsAt (now (s .entry)) GENERALIZED count) (massesAt (now (s .entry)) MASSES count) count) ⌝ }
+fn scale_all(s: &mut [f64], bodies: usize) -> End
+    requires { ⌜ (END ≤ length (now s)) × (bodies ≤ BODIES-MOST) ⌝ }
+    ensures { λ r. ⌜ Does Shares (came s) (left s) (ranAs r (sharesIn (left s) bodies)) (scaleAll (sharesIn (came s) bodies) (massesAt (came s) MASSES bodies) bodies) ⌝ }
 {
-    for k in 0..count {
+    for k in 0..bodies {
         let value = load_generalized(s, GENERALIZED, k);
         let mass = load_mass(s, MASSES, k);
         if let Share::Value(g) = scaled(value, mass) {
             store_generalized(s, GENERALIZED, k, g);
         } else {
-            return Outcome::ArithmeticOverflow;
+            return End::ArithmeticOverflow;
         }
     }
-    Outcome::Done
+    End::Done
 }
 
 // A row along the motions of its two bodies.
@@ -183,29 +178,22 @@ fn rate(row: EqualityRow, a: Generalized, b: Generalized) -> f64
         + row.angular_b.dot(b.angular)
 }
 
-fn rates(
-    s: &mut [f64],
-    ia: &[usize; 96],
-    ib: &[usize; 96],
-    rows: usize,
-    out: usize,
-    n: usize,
-    count: usize,
-) -> Outcome
-    requires { ⌜ (Rows (now s) (now ia) (now ib) rows n count) × (Place out) ⌝ }
-    ensures { λ r. ⌜ Does (Out out 96) (now (s .entry)) (now (s .exit)) (ranAs r (vecAt (now (s .exit)) out n)) (ratesOf (rowsOn (now (ia .entry)) (now (ib .entry)) (now (s .entry)) rows n) n (generalizedsAt (now (s .entry)) GENERALIZED count)) ⌝ }
+fn rates(s: &mut [f64], ia: &[usize; 96], ib: &[usize; 96], t: Table, out: usize) -> End
+    requires { ⌜ (Ready s ia ib t) × (Place (now s) out) ⌝ }
+    ensures { λ r. ⌜ Does (Beside out) (came s) (left s) (ranAs r (vecAt (left s) out (t .rows))) (ratesOf (systemIn s ia ib t .rows) (t .rows) (sharesIn (came s) (t .bodies))) ⌝ }
 {
+    let n = t.rows;
     for k in 0..n {
-        let row = load_row(s, ia, ib, rows, k);
+        let row = load_row(s, ia, ib, t.place, k);
         let a = load_generalized(s, GENERALIZED, row.a);
         let b = load_generalized(s, GENERALIZED, row.b);
         let value = rate(row, a, b);
         s[out + k] = value;
         if !is_finite(value) {
-            return Outcome::ArithmeticOverflow;
+            return End::ArithmeticOverflow;
         }
     }
-    Outcome::Done
+    End::Done
 }
 
 // The rows' Schur operator on `input`: back to the bodies, through their masses, and along the rows again.
@@ -213,22 +201,22 @@ pub(crate) fn operator(
     s: &mut [f64],
     ia: &[usize; 96],
     ib: &[usize; 96],
-    rows: usize,
+    t: Table,
     input: usize,
     out: usize,
-    n: usize,
-    count: usize,
-) -> Outcome
-    requires { ⌜ (Rows (now s) (now ia) (now ib) rows n count) × (Place input) × (Place out) ⌝ }
-    ensures { λ r. ⌜ Does (λ i. (Shares i) × (Out out 96 i)) (now (s .entry)) (now (s .exit)) (ranAs r (vecAt (now (s .exit)) out n)) (operatorOf (rowsOn (now (ia .entry)) (now (ib .entry)) (now (s .entry)) rows n) (massesAt (now (s .entry)) MASSES count) (vecAt (now (s .entry)) input n)) ⌝ }
+) -> End
+    requires { ⌜ (Ready s ia ib t) × (Place (now s) input) × (Place (now s) out) ⌝ }
+    ensures { λ r. ⌜ Does (Moves out) (came s) (left s) (ranAs r (vecAt (left s) out (t .rows))) (operatorOf (systemIn s ia ib t) (vecAt (came s) input (t .rows))) ⌝ }
 {
-    if let Outcome::ArithmeticOverflow = transpose(s, ia, ib, rows, input, n, count) {
-        return Outcome::ArithmeticOverflow;
+    let pushed = transpose(s, ia, ib, t, input);
+    if !done(pushed) {
+        return pushed;
     }
-    if let Outcome::ArithmeticOverflow = scale_all(s, count) {
-        return Outcome::ArithmeticOverflow;
+    let moved = scale_all(s, t.bodies);
+    if !done(moved) {
+        return moved;
     }
-    rates(s, ia, ib, rows, out, n, count)
+    rates(s, ia, ib, t, out)
 }
 
 // The share of one body in the entry of two rows that both touch it.
@@ -241,7 +229,7 @@ fn through(mass: MassResponse, al: Vec3, aa: Vec3, bl: Vec3, ba: Vec3) -> f64
 // One end of row a, on body `ai`, against one end of row b: nothing where that is on another body.
 fn add_through(
     s: &[f64],
-    count: usize,
+    bodies: usize,
     value: f64,
     ai: usize,
     al: Vec3,
@@ -250,8 +238,8 @@ fn add_through(
     bl: Vec3,
     ba: Vec3,
 ) -> f64
-    requires { ⌜ (END ≤ length (now s)) × (ai < count) × (count ≤ 16) ⌝ }
-    ensures { λ r. ⌜ r ≡ addThrough (massesAt (now (s .entry)) MASSES count) ai al aa bi bl ba value ⌝ }
+    requires { ⌜ (END ≤ length (now s)) × (ai < bodies) × (bodies ≤ BODIES-MOST) ⌝ }
+    ensures { λ r. ⌜ r ≡ addThrough (massesAt (came s) MASSES bodies) ai al aa bi bl ba value ⌝ }
 {
     if ai == bi {
         let mass = load_mass(s, MASSES, ai);
@@ -263,27 +251,27 @@ fn add_through(
 // One end of row a against both ends of row b.
 fn cross_end(
     s: &[f64],
-    count: usize,
+    bodies: usize,
     value: f64,
     ai: usize,
     al: Vec3,
     aa: Vec3,
     b: EqualityRow,
 ) -> f64
-    requires { ⌜ (END ≤ length (now s)) × (ai < count) × (count ≤ 16) ⌝ }
-    ensures { λ r. ⌜ r ≡ crossEnd (massesAt (now (s .entry)) MASSES count) ai al aa b value ⌝ }
+    requires { ⌜ (END ≤ length (now s)) × (ai < bodies) × (bodies ≤ BODIES-MOST) ⌝ }
+    ensures { λ r. ⌜ r ≡ crossEnd (massesAt (came s) MASSES bodies) ai al aa b value ⌝ }
 {
-    let half = add_through(s, count, value, ai, al, aa, b.a, b.linear_a, b.angular_a);
-    add_through(s, count, half, ai, al, aa, b.b, b.linear_b, b.angular_b)
+    let half = add_through(s, bodies, value, ai, al, aa, b.a, b.linear_a, b.angular_a);
+    add_through(s, bodies, half, ai, al, aa, b.b, b.linear_b, b.angular_b)
 }
 
 // The entry of the rows' Schur matrix.
-pub(crate) fn cross_mass(s: &[f64], a: EqualityRow, b: EqualityRow, count: usize) -> Sum
-    requires { ⌜ (END ≤ length (now s)) × (a .a < count) × (a .b < count) × (count ≤ 16) ⌝ }
-    ensures { λ r. ⌜ sumAs r ≡ crossMass a b (massesAt (now (s .entry)) MASSES count) ⌝ }
+pub(crate) fn cross_mass(s: &[f64], a: EqualityRow, b: EqualityRow, bodies: usize) -> Sum
+    requires { ⌜ (END ≤ length (now s)) × (a .a < bodies) × (a .b < bodies) × (bodies ≤ BODIES-MOST) ⌝ }
+    ensures { λ r. ⌜ sumAs r ≡ crossMass a b (massesAt (came s) MASSES bodies) ⌝ }
 {
-    let half = cross_end(s, count, 0.0, a.a, a.linear_a, a.angular_a, b);
-    let value = cross_end(s, count, half, a.b, a.linear_b, a.angular_b, b);
+    let half = cross_end(s, bodies, 0.0, a.a, a.linear_a, a.angular_a, b);
+    let value = cross_end(s, bodies, half, a.b, a.linear_b, a.angular_b, b);
     if is_finite(value) {
         return Sum::Value(value);
     }

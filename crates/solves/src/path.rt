@@ -2,11 +2,13 @@
 // a Cholesky factor of band 12 solves it. A third block on a body, or a closed ring of blocks, declines.
 use crate::End;
 use crate::Ended;
-use crate::Outcome;
 use crate::Part;
+use crate::Pass;
 use crate::Sum;
-use crate::gradients::Test;
+use crate::Table;
+use crate::done;
 use crate::gradients::residual_test;
+use crate::layout::BAND_WIDTH;
 use crate::layout::PATH_BAND;
 use crate::layout::PATH_RHS;
 use crate::layout::PATH_SCALE;
@@ -29,14 +31,17 @@ ghost use mathlib.Core.List.{_++_};
 ghost use Prim.Native.Nat.{ℕ, _+_, _-_, _≤_, _<_, min};
 ghost use lib.ListN.{length, getD, set};
 ghost use Rattle.arith.specs.Flow.{loop};
+ghost use Rattle.arith.specs.Run.{upTo};
+ghost use Rattle.rows.specs.Fault.{nonConvergent};
 ghost use Rattle.rows.specs.View.{Out};
-ghost use Rattle.solves.specs.Solver.{spent};
-ghost use Rattle.solves.specs.Path.{begins as beginsOf, pathStarts, addEdge, blockEdges, neighbor as neighborOf, follows as followsOf, nextBlock, run, walk as walkOf, walkFrom, isEnd, pathWalks, pathOrder, pathScale, reduced as reducedOf, pathEntry, pathRow, pathFactor, pathFactored, forwardSum, forward as forwardOf, backwardSum, backward as backwardOf, refine as refineOf, refinement, ended, pathSolve};
-ghost use Rattle.solves.specs.Answer.{ranAs, partAs, edgesAs, seenAs, orderAs, orderIn, solveAs};
+ghost use Rattle.solves.specs.Path.{begins as beginsOf, pathStarts, addEdge, blockEdges, neighbor as neighborOf, follows as followsOf, nextBlock, run, walk as walkOf, walkFrom, isEnd, pathWalks, pathOrder, pathScale, reduced as reducedOf, pathEntry, pathRow, pathFactor, pathFactored, forwardSum, forward as forwardOf, backwardSum, backward as backwardOf, refine as refineOf};
+ghost use Rattle.solves.specs.Search.{refinement, pathAlong};
+ghost use Rattle.solves.specs.Answer.{ranAs, partAs, edgesAs, seenAs, orderAs, orderIn, Solves};
+ghost use Rattle.solves.specs.Lent.{came, left};
 ghost use Rattle.solves.specs.Region.{vecAt, Does};
-ghost use Rattle.solves.specs.View.{rowsOn, massesAt, listAt, startsOf, rowsOf, Blocked, Linking, Free, orderOf, seenOf, Listed, Along, Blank, noPath, bandAt, factorAt, refinedAt, Refining, Factoring, Rows, Work, MASSES, RHS, SOLUTION, RESIDUAL, PATH-BAND, PATH-SCALE, PATH-RHS, END};
+ghost use Rattle.solves.specs.View.{rowsOn, massesAt, listAt, startsOf, rowsOf, Blocked, Linking, Free, orderOf, seenOf, Listed, Along, Blank, noPath, bandAt, factorAt, refinedAt, Refining, Factoring, Rows, MASSES, SOLUTION, RESIDUAL, PATH-BAND, PATH-SCALE, PATH-RHS, END};
+ghost use Rattle.solves.specs.View.{systemIn, rhsOn, solutionOn, orderOn, Ready};
 
-const BAND_WIDTH: usize = 12; // At most two adjacent six-row joints on a path.
 // No block: the Rust's `usize::MAX`. There are at most 96 blocks.
 const NONE: usize = 96;
 
@@ -306,7 +311,7 @@ fn no_path() -> PathOrder
 }
 
 // The rows along the path, if the graph is one.
-fn path_order(ia: &[usize; 96], ib: &[usize; 96], n: usize) -> PathOrder
+pub(crate) fn path_order(ia: &[usize; 96], ib: &[usize; 96], n: usize) -> PathOrder
     requires { ⌜ (n ≤ 96) × ((k : ℕ) → k < n → getD (now ia) k 0 < 16) × ((k : ℕ) → k < n → getD (now ib) k 0 < 16) ⌝ }
     ensures { λ r. ⌜ (orderAs r ≡ pathOrder (listAt (now (ia .entry)) n) (listAt (now (ib .entry)) n) n) × (r .found ≡ true → (r .order .count ≡ n) × (Along (r .order .rows) n) × (Blank (r .order .rows) n)) × (r .found ≡ false → r ≡ noPath) ⌝ }
 {
@@ -519,59 +524,6 @@ fn backward(s: &mut [f64], order: &[usize; 96], n: usize)
     }
 }
 
-// One refinement, up to the new residual.
-fn refine(
-    s: &mut [f64],
-    ia: &[usize; 96],
-    ib: &[usize; 96],
-    rows: usize,
-    order: &[usize; 96],
-    n: usize,
-    count: usize,
-) -> Outcome
-    requires { ⌜ (Rows (now s) (now ia) (now ib) rows n count) × (Along (now order) n) ⌝ }
-    ensures { λ r. ⌜ Does Refining (now (s .entry)) (now (s .exit)) (ranAs r (refinedAt (now (s .exit)) n)) (refineOf (rowsOn (now (ia .entry)) (now (ib .entry)) (now (s .entry)) rows n) (massesAt (now (s .entry)) MASSES count) (vecAt (now (s .entry)) RHS n) n (listAt (now (order .entry)) n) (factorAt (now (s .entry)) n) (refinedAt (now (s .entry)) n)) ⌝ }
-{
-    forward(s, order, n);
-    backward(s, order, n);
-    if let Outcome::ArithmeticOverflow = operator(s, ia, ib, rows, SOLUTION, PRODUCT, n, count) {
-        return Outcome::ArithmeticOverflow;
-    }
-    difference(s, RESIDUAL, RHS, PRODUCT, n);
-    Outcome::Done
-}
-
-// At most 4 refinements, each counted once its residual is known.
-fn refinements(
-    s: &mut [f64],
-    ia: &[usize; 96],
-    ib: &[usize; 96],
-    rows: usize,
-    order: &[usize; 96],
-    n: usize,
-    count: usize,
-    tolerance: f64,
-) -> Ended
-    requires { ⌜ (Rows (now s) (now ia) (now ib) rows n count) × (Along (now order) n) ⌝ }
-    ensures { λ r. ⌜ (Does Refining (now (s .entry)) (now (s .exit)) (solveAs r (vecAt (now (s .exit)) SOLUTION n)) (ended (spent 4 (loop 4 (refinement (rowsOn (now (ia .entry)) (now (ib .entry)) (now (s .entry)) rows n) (massesAt (now (s .entry)) MASSES count) (vecAt (now (s .entry)) RHS n) n (listAt (now (order .entry)) n) (factorAt (now (s .entry)) n) tolerance) (refinedAt (now (s .entry)) n))))) × (r .passes ≤ 4) ⌝ }
-{
-    for k in 0..4usize {
-        if let Outcome::ArithmeticOverflow = refine(s, ia, ib, rows, order, n, count) {
-            return Ended::new(End::ArithmeticOverflow, k);
-        }
-        match residual_test(s, n, tolerance) {
-            Test::Within => {
-                return Ended::new(End::Solved, k + 1);
-            }
-            Test::Beyond => {}
-            Test::ArithmeticOverflow => {
-                return Ended::new(End::ArithmeticOverflow, k + 1);
-            }
-        }
-    }
-    Ended::new(End::NonConvergent, 4)
-}
-
 fn path_factored(
     s: &mut [f64],
     ia: &[usize; 96],
@@ -591,30 +543,65 @@ fn path_factored(
     }
 }
 
-pub(crate) fn path_solve(
+// One refinement, up to the new residual.
+fn refine(s: &mut [f64], ia: &[usize; 96], ib: &[usize; 96], t: Table, order: &[usize; 96]) -> End
+    requires { ⌜ (Ready s ia ib t) × (Along (now order) (t .rows)) ⌝ }
+    ensures { λ r. ⌜ Does Refining (came s) (left s) (ranAs r (refinedAt (left s) (t .rows))) (refineOf (systemIn s ia ib t) (rhsOn s t) (orderOn order t) (factorAt (came s) (t .rows)) (refinedAt (came s) (t .rows))) ⌝ }
+{
+    let n = t.rows;
+    forward(s, order, n);
+    backward(s, order, n);
+    let end = operator(s, ia, ib, t, SOLUTION, PRODUCT);
+    if !done(end) {
+        return end;
+    }
+    difference(s, RESIDUAL, RHS, PRODUCT, n);
+    End::Done
+}
+
+// At most 4 refinements, each counted once its residual is known.
+fn refinements(
     s: &mut [f64],
     ia: &[usize; 96],
     ib: &[usize; 96],
-    rows: usize,
-    n: usize,
-    count: usize,
+    t: Table,
+    order: &[usize; 96],
+    tolerance: f64,
 ) -> Ended
-    requires { ⌜ Rows (now s) (now ia) (now ib) rows n count ⌝ }
-    ensures { λ r. ⌜ (Does Work (now (s .entry)) (now (s .exit)) (solveAs r (vecAt (now (s .exit)) SOLUTION n)) (pathSolve (rowsOn (now (ia .entry)) (now (ib .entry)) (now (s .entry)) rows n) (massesAt (now (s .entry)) MASSES count) (vecAt (now (s .entry)) RHS n) (vecAt (now (s .entry)) SOLUTION n))) × (r .end ≡ End.Declined → ((now (s .exit)) ≡ (now (s .entry))) × (r .passes ≡ 0)) × (r .passes ≤ 4) ⌝ }
+    requires { ⌜ (Ready s ia ib t) × (Along (now order) (t .rows)) ⌝ }
+    ensures { λ r. ⌜ Solves s ia ib t r (λ system. upTo 4 nonConvergent (refinement system (rhsOn s t) (orderOn order t) (factorAt (came s) (t .rows)) tolerance) (refinedAt (came s) (t .rows))) ⌝ }
 {
-    let path = path_order(ia, ib, n);
-    if !path.found {
-        return Ended::new(End::Declined, 0);
+    for k in 0..4usize {
+        let refined = refine(s, ia, ib, t, order);
+        if !done(refined) {
+            return Ended::new(refined, k);
+        }
+        if let Pass::Over(end) = residual_test(s, t.rows, tolerance) {
+            return Ended::new(end, k + 1);
+        }
     }
-    let along = path.order;
-    let order = along.rows;
-    match path_factored(s, ia, ib, rows, &order, n, count) {
+    Ended::new(End::NonConvergent, 4)
+}
+
+// The path's solve along an order of the rows, from the right side as residual.
+pub(crate) fn path_along(
+    s: &mut [f64],
+    ia: &[usize; 96],
+    ib: &[usize; 96],
+    t: Table,
+    order: &[usize; 96],
+) -> Ended
+    requires { ⌜ (Ready s ia ib t) × (Along (now order) (t .rows)) ⌝ }
+    ensures { λ r. ⌜ Solves s ia ib t r (λ system. pathAlong system (rhsOn s t) (solutionOn s t) (orderOn order t)) ⌝ }
+{
+    let n = t.rows;
+    match path_factored(s, ia, ib, t.place, order, n, t.bodies) {
         Part::Done => {
             let Sum::Value(tolerance) = tolerance_for(s, 1.0e-12, n) else {
                 return Ended::new(End::ArithmeticOverflow, 0);
             };
             copy(s, RESIDUAL, RHS, n);
-            refinements(s, ia, ib, rows, &order, n, count, tolerance)
+            refinements(s, ia, ib, t, order, tolerance)
         }
         Part::NonConvergent => Ended::new(End::NonConvergent, 0),
         Part::ArithmeticOverflow => Ended::new(End::ArithmeticOverflow, 0),

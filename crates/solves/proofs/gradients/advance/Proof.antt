@@ -1,80 +1,156 @@
+-- advance: along the direction as far as the curvature says; five ways to end.
+use native.Mathlib.Omega.{arith}
 use borrow.Author.Needs.{needs}
-use lib.ListN.{length}
+use mathlib.Core.Path.{_∙_}
+use Prim.Native.Nat.{_-_}
 use Rattle.arith.specs.Laws.Constants.{zero-is}
-use Rattle.solves.specs.DoesLaws.{done, over, sum-there, sum-over}
-use Rattle.solves.proofs.GradientLaws.{advance-lost-1, advance-lost-2, advance-flat, advance-wild, advance-done}
+use Rattle.solves.specs.View.{DIRECTION, PRODUCT}
+use Rattle.solves.specs.DoesLaws.{sum-there, sum-over, went, failed, fails, does-eq}
+use Rattle.solves.proofs.GradientLaws.{advance-unmoved, advance-unmeasured, advance-flat, advance-wild, advance-done}
+use Rattle.solves.proofs.OperatorLaws.{place-of}
 use Rattle.solves.proofs.gradients.advance.Statement.{statement}
 use Rattle.solves.proofs.gradients.advance.Tie as tie
 
 operator-requires : tie.Need-operator-requires
-operator-requires c κs = search needs
+operator-requires c κs =
+    let start = c .before .before in (
+      start .pre,
+      place-of DIRECTION (omega arith) (omega arith) (omega (arith, start .pre .whole)),
+      place-of PRODUCT (omega arith) (omega arith)
+          (omega (arith, start .pre .whole)),
+    )
 
-enum-told : tie.Need-enum-told
-enum-told c = search needs
+done-requires : tie.Need-done-requires
+done-requires c κs = search needs
 
 same-length : tie.Need-same-length
-same-length c = search needs
+same-length c =
+    let at-operator = c .before .before .before .before in
+    at-operator .operator .ensures .kept .size
 
 returns : tie.Need-returns
-returns c = advance-lost-1 (c .before .before .before .before .before .before .before .pre) (c .before .before .before .before .before .before .before .args .rho) (over _ (c .before .before .before .before .operator .ensures) (c .enum-told .given .1))
-
-enum-told-2 : tie.Need-enum-told-2
-enum-told-2 c = search needs
+returns c =
+    let at-done = c .before in
+    let at-operator = at-done .before .before .before in
+    let start = at-operator .before .before .before in
+    let end = at-operator .operator .result in
+    does-eq (fails _ end (at-done .done .ensures) (c .if1 .taken))
+    (advance-unmoved (start .args .t) (start .pre) (start .args .rho)
+    (failed _ end (at-done .done .ensures) (at-operator .operator .ensures) (c .if1 .taken)))
 
 dot-requires : tie.Need-dot-requires
-dot-requires c κs = search needs
+dot-requires c κs =
+    let at-operator = c .before .before .before .before .before in
+    let start = at-operator .before .before .before in
+    omega (arith, at-operator .operator .ensures .kept .size, start .pre .whole, start .pre .most)
 
 enum-known-curvature : tie.Need-enum-known-curvature
 enum-known-curvature c = search needs
 
-enum-told-3 : tie.Need-enum-told-3
-enum-told-3 c = search needs
+enum-told : tie.Need-enum-told
+enum-told c = search needs
 
 same-length-2 : tie.Need-same-length-2
-same-length-2 c = search needs
+same-length-2 c =
+    let at-slice-known2 = c .before .before .before .before .before .before in
+    let at-operator = at-slice-known2 .before .before in
+    at-operator .operator .ensures .kept .size
 
 returns-2 : tie.Need-returns-2
-returns-2 c = advance-lost-2 (c .before .before .before .before .before .before .before .before .before .before .before .pre) (c .before .before .before .before .before .before .before .before .before .before .before .args .rho) (done _ (c .before .before .before .before .before .before .before .before .operator .ensures) (c .before .before .before .before .enum-told2 .given .1)) (sum-over (c .before .before .dot .ensures) (c .enum-told3 .given .1))
+returns-2 c =
+    let at-Else1 = c .before .before .before .before in
+    let at-operator = at-Else1 .before .before .before .before in
+    let start = at-operator .before .before .before in
+    advance-unmeasured (start .args .t) (start .pre) (start .args .rho)
+    (went _ (at-operator .operator .result) (at-Else1 .before .done .ensures) (at-operator .operator .ensures) (at-Else1 .if1 .left))
+    (sum-over (c .before .before .dot .ensures) (c .enum-told .given .1))
 
 same-length-3 : tie.Need-same-length-3
-same-length-3 c = search needs
+same-length-3 c =
+    let at-Else1 = c .before .before .before .before .before .before in
+    let at-operator = at-Else1 .before .before .before .before in
+    at-operator .operator .ensures .kept .size
 
 returns-3 : tie.Need-returns-3
-returns-3 c = advance-flat (c .before .before .before .before .before .before .before .before .before .before .before .before .before .pre) (c .before .before .before .before .before .before .before .before .before .before .before .before .before .args .rho) (done _ (c .before .before .before .before .before .before .before .before .before .before .operator .ensures) (c .before .before .before .before .before .before .enum-told2 .given .1)) zero-is (sum-there (c .before .before .before .before .dot .ensures) (c .before .before .curvature .given .1)) (c .if1 .taken)
+returns-3 c =
+    let at-dot = c .before .before .before .before in
+    let at-done = at-dot .before .before .before in
+    let at-operator = at-done .before .before .before in
+    let start = at-operator .before .before .before in
+    advance-flat (start .args .t) (start .pre) (start .args .rho)
+    (went _ (at-operator .operator .result) (at-done .done .ensures) (at-operator .operator .ensures) (at-dot .before .before .if1 .left))
+    zero-is (sum-there (at-dot .dot .ensures) (c .before .before .curvature .given .1)) (c .if2 .taken)
 
 is-finite-requires : tie.Need-is-finite-requires
 is-finite-requires c κs = search needs
 
 same-length-4 : tie.Need-same-length-4
-same-length-4 c = search needs
+same-length-4 c =
+    let at-dot = c .before .before .before .before .before .before in
+    let at-operator = at-dot .before .before .before .before .before .before in
+    at-operator .operator .ensures .kept .size
 
 returns-4 : tie.Need-returns-4
-returns-4 c = advance-wild (c .before .before .before .before .before .before .before .before .before .before .before .before .before .before .before .pre) (c .before .before .before .before .before .before .before .before .before .before .before .before .before .before .before .args .rho) (done _ (c .before .before .before .before .before .before .before .before .before .before .before .before .operator .ensures) (c .before .before .before .before .before .before .before .before .enum-told2 .given .1)) zero-is (sum-there (c .before .before .before .before .before .before .dot .ensures) (c .before .before .before .before .curvature .given .1)) (c .before .before .if1 .left) (c .before .is-finite .ensures) (c .if2 .taken)
+returns-4 c =
+    let at-curvature = c .before .before .before .before in
+    let at-Else1 = at-curvature .before .before .before .before in
+    let at-operator = at-Else1 .before .before .before .before in
+    let start = at-operator .before .before .before in
+    advance-wild (start .args .t) (start .pre) (start .args .rho)
+    (went _ (at-operator .operator .result) (at-Else1 .before .done .ensures) (at-operator .operator .ensures) (at-Else1 .if1 .left))
+    zero-is (sum-there (at-curvature .before .before .dot .ensures) (at-curvature .curvature .given .1)) (c .before .before .if2 .left)
+    (c .before .is-finite .ensures) (c .if3 .taken)
 
 add-scaled-requires : tie.Need-add-scaled-requires
-add-scaled-requires c κs = search needs
+add-scaled-requires c κs =
+    let at-match-keys1 = c .before .before .before .before .before .before in
+    let at-s = at-match-keys1 .before .before .before .before .before .before in
+    let at-operator = at-s .before in
+    let start = at-operator .before .before .before in
+    omega (arith, at-operator .operator .ensures .kept .size, start .pre .whole, start .pre .most)
 
 sub-scaled-requires : tie.Need-sub-scaled-requires
-sub-scaled-requires c κs = search needs
+sub-scaled-requires c κs =
+    let at-add-scaled = c .before .before .before in
+    let at-curvature = at-add-scaled .before .before .before .before .before .before in
+    let at-slice-known2 = at-curvature .before .before .before .before .before .before in
+    let at-operator = at-slice-known2 .before .before in
+    let start = at-operator .before .before .before in
+    omega (arith, at-add-scaled .add-scaled .ensures .kept .size, at-operator .operator .ensures .kept .size, start .pre .whole, start .pre .most)
 
 same-length-5 : tie.Need-same-length-5
-same-length-5 c = search needs
+same-length-5 c =
+    let at-add-scaled = c .before .before .before .before .before .before in
+    let at-curvature = at-add-scaled .before .before .before .before .before .before in
+    let at-slice-known2 = at-curvature .before .before .before .before .before .before in
+    let at-operator = at-slice-known2 .before .before in
+    c .before .before .sub-scaled .ensures .kept .size ∙ at-add-scaled .add-scaled .ensures .kept .size ∙ at-operator .operator .ensures .kept .size
 
 returns-5 : tie.Need-returns-5
-returns-5 c = advance-done (c .before .before .before .before .before .before .before .before .before .before .before .before .before .before .before .before .before .before .before .before .before .before .before .pre) (c .before .before .before .before .before .before .before .before .before .before .before .before .before .before .before .before .before .before .before .before .before .before .before .args .rho) (done _ (c .before .before .before .before .before .before .before .before .before .before .before .before .before .before .before .before .before .before .before .before .operator .ensures) (c .before .before .before .before .before .before .before .before .before .before .before .before .before .before .before .before .enum-told2 .given .1)) zero-is (sum-there (c .before .before .before .before .before .before .before .before .before .before .before .before .before .before .dot .ensures) (c .before .before .before .before .before .before .before .before .before .before .before .before .curvature .given .1)) (c .before .before .before .before .before .before .before .before .before .before .if1 .left) (c .before .before .before .before .before .before .before .before .before .is-finite .ensures) (c .before .before .before .before .before .before .before .before .if2 .left) (c .before .before .before .before .before .before .add-scaled .ensures) (c .before .before .sub-scaled .ensures)
+returns-5 c =
+    let at-add-scaled = c .before .before .before .before .before .before in
+    let at-is-finite = at-add-scaled .before .before .before in
+    let at-curvature = at-is-finite .before .before .before in
+    let at-Else1 = at-curvature .before .before .before .before in
+    let at-operator = at-Else1 .before .before .before .before in
+    let start = at-operator .before .before .before in
+    advance-done (start .args .t) (start .pre) (start .args .rho)
+    (went _ (at-operator .operator .result) (at-Else1 .before .done .ensures) (at-operator .operator .ensures) (at-Else1 .if1 .left))
+    zero-is (sum-there (at-curvature .before .before .dot .ensures) (at-curvature .curvature .given .1)) (at-is-finite .before .if2 .left)
+    (at-is-finite .is-finite .ensures) (at-add-scaled .before .before .if3 .left) (at-add-scaled .add-scaled .ensures)
+    (c .before .before .sub-scaled .ensures)
 
 pub advance-spec : {M : Type 1} → statement M
 advance-spec =
     tie.close
     (tie.spec
     operator-requires
-    enum-told
+    done-requires
     same-length
     returns
-    enum-told-2
     dot-requires
     enum-known-curvature
-    enum-told-3
+    enum-told
     same-length-2
     returns-2
     same-length-3

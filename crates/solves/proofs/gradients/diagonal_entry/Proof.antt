@@ -1,5 +1,4 @@
 use borrow.Author.Needs.{needs}
-use lib.ListN.{length}
 use Rattle.solves.proofs.GradientLaws.{diagonal-is}
 use Rattle.solves.proofs.gradients.diagonal_entry.Statement.{statement}
 use Rattle.solves.proofs.gradients.diagonal_entry.Tie as tie

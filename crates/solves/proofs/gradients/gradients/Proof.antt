@@ -1,22 +1,22 @@
+-- gradients: the diagonal, the tolerance, and the search.
 use native.Mathlib.Omega.{arith}
 use borrow.Author.Needs.{needs}
-use mathlib.Core.Path.{ap, _∙_}
-use lib.ListN.{length}
+use mathlib.Core.Path.{_∙_, ap}
+use Prim.Native.Nat.{_-_}
 use lib.Ieee.{Float}
-use Rattle.solves.specs.declared.gradients.Prepared.{Prepared}
-use Rattle.solves.specs.Solver.{toleranceFor}
 use Rattle.solves.specs.Region.{vecAt}
-use Rattle.solves.specs.Answer.{preparedAs}
 use Rattle.solves.specs.View.{RHS, SOLUTION}
+use Rattle.solves.specs.DoesLaws.{sum-there, sum-over, does-as}
+use Rattle.solves.specs.Solver.{toleranceFor}
+use Rattle.solves.specs.Answer.{preparedAs}
+use Rattle.solves.proofs.GradientLaws.{gradients-refused, gradients-intolerant, gradients-whole}
 use Rattle.solves.proofs.OperatorLaws.{rows-kept}
 use Rattle.solves.proofs.SearchLaws.{tenth-12, new-ended}
-use Rattle.solves.specs.DoesLaws.{does-as, sum-there, sum-over}
-use Rattle.solves.proofs.GradientLaws.{gradients-refused, gradients-lost, gradients-whole}
 use Rattle.solves.proofs.gradients.gradients.Statement.{statement}
 use Rattle.solves.proofs.gradients.gradients.Tie as tie
 
 prepare-requires : tie.Need-prepare-requires
-prepare-requires c κs = search needs
+prepare-requires c κs = c .before .before .pre
 
 enum-known-rho : tie.Need-enum-known-rho
 enum-known-rho c = search needs
@@ -28,13 +28,24 @@ new-requires : tie.Need-new-requires
 new-requires c κs = search needs
 
 same-length : tie.Need-same-length
-same-length c = search needs
+same-length c =
+    let at-prepare = c .before .before .before .before .before in
+    at-prepare .prepare .ensures .kept .size
 
 returns : tie.Need-returns
-returns c = new-ended (vecAt (c .before .before .before .before .before .prepare .last .0) SOLUTION (c .before .before .before .before .before .before .before .before .args .n)) (c .new .ensures) (omega arith) (gradients-refused (c .before .before .before .before .before .before .before .before .pre) (does-as (λ (q : Prepared). preparedAs q (c .before .before .before .before .before .prepare .last .0) (c .before .before .before .before .before .before .before .before .args .n)) (c .before .enum-told .given .1) (c .before .before .before .before .before .prepare .ensures)))
+returns c =
+    let at-prepare = c .before .before .before .before .before in
+    let start = at-prepare .before .before .before in
+    new-ended (vecAt (at-prepare .prepare .last .0) SOLUTION (start .args .t .rows)) (c .new .ensures)
+    (gradients-refused (start .args .t) (start .pre)
+    (does-as (λ r. preparedAs r (at-prepare .prepare .last .0) (start .args .t .rows)) (c .before .enum-told .given .1)
+    (at-prepare .prepare .ensures)))
 
 tolerance-for-requires : tie.Need-tolerance-for-requires
-tolerance-for-requires c κs = search needs
+tolerance-for-requires c κs =
+    let at-prepare = c .before .before .before .before .before .before in
+    let start = at-prepare .before .before .before in
+    omega (arith, at-prepare .prepare .ensures .kept .size, start .pre .whole, start .pre .most)
 
 enum-known-tolerance : tie.Need-enum-known-tolerance
 enum-known-tolerance c = search needs
@@ -46,19 +57,47 @@ new-requires-2 : tie.Need-new-requires-2
 new-requires-2 c κs = search needs
 
 same-length-2 : tie.Need-same-length-2
-same-length-2 c = search needs
+same-length-2 c =
+    let at-rho = c .before .before .before .before .before .before in
+    let at-prepare = at-rho .before .before .before .before in
+    at-prepare .prepare .ensures .kept .size
 
 returns-2 : tie.Need-returns-2
-returns-2 c = new-ended (vecAt (c .before .before .before .before .before .before .before .before .before .before .prepare .last .0) SOLUTION (c .before .before .before .before .before .before .before .before .before .before .before .before .before .args .n)) (c .new2 .ensures) (omega arith) (gradients-lost (c .before .before .before .before .before .before .before .before .before .before .before .before .before .pre) (does-as (λ (q : Prepared). preparedAs q (c .before .before .before .before .before .before .before .before .before .before .prepare .last .0) (c .before .before .before .before .before .before .before .before .before .before .before .before .before .args .n)) (c .before .before .before .before .before .before .rho .given .1) (c .before .before .before .before .before .before .before .before .before .before .prepare .ensures)) (sum-over (c .before .before .before .tolerance-for .ensures) (c .before .enum-told2 .given .1) ∙ ap (λ (x : Float). toleranceFor x (vecAt (c .before .before .before .before .before .before .before .before .before .before .prepare .last .0) RHS (c .before .before .before .before .before .before .before .before .before .before .before .before .before .args .n))) tenth-12))
+returns-2 c =
+    let at-tolerance-for = c .before .before .before in
+    let at-rho = at-tolerance-for .before .before .before in
+    let at-prepare = at-rho .before .before .before .before in
+    let start = at-prepare .before .before .before in
+    new-ended (vecAt (at-prepare .prepare .last .0) SOLUTION (start .args .t .rows)) (c .new2 .ensures)
+    (gradients-intolerant (start .args .t) (start .pre)
+    (does-as (λ r. preparedAs r (at-prepare .prepare .last .0) (start .args .t .rows)) (at-rho .rho .given .1) (at-prepare .prepare .ensures))
+    (sum-over (at-tolerance-for .tolerance-for .ensures) (c .before .enum-told2 .given .1) ∙ ap
+    (λ (x : Float). toleranceFor x (vecAt (at-prepare .prepare .last .0) RHS (start .args .t .rows))) tenth-12))
 
-gradient-loop-requires : tie.Need-gradient-loop-requires
-gradient-loop-requires c κs = rows-kept (c .before .before .before .before .before .before .before .before .before .before .before .before .before .before .pre) (c .before .before .before .before .before .before .before .before .before .before .before .prepare .ensures .kept .size)
+search-requires : tie.Need-search-requires
+search-requires c κs =
+    let at-known-told = c .before .before .before .before .before .before in
+    let at-prepare = at-known-told .before .before .before .before .before in
+    rows-kept (at-prepare .before .before .before .pre) (at-prepare .prepare .ensures .kept .size)
 
 same-length-3 : tie.Need-same-length-3
-same-length-3 c = search needs
+same-length-3 c =
+    let at-match2-keys1 = c .before .before .before .before .before .before in
+    let at-slice-known2 = at-match2-keys1 .before .before .before .before .before .before in
+    let at-prepare = at-slice-known2 .before .before in
+    c .before .before .search .ensures .kept .size ∙ at-prepare .prepare .ensures .kept .size
 
 returns-3 : tie.Need-returns-3
-returns-3 c = (gradients-whole (c .before .before .before .before .before .before .before .before .before .before .before .before .before .before .before .before .before .pre) (does-as (λ (q : Prepared). preparedAs q (c .before .before .before .before .before .before .before .before .before .before .before .before .before .before .prepare .last .0) (c .before .before .before .before .before .before .before .before .before .before .before .before .before .before .before .before .before .args .n)) (c .before .before .before .before .before .before .before .before .before .before .rho .given .1) (c .before .before .before .before .before .before .before .before .before .before .before .before .before .before .prepare .ensures)) (sum-there (c .before .before .before .before .before .before .before .tolerance-for .ensures) (c .before .before .before .before .before .tolerance .given .1) ∙ ap (λ (x : Float). toleranceFor x (vecAt (c .before .before .before .before .before .before .before .before .before .before .before .before .before .before .prepare .last .0) RHS (c .before .before .before .before .before .before .before .before .before .before .before .before .before .before .before .before .before .args .n))) tenth-12) (c .before .before .gradient-loop .ensures .0), c .before .before .gradient-loop .ensures .1)
+returns-3 c =
+    let at-tolerance = c .before .before .before .before .before in
+    let at-rho = at-tolerance .before .before .before .before .before in
+    let at-prepare = at-rho .before .before .before .before in
+    let start = at-prepare .before .before .before in
+    gradients-whole (start .args .t) (start .pre)
+    (does-as (λ r. preparedAs r (at-prepare .prepare .last .0) (start .args .t .rows)) (at-rho .rho .given .1) (at-prepare .prepare .ensures))
+    (sum-there (at-tolerance .before .before .tolerance-for .ensures) (at-tolerance .tolerance .given .1) ∙ ap
+    (λ (x : Float). toleranceFor x (vecAt (at-prepare .prepare .last .0) RHS (start .args .t .rows))) tenth-12)
+    (c .before .before .search .ensures)
 
 pub gradients-spec : {M : Type 1} → statement M
 gradients-spec =
@@ -76,6 +115,6 @@ gradients-spec =
     new-requires-2
     same-length-2
     returns-2
-    gradient-loop-requires
+    search-requires
     same-length-3
     returns-3)

@@ -1,25 +1,29 @@
+-- prepare: diagonal, direction and rho row by row, by the turns of `prepareRow`.
 use native.Mathlib.Omega.{arith}
 use mathlib.Core.Path.{_≡_, refl}
 use Prim.Native.Nat.{_≤_, _-_}
 use lib.ListN.{length, length-set}
-use Rattle.arith.specs.Laws.Constants.{zero-is}
-use mathlib.Core.List.{[]}
 use Rattle.arith.specs.Real.{ratio}
-use Rattle.arith.specs.Flow.{go, loop}
-use Rattle.rows.specs.View.{Out}
-use Rattle.solves.specs.Solver.{prepareRow}
+use Rattle.arith.specs.Laws.Constants.{zero-is}
+use Rattle.arith.specs.Flow.{go, loop, turns}
+use mathlib.Core.List.{[]}
 use Rattle.solves.specs.Region.{vecAt, Does}
-use Rattle.solves.specs.View.{rowsOn, massesAt, preparedAt, MASSES, RESIDUAL, DIRECTION, DIAGONAL}
-use Rattle.solves.proofs.OperatorLaws.{on-a, on-b}
+use Rattle.solves.specs.View.{systemOn, preparedAt, Preparing}
+use Rattle.solves.specs.View.{RESIDUAL}
+use Rattle.solves.specs.Solver.{prepareRow}
 use Rattle.solves.proofs.GradientLaws.{prepared-none, prepared-wild, prepared-small, prepared-again, prepared-ends}
+use Rattle.solves.proofs.OperatorLaws.{on-a, on-b}
 use Rattle.solves.proofs.gradients.prepare.Statement.{statement}
 use Rattle.solves.proofs.gradients.prepare.Tie as tie
 
 abbrev Inv-loop : tie.InvT-loop
-Inv-loop s₀ ia ib rows n count rho₀ k₀ s rho k = (k ≤ n) × (length s ≡ length s₀) × (Does (λ i. (Out DIAGONAL 96 i) × (Out DIRECTION 96 i)) s₀ s (go (preparedAt s k rho)) (loop k (prepareRow (rowsOn ia ib s₀ rows n) (massesAt s₀ MASSES count) (vecAt s₀ RESIDUAL n)) (record { diagonal = []; direction = []; rho = ratio 0 1 })))
+Inv-loop s₀ ia ib t n rho₀ k₀ s rho k =
+    (k ≤ t .rows) × (length s ≡ length s₀)
+    × (Does Preparing s₀ s (go (preparedAt s k rho)) (loop k (prepareRow (systemOn ia ib s₀ t) (vecAt s₀ RESIDUAL (t .rows)))
+    (record { diagonal = []; direction = []; rho = ratio 0 1 })))
 
 abbrev μ-loop : tie.MeasureT-loop
-μ-loop s₀ ia ib rows n count rho₀ k₀ s rho k = n - k
+μ-loop s₀ ia ib t n rho₀ k₀ s rho k = t .rows - k
 
 loop-holds : tie.Need-loop-holds Inv-loop μ-loop
 loop-holds c = (omega arith, refl, prepared-none (c .before .pre) _ zero-is)
@@ -28,10 +32,16 @@ load-row-requires : tie.Need-load-row-requires Inv-loop μ-loop
 load-row-requires c κs = omega arith
 
 load-mass-requires : tie.Need-load-mass-requires Inv-loop μ-loop
-load-mass-requires c κs = omega (arith, on-a (c .before .before .before .before .before .before .pre) (c .before .before .before .loop-test .taken) (c .before .before .before .before .loop .s) (c .before .load-row .ensures))
+load-mass-requires c κs =
+    let in-loop = c .before .before .before in
+    omega (arith, on-a (in-loop .before .before .before .pre) (in-loop .loop-test .taken) (in-loop .before .loop .s) (c .before .load-row .ensures))
 
 load-mass-requires-2 : tie.Need-load-mass-requires-2 Inv-loop μ-loop
-load-mass-requires-2 c κs = omega (arith, on-b (c .before .before .before .before .before .before .before .before .pre) (c .before .before .before .before .before .loop-test .taken) (c .before .before .before .before .before .before .loop .s) (c .before .before .before .load-row .ensures))
+load-mass-requires-2 c κs =
+    let at-load-row = c .before .before .before in
+    let at-loop = at-load-row .before .before .before in
+    omega
+    (arith, on-b (at-loop .before .before .pre) (at-load-row .before .before .loop-test .taken) (at-loop .loop .s) (at-load-row .load-row .ensures))
 
 diagonal-entry-requires : tie.Need-diagonal-entry-requires Inv-loop μ-loop
 diagonal-entry-requires c κs = omega arith
@@ -40,55 +50,131 @@ is-finite-requires : tie.Need-is-finite-requires Inv-loop μ-loop
 is-finite-requires c κs = omega arith
 
 same-length : tie.Need-same-length Inv-loop μ-loop
-same-length c = c .before .before .before .before .before .before .before .before .before .before .loop .inv .1
+same-length c =
+    let at-load-mass-arg = c .before .before .before .before .before .before in
+    let at-loop = at-load-mass-arg .before .before .before .before in
+    at-loop .loop .inv .1
 
 returns : tie.Need-returns Inv-loop μ-loop
-returns c = prepared-wild (c .before .before .before .before .before .before .before .before .before .before .before .before .pre) _ (c .before .before .before .before .before .before .before .before .before .before .loop .inv .2) (c .before .before .before .before .before .before .before .before .before .loop-test .taken) (c .before .before .before .before .before .before .before .before .before .before .loop .inv .1) (c .before .before .before .before .before .before .before .load-row .ensures) (c .before .before .before .before .before .load-mass .ensures) (c .before .before .before .load-mass2 .ensures) (c .before .before .diagonal-entry .ensures) (c .before .is-finite .ensures) zero-is (c .if1 .taken)
+returns c =
+    let at-load-mass2 = c .before .before .before in
+    let at-load-row = at-load-mass2 .before .before .before .before in
+    let at-loop = at-load-row .before .before .before in
+    prepared-wild (at-loop .before .before .pre) _ (at-loop .loop .inv .2) (at-load-row .before .before .loop-test .taken) (at-loop .loop .inv .1)
+    (at-load-row .load-row .ensures)
+    (at-load-mass2 .before .before .load-mass .ensures) (at-load-mass2 .load-mass2 .ensures) (c .before .before .diagonal-entry .ensures)
+    (c .before .is-finite .ensures) zero-is (c .if1 .taken)
 
 same-length-2 : tie.Need-same-length-2 Inv-loop μ-loop
-same-length-2 c = c .before .before .before .before .before .before .before .before .before .before .before .loop .inv .1
+same-length-2 c =
+    let at-load-mass = c .before .before .before .before .before .before in
+    let at-loop = at-load-mass .before .before .before .before .before in
+    at-loop .loop .inv .1
 
 returns-2 : tie.Need-returns-2 Inv-loop μ-loop
-returns-2 c = prepared-small (c .before .before .before .before .before .before .before .before .before .before .before .before .before .pre) _ (c .before .before .before .before .before .before .before .before .before .before .before .loop .inv .2) (c .before .before .before .before .before .before .before .before .before .before .loop-test .taken) (c .before .before .before .before .before .before .before .before .before .before .before .loop .inv .1) (c .before .before .before .before .before .before .before .before .load-row .ensures) (c .before .before .before .before .before .before .load-mass .ensures) (c .before .before .before .before .load-mass2 .ensures) (c .before .before .before .diagonal-entry .ensures) (c .before .before .is-finite .ensures) zero-is (c .before .if1 .left) (c .if2 .taken)
+returns-2 c =
+    let at-diagonal-entry = c .before .before .before in
+    let at-load-mass = at-diagonal-entry .before .before .before in
+    let in-loop = at-load-mass .before .before .before .before in
+    let at-loop = in-loop .before in
+    prepared-small (at-loop .before .before .pre) _ (at-loop .loop .inv .2) (in-loop .loop-test .taken) (at-loop .loop .inv .1)
+    (at-load-mass .before .before .load-row .ensures)
+    (at-load-mass .load-mass .ensures) (at-diagonal-entry .before .load-mass2 .ensures) (at-diagonal-entry .diagonal-entry .ensures)
+    (c .before .before .is-finite .ensures) zero-is (c .before .if1 .left) (c .if2 .taken)
 
 add-r : tie.Need-add-r Inv-loop μ-loop
-add-r c = omega (arith, c .before .before .before .before .before .before .before .before .before .before .before .before .before .pre .whole, c .before .before .before .before .before .before .before .before .before .before .before .before .before .pre .most, c .before .before .before .before .before .before .before .before .before .before .before .loop .inv .1, c .before .before .before .before .before .before .before .before .before .before .loop-test .taken)
+add-r c =
+    let at-load-mass = c .before .before .before .before .before .before in
+    let in-loop = at-load-mass .before .before .before .before in
+    let start = in-loop .before .before .before in
+    omega (arith, start .pre .whole, start .pre .most, in-loop .before .loop .inv .1, in-loop .loop-test .taken)
 
 mul-r : tie.Need-mul-r Inv-loop μ-loop
-mul-r c = omega (arith, c .before .before .before .before .before .before .before .before .before .before .before .before .before .pre .whole, c .before .before .before .before .before .before .before .before .before .before .before .before .before .pre .most, c .before .before .before .before .before .before .before .before .before .before .before .loop .inv .1, c .before .before .before .before .before .before .before .before .before .before .loop-test .taken)
+mul-r c =
+    let at-load-mass = c .before .before .before .before .before .before in
+    let in-loop = at-load-mass .before .before .before .before in
+    let start = in-loop .before .before .before in
+    omega (arith, start .pre .whole, start .pre .most, in-loop .before .loop .inv .1, in-loop .loop-test .taken)
 
 slice-read-r : tie.Need-slice-read-r Inv-loop μ-loop
-slice-read-r c = omega (arith, c .before .before .before .before .before .before .before .before .before .before .before .before .before .before .pre .whole, c .before .before .before .before .before .before .before .before .before .before .before .before .before .before .pre .most, c .before .before .before .before .before .before .before .before .before .before .before .before .loop .inv .1, c .before .before .before .before .before .before .before .before .before .before .before .loop-test .taken)
+slice-read-r c =
+    let at-load-mass-arg2 = c .before .before .before .before .before .before in
+    let in-loop = at-load-mass-arg2 .before .before .before .before .before in
+    let start = in-loop .before .before .before in
+    omega (arith, start .pre .whole, start .pre .most, in-loop .before .loop .inv .1, in-loop .loop-test .taken)
 
 add-s : tie.Need-add-s Inv-loop μ-loop
-add-s c = omega (arith, c .before .before .before .before .before .before .before .before .before .before .before .before .before .before .pre .whole, c .before .before .before .before .before .before .before .before .before .before .before .before .before .before .pre .most, c .before .before .before .before .before .before .before .before .before .before .before .before .loop .inv .1, c .before .before .before .before .before .before .before .before .before .before .before .loop-test .taken)
+add-s c =
+    let at-load-mass-arg2 = c .before .before .before .before .before .before in
+    let in-loop = at-load-mass-arg2 .before .before .before .before .before in
+    let start = in-loop .before .before .before in
+    omega (arith, start .pre .whole, start .pre .most, in-loop .before .loop .inv .1, in-loop .loop-test .taken)
 
 mul-s : tie.Need-mul-s Inv-loop μ-loop
-mul-s c = omega (arith, c .before .before .before .before .before .before .before .before .before .before .before .before .before .before .pre .whole, c .before .before .before .before .before .before .before .before .before .before .before .before .before .before .pre .most, c .before .before .before .before .before .before .before .before .before .before .before .before .loop .inv .1, c .before .before .before .before .before .before .before .before .before .before .before .loop-test .taken)
+mul-s c =
+    let at-load-mass-arg2 = c .before .before .before .before .before .before in
+    let in-loop = at-load-mass-arg2 .before .before .before .before .before in
+    let start = in-loop .before .before .before in
+    omega (arith, start .pre .whole, start .pre .most, in-loop .before .loop .inv .1, in-loop .loop-test .taken)
 
 slice-write-s : tie.Need-slice-write-s Inv-loop μ-loop
-slice-write-s c = omega (arith, c .before .before .before .before .before .before .before .before .before .before .before .before .before .before .pre .whole, c .before .before .before .before .before .before .before .before .before .before .before .before .before .before .pre .most, c .before .before .before .before .before .before .before .before .before .before .before .before .loop .inv .1, c .before .before .before .before .before .before .before .before .before .before .before .loop-test .taken)
+slice-write-s c =
+    let at-load-mass-arg2 = c .before .before .before .before .before .before in
+    let in-loop = at-load-mass-arg2 .before .before .before .before .before in
+    let start = in-loop .before .before .before in
+    omega (arith, start .pre .whole, start .pre .most, in-loop .before .loop .inv .1, in-loop .loop-test .taken)
 
 add-s-2 : tie.Need-add-s-2 Inv-loop μ-loop
-add-s-2 c = omega (arith, c .before .before .before .before .before .before .before .before .before .before .before .before .before .before .pre .whole, c .before .before .before .before .before .before .before .before .before .before .before .before .before .before .pre .most, c .before .before .before .before .before .before .before .before .before .before .before .before .loop .inv .1, c .before .before .before .before .before .before .before .before .before .before .before .loop-test .taken)
+add-s-2 c =
+    let at-load-mass-arg2 = c .before .before .before .before .before .before in
+    let in-loop = at-load-mass-arg2 .before .before .before .before .before in
+    let start = in-loop .before .before .before in
+    omega (arith, start .pre .whole, start .pre .most, in-loop .before .loop .inv .1, in-loop .loop-test .taken)
 
 mul-s-2 : tie.Need-mul-s-2 Inv-loop μ-loop
-mul-s-2 c = omega (arith, c .before .before .before .before .before .before .before .before .before .before .before .before .before .before .pre .whole, c .before .before .before .before .before .before .before .before .before .before .before .before .before .before .pre .most, c .before .before .before .before .before .before .before .before .before .before .before .before .loop .inv .1, c .before .before .before .before .before .before .before .before .before .before .before .loop-test .taken)
+mul-s-2 c =
+    let at-load-mass-arg2 = c .before .before .before .before .before .before in
+    let in-loop = at-load-mass-arg2 .before .before .before .before .before in
+    let start = in-loop .before .before .before in
+    omega (arith, start .pre .whole, start .pre .most, in-loop .before .loop .inv .1, in-loop .loop-test .taken)
 
 slice-write-s-2 : tie.Need-slice-write-s-2 Inv-loop μ-loop
-slice-write-s-2 c = simp length-set (omega (arith, c .before .before .before .before .before .before .before .before .before .before .before .before .before .before .pre .whole, c .before .before .before .before .before .before .before .before .before .before .before .before .before .before .pre .most, c .before .before .before .before .before .before .before .before .before .before .before .before .loop .inv .1, c .before .before .before .before .before .before .before .before .before .before .before .loop-test .taken))
+slice-write-s-2 c =
+    let at-load-mass-arg2 = c .before .before .before .before .before .before in
+    let in-loop = at-load-mass-arg2 .before .before .before .before .before in
+    let start = in-loop .before .before .before in
+    simp length-set (omega (arith, start .pre .whole, start .pre .most, in-loop .before .loop .inv .1, in-loop .loop-test .taken))
 
 add-k : tie.Need-add-k Inv-loop μ-loop
-add-k c = omega (arith, c .before .before .before .before .before .before .before .before .before .before .before .before .before .before .pre .whole, c .before .before .before .before .before .before .before .before .before .before .before .before .before .before .pre .most, c .before .before .before .before .before .before .before .before .before .before .before .before .loop .inv .1, c .before .before .before .before .before .before .before .before .before .before .before .loop-test .taken)
+add-k c =
+    let at-load-mass-arg2 = c .before .before .before .before .before .before in
+    let in-loop = at-load-mass-arg2 .before .before .before .before .before in
+    let start = in-loop .before .before .before in
+    omega (arith, start .pre .whole, start .pre .most, in-loop .before .loop .inv .1, in-loop .loop-test .taken)
 
 loop-less : tie.Need-loop-less Inv-loop μ-loop
-loop-less c = omega (arith, c .before .before .before .before .before .before .before .before .before .before .before .loop-test .taken)
+loop-less c =
+    let at-load-mass-arg2 = c .before .before .before .before .before .before in
+    let in-loop = at-load-mass-arg2 .before .before .before .before .before in
+    let start = in-loop .before .before .before in
+    omega (arith, start .pre .whole, start .pre .most, in-loop .before .loop .inv .1, in-loop .loop-test .taken)
 
 loop-again : tie.Need-loop-again Inv-loop μ-loop
-loop-again c = (omega (arith, c .before .before .before .before .before .before .before .before .before .before .before .loop-test .taken), simp length-set (c .before .before .before .before .before .before .before .before .before .before .before .before .loop .inv .1), prepared-again (c .before .before .before .before .before .before .before .before .before .before .before .before .before .before .pre) _ (c .before .before .before .before .before .before .before .before .before .before .before .before .loop .inv .2) (c .before .before .before .before .before .before .before .before .before .before .before .loop-test .taken) (c .before .before .before .before .before .before .before .before .before .before .before .before .loop .inv .1) (c .before .before .before .before .before .before .before .before .before .load-row .ensures) (c .before .before .before .before .before .before .before .load-mass .ensures) (c .before .before .before .before .before .load-mass2 .ensures) (c .before .before .before .before .diagonal-entry .ensures) (c .before .before .before .is-finite .ensures) zero-is (c .before .before .if1 .left) (c .before .if2 .left))
+loop-again c =
+    let at-is-finite = c .before .before .before in
+    let at-load-mass = at-is-finite .before .before .before .before in
+    let in-loop = at-load-mass .before .before .before .before in
+    let at-loop = in-loop .before in (
+      omega (arith, in-loop .loop-test .taken),
+      simp length-set (at-loop .loop .inv .1),
+      prepared-again (at-loop .before .before .pre) _ (at-loop .loop .inv .2) (in-loop .loop-test .taken) (at-loop .loop .inv .1)
+          (at-load-mass .before .before .load-row .ensures)
+          (at-load-mass .load-mass .ensures) (at-is-finite .before .before .load-mass2 .ensures) (at-is-finite .before .diagonal-entry .ensures)
+          (at-is-finite .is-finite .ensures) zero-is (c .before .before .if1 .left) (c .before .if2 .left),
+    )
 
 same-length-3 : tie.Need-same-length-3 Inv-loop μ-loop
-same-length-3 c = omega arith
+same-length-3 c = c .before .loop .inv .1
 
 returns-3 : tie.Need-returns-3 Inv-loop μ-loop
 returns-3 c = prepared-ends (c .before .before .before .pre) _ (c .before .loop .inv .2) (omega arith) (c .loop-test .left)

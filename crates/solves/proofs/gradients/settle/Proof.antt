@@ -1,61 +1,72 @@
+-- settle: over with the true residual, or the next direction.
+use native.Mathlib.Omega.{arith}
 use borrow.Author.Needs.{needs}
-use lib.ListN.{length}
-use Rattle.solves.specs.declared.gradients.Test.{Test}
-use Rattle.solves.specs.Answer.{trueAs}
-use Rattle.solves.specs.DoesLaws.{does-as}
-use Rattle.solves.proofs.GradientLaws.{settle-stop, settle-next}
+use mathlib.Core.Path.{_∙_}
+use Prim.Native.Nat.{_-_}
+use Rattle.solves.proofs.GradientLaws.{settle-over, settle-next}
 use Rattle.solves.proofs.gradients.settle.Statement.{statement}
 use Rattle.solves.proofs.gradients.settle.Tie as tie
 
 true-residual-requires : tie.Need-true-residual-requires
-true-residual-requires c κs = search needs
+true-residual-requires c κs = c .before .before .pre
+
+enum-known-end : tie.Need-enum-known-end
+enum-known-end c = search needs
+
+same-length : tie.Need-same-length
+same-length c =
+    let at-true-residual = c .before .before .before .before .before in
+    at-true-residual .true-residual .ensures .kept .size
+
+returns : tie.Need-returns
+returns c =
+    let at-end = c .before in
+    let at-true-residual = at-end .before .before .before .before in
+    let start = at-true-residual .before .before .before in
+    settle-over (start .args .t) (start .pre) (start .args .tolerance) (start .args .rho) (at-true-residual .true-residual .result)
+    (at-end .end .given .0 .0) (at-end .end .given .1) (at-true-residual .true-residual .ensures)
 
 enum-told : tie.Need-enum-told
 enum-told c = search needs
 
-enum-told-2 : tie.Need-enum-told-2
-enum-told-2 c = search needs
-
 scaled-square-requires : tie.Need-scaled-square-requires
-scaled-square-requires c κs = search needs
+scaled-square-requires c κs =
+    let at-true-residual = c .before .before .before .before .before in
+    let start = at-true-residual .before .before .before in
+    omega (arith, at-true-residual .true-residual .ensures .kept .size, start .pre .whole, start .pre .most)
 
 next-direction-requires : tie.Need-next-direction-requires
-next-direction-requires c κs = search needs
-
-enum-told-3 : tie.Need-enum-told-3
-enum-told-3 c = search needs
-
-same-length : tie.Need-same-length
-same-length c = search needs
-
-returns : tie.Need-returns
-returns c = settle-stop (c .before .before .before .before .before .before .before .pre) (c .before .before .before .before .before .before .before .args .tolerance) (c .before .before .before .before .before .before .before .args .rho) (does-as (λ (q : Test). trueAs q (c .before .before .before .before .true-residual .last .0) (c .before .before .before .before .before .before .before .args .n)) (c .enum-told .given .1) (c .before .before .before .before .true-residual .ensures))
+next-direction-requires c κs =
+    let at-s = c .before .before .before .before .before .before in
+    let at-true-residual = at-s .before in
+    let start = at-true-residual .before .before .before in
+    omega (arith, at-true-residual .true-residual .ensures .kept .size, start .pre .whole, start .pre .most)
 
 same-length-2 : tie.Need-same-length-2
-same-length-2 c = search needs
+same-length-2 c =
+    let at-enum-told = c .before .before .before .before .before .before in
+    let at-true-residual = at-enum-told .before .before .before .before in
+    c .before .before .next-direction .ensures .kept .size ∙ at-true-residual .true-residual .ensures .kept .size
 
 returns-2 : tie.Need-returns-2
-returns-2 c = settle-next (c .before .before .before .before .before .before .before .before .before .before .before .before .before .pre) (c .before .before .before .before .before .before .before .before .before .before .before .before .before .args .tolerance) (c .before .before .before .before .before .before .before .before .before .before .before .before .before .args .rho) (does-as (λ (q : Test). trueAs q (c .before .before .before .before .before .before .before .before .before .before .true-residual .last .0) (c .before .before .before .before .before .before .before .before .before .before .before .before .before .args .n)) (c .before .before .before .before .before .before .enum-told2 .given .1) (c .before .before .before .before .before .before .before .before .before .before .true-residual .ensures)) (c .before .before .before .before .scaled-square .ensures) (c .before .before .next-direction .ensures)
-
-same-length-3 : tie.Need-same-length-3
-same-length-3 c = search needs
-
-returns-3 : tie.Need-returns-3
-returns-3 c = settle-stop (c .before .before .before .before .before .before .before .pre) (c .before .before .before .before .before .before .before .args .tolerance) (c .before .before .before .before .before .before .before .args .rho) (does-as (λ (q : Test). trueAs q (c .before .before .before .before .true-residual .last .0) (c .before .before .before .before .before .before .before .args .n)) (c .enum-told3 .given .1) (c .before .before .before .before .true-residual .ensures))
+returns-2 c =
+    let at-scaled-square = c .before .before .before .before in
+    let at-true-residual = at-scaled-square .before .before .before .before .before .before in
+    let start = at-true-residual .before .before .before in
+    settle-next (start .args .t) (start .pre) (start .args .tolerance) (start .args .rho) (at-true-residual .true-residual .result)
+    (at-scaled-square .before .before .enum-told .given .1) (at-true-residual .true-residual .ensures)
+    (at-scaled-square .scaled-square .ensures) (c .before .before .next-direction .ensures)
 
 pub settle-spec : {M : Type 1} → statement M
 settle-spec =
     tie.close
     (tie.spec
     true-residual-requires
-    enum-told
-    enum-told-2
-    scaled-square-requires
-    next-direction-requires
-    enum-told-3
+    enum-known-end
     same-length
     returns
+    enum-told
+    scaled-square-requires
+    next-direction-requires
     same-length-2
-    returns-2
-    same-length-3
-    returns-3)
+    returns-2)

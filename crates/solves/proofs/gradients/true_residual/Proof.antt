@@ -1,79 +1,137 @@
+-- true_residual: the test, the residual recomputed, and the test again.
+use native.Mathlib.Omega.{arith}
 use borrow.Author.Needs.{needs}
-use lib.ListN.{length}
-use Rattle.solves.specs.DoesLaws.{done, over}
-use Rattle.solves.proofs.GradientLaws.{test-is, true-lost, true-far, true-lost-2, true-again}
+use mathlib.Core.Path.{sym, _∙_}
+use Prim.Native.Nat.{_-_}
+use Rattle.arith.specs.FlowLaws.{not-no}
+use mathlib.Core.Bool.{true}
+use Rattle.solves.specs.View.{SOLUTION, PRODUCT}
+use Rattle.solves.specs.DoesLaws.{went, failed, fails, does-eq}
+use Rattle.solves.specs.DoesLaws.{ran-done}
+use Rattle.solves.proofs.GradientLaws.{test-is, true-beyond, true-wild, true-unmoved, true-again}
+use Rattle.solves.proofs.OperatorLaws.{place-of}
 use Rattle.solves.proofs.gradients.true_residual.Statement.{statement}
 use Rattle.solves.proofs.gradients.true_residual.Tie as tie
 
 residual-test-requires : tie.Need-residual-test-requires
-residual-test-requires c κs = search needs
+residual-test-requires c κs =
+    let start = c .before .before in
+    omega (arith, start .pre .whole, start .pre .most)
+
+enum-known-near : tie.Need-enum-known-near
+enum-known-near c = search needs
 
 enum-told : tie.Need-enum-told
 enum-told c = search needs
-
-operator-requires : tie.Need-operator-requires
-operator-requires c κs = search needs
-
-enum-told-2 : tie.Need-enum-told-2
-enum-told-2 c = search needs
 
 same-length : tie.Need-same-length
 same-length c = search needs
 
 returns : tie.Need-returns
-returns c = true-lost-2 (c .before .before .before .before .before .before .before .before .before .before .before .pre) (c .before .before .before .before .before .before .before .before .before .before .before .args .tolerance) (test-is (c .before .before .before .before .before .before .before .before .residual-test .ensures) (c .before .before .before .before .before .before .enum-told .given .1)) (over _ (c .before .before .before .before .operator .ensures) (c .enum-told2 .given .1))
+returns c =
+    let start = c .before .before .before .before .before in
+    true-beyond (start .args .t) (start .pre) (start .args .tolerance) (test-is (c .before .before .residual-test .ensures) (c .enum-told .given .1))
 
-enum-told-3 : tie.Need-enum-told-3
-enum-told-3 c = search needs
-
-difference-requires : tie.Need-difference-requires
-difference-requires c κs = search needs
-
-residual-test-requires-2 : tie.Need-residual-test-requires-2
-residual-test-requires-2 c κs = search needs
-
-enum-told-4 : tie.Need-enum-told-4
-enum-told-4 c = search needs
-
-enum-told-5 : tie.Need-enum-told-5
-enum-told-5 c = search needs
+done-requires : tie.Need-done-requires
+done-requires c κs = search needs
 
 same-length-2 : tie.Need-same-length-2
 same-length-2 c = search needs
 
 returns-2 : tie.Need-returns-2
-returns-2 c = true-again (c .before .before .before .before .before .before .before .before .before .before .before .before .before .before .before .before .before .pre) (c .before .before .before .before .before .before .before .before .before .before .before .before .before .before .before .before .before .args .tolerance) (test-is (c .before .before .before .before .before .before .before .before .before .before .before .before .before .before .residual-test .ensures) (c .before .before .before .before .before .before .before .before .before .before .before .before .enum-told .given .1)) (done _ (c .before .before .before .before .before .before .before .before .before .before .operator .ensures) (c .before .before .before .before .before .before .enum-told3 .given .1)) (c .before .before .before .before .difference .ensures) (c .residual-test2 .result) (c .residual-test2 .ensures)
+returns-2 c =
+    let at-done = c .before in
+    let at-near = at-done .before .before in
+    let start = at-near .before .before .before .before .before in
+    does-eq (fails _ (at-near .near .given .0 .0) (at-done .done .ensures) (c .if1 .taken))
+    (true-wild (start .args .t) (start .pre) (start .args .tolerance)
+    (sym (fails true (at-near .near .given .0 .0) (at-done .done .ensures) (c .if1 .taken)) ∙ test-is
+    (at-near .before .before .residual-test .ensures) (at-near .near .given .1)))
+
+operator-requires : tie.Need-operator-requires
+operator-requires c κs =
+    let at-residual-test = c .before .before .before .before .before .before in
+    let start = at-residual-test .before .before .before in (
+      start .pre,
+      place-of SOLUTION (omega arith) (omega arith) (omega (arith, start .pre .whole)),
+      place-of PRODUCT (omega arith) (omega arith)
+          (omega (arith, start .pre .whole)),
+    )
+
+done-requires-2 : tie.Need-done-requires-2
+done-requires-2 c κs = search needs
 
 same-length-3 : tie.Need-same-length-3
-same-length-3 c = search needs
+same-length-3 c =
+    let at-operator = c .before .before .before .before in
+    at-operator .operator .ensures .kept .size
 
 returns-3 : tie.Need-returns-3
-returns-3 c = true-far (c .before .before .before .before .before .pre) (c .before .before .before .before .before .args .tolerance) (test-is (c .before .before .residual-test .ensures) (c .enum-told4 .given .1))
+returns-3 c =
+    let at-done2 = c .before in
+    let at-operator = at-done2 .before .before .before in
+    let at-done = at-operator .before .before .before in
+    let at-near = at-done .before .before in
+    let start = at-near .before .before .before .before .before in
+    let end = at-operator .operator .result in
+    does-eq (fails _ end (at-done2 .done2 .ensures) (c .if2 .taken))
+    (true-unmoved (start .args .t) (start .pre) (start .args .tolerance)
+    (sym (ran-done true (at-near .near .given .0 .0) (sym (at-done .done .ensures) ∙ not-no _ (at-operator .before .before .if1 .left)))
+    ∙ test-is (at-near .before .before .residual-test .ensures) (at-near .near .given .1))
+    (failed _ end (at-done2 .done2 .ensures) (at-operator .operator .ensures) (c .if2 .taken)))
+
+difference-requires : tie.Need-difference-requires
+difference-requires c κs =
+    let at-operator = c .before .before .before .before .before in
+    let at-match-keys1 = at-operator .before .before .before .before .before .before in
+    let start = at-match-keys1 .before .before .before .before in
+    omega (arith, at-operator .operator .ensures .kept .size, start .pre .whole, start .pre .most)
+
+residual-test-requires-2 : tie.Need-residual-test-requires-2
+residual-test-requires-2 c κs =
+    let at-difference = c .before .before .before in
+    let at-operator = at-difference .before .before .before .before .before .before in
+    let at-match-keys1 = at-operator .before .before .before .before .before .before in
+    let start = at-match-keys1 .before .before .before .before in
+    omega (arith, at-difference .difference .ensures .kept .size, at-operator .operator .ensures .kept .size, start .pre .whole, start .pre .most)
 
 same-length-4 : tie.Need-same-length-4
-same-length-4 c = search needs
+same-length-4 c =
+    let at-difference = c .before .before .before .before in
+    let at-operator = at-difference .before .before .before .before .before .before in
+    at-difference .difference .ensures .kept .size ∙ at-operator .operator .ensures .kept .size
 
 returns-4 : tie.Need-returns-4
-returns-4 c = true-lost (c .before .before .before .before .before .pre) (c .before .before .before .before .before .args .tolerance) (test-is (c .before .before .residual-test .ensures) (c .enum-told5 .given .1))
+returns-4 c =
+    let at-difference = c .before .before .before .before in
+    let at-done2 = at-difference .before .before .before in
+    let at-operator = at-done2 .before .before .before in
+    let at-done = at-operator .before .before .before in
+    let at-near = at-done .before .before in
+    let start = at-near .before .before .before .before .before in
+    true-again (start .args .t) (start .pre) (start .args .tolerance)
+    (sym (ran-done true (at-near .near .given .0 .0) (sym (at-done .done .ensures) ∙ not-no _ (at-operator .before .before .if1 .left)))
+    ∙ test-is (at-near .before .before .residual-test .ensures) (at-near .near .given .1))
+    (went _ (at-operator .operator .result) (at-done2 .done2 .ensures) (at-operator .operator .ensures) (at-difference .before .before .if2 .left))
+    (at-difference .difference .ensures) (c .residual-test2 .result) (c .residual-test2 .ensures)
 
 pub true-residual-spec : {M : Type 1} → statement M
 true-residual-spec =
     tie.close
     (tie.spec
     residual-test-requires
+    enum-known-near
     enum-told
-    operator-requires
-    enum-told-2
     same-length
     returns
-    enum-told-3
-    difference-requires
-    residual-test-requires-2
-    enum-told-4
-    enum-told-5
+    done-requires
     same-length-2
     returns-2
+    operator-requires
+    done-requires-2
     same-length-3
     returns-3
+    difference-requires
+    residual-test-requires-2
     same-length-4
     returns-4)

@@ -1,11 +1,15 @@
+-- least_pass: five writes and seven ways to end, each a law of LeastLaws.
 use native.Mathlib.Omega.{arith}
 use borrow.Author.Needs.{needs}
-use mathlib.Core.Path.{_∙_}
-use lib.ListN.{length}
+use mathlib.Core.Path.{_∙_, ap}
+use Prim.Native.Nat.{_-_}
 use Rattle.arith.specs.Laws.Constants.{zero-is}
-use Rattle.solves.specs.DoesLaws.{done, over, sum-there, sum-over}
-use Rattle.solves.proofs.OperatorLaws.{rows-kept}
-use Rattle.solves.proofs.LeastLaws.{pass-solved, pass-lost-1, pass-lost-2, pass-stuck, pass-lost-3, pass-lost-4, pass-next}
+use Rattle.arith.specs.Run.{ran}
+use Rattle.arith.specs.Run.{ran}
+use Rattle.solves.specs.View.{RESIDUAL, DIRECTION, PRODUCT, NORMAL}
+use Rattle.solves.specs.DoesLaws.{sum-there, sum-over, went, failed, fails-over, does-eq}
+use Rattle.solves.proofs.OperatorLaws.{rows-kept, place-of}
+use Rattle.solves.proofs.LeastLaws.{pass-solved, pass-unmoved, pass-unmeasured, pass-stuck, pass-unreturned, pass-unmeasured-again, pass-next}
 use Rattle.solves.proofs.least_squares.least_pass.Statement.{statement}
 use Rattle.solves.proofs.least_squares.least_pass.Tie as tie
 
@@ -13,88 +17,249 @@ sqrt-requires : tie.Need-sqrt-requires
 sqrt-requires c κs = search needs
 
 returns : tie.Need-returns
-returns c = pass-solved (c .before .before .before .pre) (c .before .before .before .args .tolerance) (c .before .before .before .args .norm) (c .before .sqrt .ensures .is) (c .if1 .taken)
+returns c =
+    let start = c .before .before .before in
+    pass-solved (start .args .t) (start .pre) (start .args .tolerance) (start .args .norm) (c .before .sqrt .ensures .is) (c .if1 .taken)
 
 operator-requires : tie.Need-operator-requires
-operator-requires c κs = search needs
+operator-requires c κs =
+    let start = c .before .before .before .before in (
+      start .pre,
+      place-of DIRECTION (omega arith) (omega arith) (omega (arith, start .pre .whole)),
+      place-of PRODUCT (omega arith) (omega arith)
+          (omega (arith, start .pre .whole)),
+    )
 
-enum-told : tie.Need-enum-told
-enum-told c = search needs
+done-requires : tie.Need-done-requires
+done-requires c κs = search needs
 
 same-length : tie.Need-same-length
-same-length c = search needs
+same-length c =
+    let at-operator = c .before .before .before .before in
+    at-operator .operator .ensures .kept .size
 
 returns-2 : tie.Need-returns-2
-returns-2 c = pass-lost-1 (c .before .before .before .before .before .before .before .before .before .pre) (c .before .before .before .before .before .before .before .before .before .args .tolerance) (c .before .before .before .before .before .before .before .before .before .args .norm) (c .before .before .before .before .before .before .before .sqrt .ensures .is) (c .before .before .before .before .before .before .if1 .left) (over _ (c .before .before .before .before .operator .ensures) (c .enum-told .given .1))
-
-enum-told-2 : tie.Need-enum-told-2
-enum-told-2 c = search needs
+returns-2 c =
+    let at-done = c .before in
+    let at-operator = at-done .before .before .before in
+    let at-sqrt = at-operator .before .before .before in
+    let start = at-sqrt .before .before in
+    let end = at-operator .operator .result in
+    does-eq (ap (λ x. ran x 0 0) (fails-over _ end (at-done .done .ensures) (c .if2 .taken)))
+    (pass-unmoved (start .args .t) (start .pre) (start .args .tolerance) (start .args .norm) (at-sqrt .sqrt .ensures .is)
+    (at-operator .before .before .if1 .left)
+    (failed _ end (at-done .done .ensures) (at-operator .operator .ensures) (c .if2 .taken)))
 
 dot-requires : tie.Need-dot-requires
-dot-requires c κs = search needs
+dot-requires c κs =
+    let at-operator = c .before .before .before .before .before in
+    let start = at-operator .before .before .before .before .before in
+    omega (arith, at-operator .operator .ensures .kept .size, start .pre .whole, start .pre .most)
 
 enum-known-denominator : tie.Need-enum-known-denominator
 enum-known-denominator c = search needs
 
-enum-told-3 : tie.Need-enum-told-3
-enum-told-3 c = search needs
+enum-told : tie.Need-enum-told
+enum-told c = search needs
 
 same-length-2 : tie.Need-same-length-2
-same-length-2 c = search needs
+same-length-2 c =
+    let at-slice-known2 = c .before .before .before .before .before .before in
+    let at-operator = at-slice-known2 .before .before in
+    at-operator .operator .ensures .kept .size
 
 returns-3 : tie.Need-returns-3
-returns-3 c = pass-lost-2 (c .before .before .before .before .before .before .before .before .before .before .before .before .before .pre) (c .before .before .before .before .before .before .before .before .before .before .before .before .before .args .tolerance) (c .before .before .before .before .before .before .before .before .before .before .before .before .before .args .norm) (c .before .before .before .before .before .before .before .before .before .before .before .sqrt .ensures .is) (c .before .before .before .before .before .before .before .before .before .before .if1 .left) (done _ (c .before .before .before .before .before .before .before .before .operator .ensures) (c .before .before .before .before .enum-told2 .given .1)) (sum-over (c .before .before .dot .ensures) (c .enum-told3 .given .1))
+returns-3 c =
+    let at-Else2 = c .before .before .before .before in
+    let at-operator = at-Else2 .before .before .before .before in
+    let at-sqrt = at-operator .before .before .before in
+    let start = at-sqrt .before .before in
+    pass-unmeasured (start .args .t) (start .pre) (start .args .tolerance) (start .args .norm) (at-sqrt .sqrt .ensures .is)
+    (at-operator .before .before .if1 .left)
+    (went _ (at-operator .operator .result) (at-Else2 .before .done .ensures) (at-operator .operator .ensures) (at-Else2 .if2 .left))
+    (sum-over (c .before .before .dot .ensures) (c .enum-told .given .1))
 
 same-length-3 : tie.Need-same-length-3
-same-length-3 c = search needs
+same-length-3 c =
+    let at-Else2 = c .before .before .before .before .before .before in
+    let at-operator = at-Else2 .before .before .before .before in
+    at-operator .operator .ensures .kept .size
 
 returns-4 : tie.Need-returns-4
-returns-4 c = pass-stuck (c .before .before .before .before .before .before .before .before .before .before .before .before .before .before .before .pre) (c .before .before .before .before .before .before .before .before .before .before .before .before .before .before .before .args .tolerance) (c .before .before .before .before .before .before .before .before .before .before .before .before .before .before .before .args .norm) (c .before .before .before .before .before .before .before .before .before .before .before .before .before .sqrt .ensures .is) (c .before .before .before .before .before .before .before .before .before .before .before .before .if1 .left) (done _ (c .before .before .before .before .before .before .before .before .before .before .operator .ensures) (c .before .before .before .before .before .before .enum-told2 .given .1)) zero-is (sum-there (c .before .before .before .before .dot .ensures) (c .before .before .denominator .given .1)) (c .if2 .taken)
+returns-4 c =
+    let at-dot = c .before .before .before .before in
+    let at-done = at-dot .before .before .before in
+    let at-operator = at-done .before .before .before in
+    let at-sqrt = at-operator .before .before .before in
+    let start = at-sqrt .before .before in
+    pass-stuck (start .args .t) (start .pre) (start .args .tolerance) (start .args .norm) (at-sqrt .sqrt .ensures .is)
+    (at-operator .before .before .if1 .left)
+    (went _ (at-operator .operator .result) (at-done .done .ensures) (at-operator .operator .ensures) (at-dot .before .before .if2 .left))
+    zero-is (sum-there (at-dot .dot .ensures) (c .before .before .denominator .given .1)) (c .if3 .taken)
 
 add-scaled-requires : tie.Need-add-scaled-requires
-add-scaled-requires c κs = search needs
+add-scaled-requires c κs =
+    let at-dot-arg = c .before .before .before .before .before .before in
+    let at-operator = at-dot-arg .before .before .before .before .before in
+    let start = at-operator .before .before .before .before .before in
+    omega (arith, at-operator .operator .ensures .kept .size, start .pre .whole, start .pre .most)
 
 sub-scaled-requires : tie.Need-sub-scaled-requires
-sub-scaled-requires c κs = search needs
+sub-scaled-requires c κs =
+    let at-add-scaled = c .before .before .before in
+    let at-dot = at-add-scaled .before .before .before .before .before .before in
+    let at-operator = at-dot .before .before .before .before .before .before in
+    let start = at-operator .before .before .before .before .before in
+    omega (arith, at-add-scaled .add-scaled .ensures .kept .size, at-operator .operator .ensures .kept .size, start .pre .whole, start .pre .most)
 
 operator-requires-2 : tie.Need-operator-requires-2
-operator-requires-2 c κs = (rows-kept (c .before .before .before .before .before .before .before .before .before .before .before .before .before .before .before .before .before .before .before .before .before .before .before .before .pre) (c .before .before .before .sub-scaled .ensures .kept .size ∙ c .before .before .before .before .before .before .before .add-scaled .ensures .kept .size ∙ c .before .before .before .before .before .before .before .before .before .before .before .before .before .before .before .before .before .before .before .operator .ensures .kept .size), search needs, search needs)
+operator-requires-2 c κs =
+    let at-sub-scaled = c .before .before .before in
+    let at-add-scaled = at-sub-scaled .before .before .before .before in
+    let at-dot = at-add-scaled .before .before .before .before .before .before in
+    let at-operator = at-dot .before .before .before .before .before .before in
+    let start = at-operator .before .before .before .before .before in
+    let size = at-sub-scaled .sub-scaled .ensures .kept .size ∙ at-add-scaled .add-scaled .ensures .kept .size
+    ∙ at-operator .operator .ensures .kept .size in (
+      rows-kept (start .pre) size,
+      place-of RESIDUAL (omega arith) (omega arith) (omega (arith, size, start .pre .whole)),
+      place-of NORMAL
+          (omega arith) (omega arith) (omega (arith, size, start .pre .whole)),
+    )
 
-enum-told-4 : tie.Need-enum-told-4
-enum-told-4 c = search needs
+done-requires-2 : tie.Need-done-requires-2
+done-requires-2 c κs = search needs
 
 same-length-4 : tie.Need-same-length-4
-same-length-4 c = search needs
+same-length-4 c =
+    let at-operator2 = c .before .before .before .before in
+    let at-sub-scaled = at-operator2 .before .before .before .before in
+    let at-add-scaled = at-sub-scaled .before .before .before .before in
+    let at-dot = at-add-scaled .before .before .before .before .before .before in
+    let at-operator = at-dot .before .before .before .before .before .before in
+    at-operator2 .operator2 .ensures .kept .size ∙ at-sub-scaled .sub-scaled .ensures .kept .size ∙ at-add-scaled .add-scaled .ensures .kept .size
+    ∙ at-operator .operator .ensures .kept .size
 
 returns-5 : tie.Need-returns-5
-returns-5 c = pass-lost-3 (c .before .before .before .before .before .before .before .before .before .before .before .before .before .before .before .before .before .before .before .before .before .before .before .before .before .before .before .before .before .pre) (c .before .before .before .before .before .before .before .before .before .before .before .before .before .before .before .before .before .before .before .before .before .before .before .before .before .before .before .before .before .args .tolerance) (c .before .before .before .before .before .before .before .before .before .before .before .before .before .before .before .before .before .before .before .before .before .before .before .before .before .before .before .before .before .args .norm) (c .before .before .before .before .before .before .before .before .before .before .before .before .before .before .before .before .before .before .before .before .before .before .before .before .before .before .before .sqrt .ensures .is) (c .before .before .before .before .before .before .before .before .before .before .before .before .before .before .before .before .before .before .before .before .before .before .before .before .before .before .if1 .left) (done _ (c .before .before .before .before .before .before .before .before .before .before .before .before .before .before .before .before .before .before .before .before .before .before .before .before .operator .ensures) (c .before .before .before .before .before .before .before .before .before .before .before .before .before .before .before .before .before .before .before .before .enum-told2 .given .1)) zero-is (sum-there (c .before .before .before .before .before .before .before .before .before .before .before .before .before .before .before .before .before .before .dot .ensures) (c .before .before .before .before .before .before .before .before .before .before .before .before .before .before .before .before .denominator .given .1)) (c .before .before .before .before .before .before .before .before .before .before .before .before .before .before .if2 .left) (c .before .before .before .before .before .before .before .before .before .before .before .before .add-scaled .ensures) (c .before .before .before .before .before .before .before .before .sub-scaled .ensures) (over _ (c .before .before .before .before .operator2 .ensures) (c .enum-told4 .given .1))
-
-enum-told-5 : tie.Need-enum-told-5
-enum-told-5 c = search needs
+returns-5 c =
+    let at-done2 = c .before in
+    let at-operator2 = at-done2 .before .before .before in
+    let at-sub-scaled = at-operator2 .before .before .before .before in
+    let at-add-scaled = at-sub-scaled .before .before .before .before in
+    let at-denominator = at-add-scaled .before .before .before .before in
+    let at-Else2 = at-denominator .before .before .before .before in
+    let at-operator = at-Else2 .before .before .before .before in
+    let at-sqrt = at-operator .before .before .before in
+    let start = at-sqrt .before .before in
+    let end = at-operator2 .operator2 .result in
+    does-eq (ap (λ x. ran x 0 0) (fails-over _ end (at-done2 .done2 .ensures) (c .if4 .taken)))
+    (pass-unreturned (start .args .t) (start .pre) (start .args .tolerance) (start .args .norm) (at-sqrt .sqrt .ensures .is)
+    (at-operator .before .before .if1 .left)
+    (went _ (at-operator .operator .result) (at-Else2 .before .done .ensures) (at-operator .operator .ensures) (at-Else2 .if2 .left))
+    zero-is (sum-there (at-denominator .before .before .dot .ensures) (at-denominator .denominator .given .1))
+    (at-add-scaled .before .before .if3 .left) (at-add-scaled .add-scaled .ensures) (at-sub-scaled .sub-scaled .ensures)
+    (failed _ end (at-done2 .done2 .ensures) (at-operator2 .operator2 .ensures) (c .if4 .taken)))
 
 dot-requires-2 : tie.Need-dot-requires-2
-dot-requires-2 c κs = omega (arith, c .before .before .before .before .before .before .before .before .before .before .before .before .before .before .before .before .before .before .before .before .before .before .before .before .before .before .before .before .before .before .pre .whole, c .before .before .before .before .before .before .before .before .before .before .before .before .before .before .before .before .before .before .before .before .before .before .before .before .before .before .before .before .before .before .pre .most, c .before .before .before .before .before .operator2 .ensures .kept .size ∙ c .before .before .before .before .before .before .before .before .before .sub-scaled .ensures .kept .size ∙ c .before .before .before .before .before .before .before .before .before .before .before .before .before .add-scaled .ensures .kept .size ∙ c .before .before .before .before .before .before .before .before .before .before .before .before .before .before .before .before .before .before .before .before .before .before .before .before .before .operator .ensures .kept .size)
+dot-requires-2 c κs =
+    let at-operator2 = c .before .before .before .before .before in
+    let at-sub-scaled = at-operator2 .before .before .before .before in
+    let at-add-scaled = at-sub-scaled .before .before .before .before in
+    let at-dot = at-add-scaled .before .before .before .before .before .before in
+    let at-operator = at-dot .before .before .before .before .before .before in
+    let start = at-operator .before .before .before .before .before in
+    omega (
+      arith,
+      start .pre .whole,
+      start .pre .most,
+      at-operator2 .operator2 .ensures .kept .size ∙ at-sub-scaled .sub-scaled .ensures .kept .size
+          ∙ at-add-scaled .add-scaled .ensures .kept .size ∙ at-operator .operator .ensures .kept .size,
+    )
 
 enum-known-next : tie.Need-enum-known-next
 enum-known-next c = search needs
 
-enum-told-6 : tie.Need-enum-told-6
-enum-told-6 c = search needs
+enum-told-2 : tie.Need-enum-told-2
+enum-told-2 c = search needs
 
 same-length-5 : tie.Need-same-length-5
-same-length-5 c = c .before .before .before .before .before .before .before .before .operator2 .ensures .kept .size ∙ c .before .before .before .before .before .before .before .before .before .before .before .before .sub-scaled .ensures .kept .size ∙ c .before .before .before .before .before .before .before .before .before .before .before .before .before .before .before .before .add-scaled .ensures .kept .size ∙ c .before .before .before .before .before .before .before .before .before .before .before .before .before .before .before .before .before .before .before .before .before .before .before .before .before .before .before .before .operator .ensures .kept .size
+same-length-5 c =
+    let at-slice-known5 = c .before .before .before .before .before .before in
+    let at-operator2 = at-slice-known5 .before .before in
+    let at-sub-scaled = at-operator2 .before .before .before .before in
+    let at-add-scaled = at-sub-scaled .before .before .before .before in
+    let at-dot = at-add-scaled .before .before .before .before .before .before in
+    let at-operator = at-dot .before .before .before .before .before .before in
+    at-operator2 .operator2 .ensures .kept .size ∙ at-sub-scaled .sub-scaled .ensures .kept .size ∙ at-add-scaled .add-scaled .ensures .kept .size
+    ∙ at-operator .operator .ensures .kept .size
 
 returns-6 : tie.Need-returns-6
-returns-6 c = pass-lost-4 (c .before .before .before .before .before .before .before .before .before .before .before .before .before .before .before .before .before .before .before .before .before .before .before .before .before .before .before .before .before .before .before .before .before .pre) (c .before .before .before .before .before .before .before .before .before .before .before .before .before .before .before .before .before .before .before .before .before .before .before .before .before .before .before .before .before .before .before .before .before .args .tolerance) (c .before .before .before .before .before .before .before .before .before .before .before .before .before .before .before .before .before .before .before .before .before .before .before .before .before .before .before .before .before .before .before .before .before .args .norm) (c .before .before .before .before .before .before .before .before .before .before .before .before .before .before .before .before .before .before .before .before .before .before .before .before .before .before .before .before .before .before .before .sqrt .ensures .is) (c .before .before .before .before .before .before .before .before .before .before .before .before .before .before .before .before .before .before .before .before .before .before .before .before .before .before .before .before .before .before .if1 .left) (done _ (c .before .before .before .before .before .before .before .before .before .before .before .before .before .before .before .before .before .before .before .before .before .before .before .before .before .before .before .before .operator .ensures) (c .before .before .before .before .before .before .before .before .before .before .before .before .before .before .before .before .before .before .before .before .before .before .before .before .enum-told2 .given .1)) zero-is (sum-there (c .before .before .before .before .before .before .before .before .before .before .before .before .before .before .before .before .before .before .before .before .before .before .dot .ensures) (c .before .before .before .before .before .before .before .before .before .before .before .before .before .before .before .before .before .before .before .before .denominator .given .1)) (c .before .before .before .before .before .before .before .before .before .before .before .before .before .before .before .before .before .before .if2 .left) (c .before .before .before .before .before .before .before .before .before .before .before .before .before .before .before .before .add-scaled .ensures) (c .before .before .before .before .before .before .before .before .before .before .before .before .sub-scaled .ensures) (done _ (c .before .before .before .before .before .before .before .before .operator2 .ensures) (c .before .before .before .before .enum-told5 .given .1)) (sum-over (c .before .before .dot2 .ensures) (c .enum-told6 .given .1))
+returns-6 c =
+    let at-Else4 = c .before .before .before .before in
+    let at-operator2 = at-Else4 .before .before .before .before in
+    let at-sub-scaled = at-operator2 .before .before .before .before in
+    let at-add-scaled = at-sub-scaled .before .before .before .before in
+    let at-denominator = at-add-scaled .before .before .before .before in
+    let at-Else2 = at-denominator .before .before .before .before in
+    let at-operator = at-Else2 .before .before .before .before in
+    let at-sqrt = at-operator .before .before .before in
+    let start = at-sqrt .before .before in
+    pass-unmeasured-again (start .args .t) (start .pre) (start .args .tolerance) (start .args .norm) (at-sqrt .sqrt .ensures .is)
+    (at-operator .before .before .if1 .left)
+    (went _ (at-operator .operator .result) (at-Else2 .before .done .ensures) (at-operator .operator .ensures) (at-Else2 .if2 .left))
+    zero-is (sum-there (at-denominator .before .before .dot .ensures) (at-denominator .denominator .given .1))
+    (at-add-scaled .before .before .if3 .left) (at-add-scaled .add-scaled .ensures) (at-sub-scaled .sub-scaled .ensures)
+    (went _ (at-operator2 .operator2 .result) (at-Else4 .before .done2 .ensures) (at-operator2 .operator2 .ensures) (at-Else4 .if4 .left))
+    (sum-over (c .before .before .dot2 .ensures) (c .enum-told2 .given .1))
 
-scale-add-requires : tie.Need-scale-add-requires
-scale-add-requires c κs = omega (arith, c .before .before .before .before .before .before .before .before .before .before .before .before .before .before .before .before .before .before .before .before .before .before .before .before .before .before .before .before .before .before .before .before .before .before .before .pre .whole, c .before .before .before .before .before .before .before .before .before .before .before .before .before .before .before .before .before .before .before .before .before .before .before .before .before .before .before .before .before .before .before .before .before .before .before .pre .most, c .before .before .before .before .before .before .before .before .before .before .operator2 .ensures .kept .size ∙ c .before .before .before .before .before .before .before .before .before .before .before .before .before .before .sub-scaled .ensures .kept .size ∙ c .before .before .before .before .before .before .before .before .before .before .before .before .before .before .before .before .before .before .add-scaled .ensures .kept .size ∙ c .before .before .before .before .before .before .before .before .before .before .before .before .before .before .before .before .before .before .before .before .before .before .before .before .before .before .before .before .before .before .operator .ensures .kept .size)
+add-scaled-requires-2 : tie.Need-add-scaled-requires-2
+add-scaled-requires-2 c κs =
+    let at-Else4 = c .before .before .before .before .before .before in
+    let at-operator2 = at-Else4 .before .before .before .before in
+    let at-sub-scaled = at-operator2 .before .before .before .before in
+    let at-add-scaled = at-sub-scaled .before .before .before .before in
+    let at-dot = at-add-scaled .before .before .before .before .before .before in
+    let at-operator = at-dot .before .before .before .before .before .before in
+    let start = at-operator .before .before .before .before .before in
+    omega (
+      arith,
+      start .pre .whole,
+      start .pre .most,
+      at-operator2 .operator2 .ensures .kept .size ∙ at-sub-scaled .sub-scaled .ensures .kept .size
+          ∙ at-add-scaled .add-scaled .ensures .kept .size ∙ at-operator .operator .ensures .kept .size,
+    )
 
 same-length-6 : tie.Need-same-length-6
-same-length-6 c = c .before .before .scale-add .ensures .kept .size ∙ c .before .before .before .before .before .before .before .before .before .before .before .before .before .operator2 .ensures .kept .size ∙ c .before .before .before .before .before .before .before .before .before .before .before .before .before .before .before .before .before .sub-scaled .ensures .kept .size ∙ c .before .before .before .before .before .before .before .before .before .before .before .before .before .before .before .before .before .before .before .before .before .add-scaled .ensures .kept .size ∙ c .before .before .before .before .before .before .before .before .before .before .before .before .before .before .before .before .before .before .before .before .before .before .before .before .before .before .before .before .before .before .before .before .before .operator .ensures .kept .size
+same-length-6 c =
+    let at-match2-keys1 = c .before .before .before .before .before .before in
+    let at-s4 = at-match2-keys1 .before .before .before .before .before .before in
+    let at-operator2 = at-s4 .before in
+    let at-sub-scaled = at-operator2 .before .before .before .before in
+    let at-add-scaled = at-sub-scaled .before .before .before .before in
+    let at-dot = at-add-scaled .before .before .before .before .before .before in
+    let at-operator = at-dot .before .before .before .before .before .before in
+    c .before .before .add-scaled2 .ensures .kept .size ∙ at-operator2 .operator2 .ensures .kept .size
+    ∙ at-sub-scaled .sub-scaled .ensures .kept .size ∙ at-add-scaled .add-scaled .ensures .kept .size ∙ at-operator .operator .ensures .kept .size
 
 returns-7 : tie.Need-returns-7
-returns-7 c = pass-next (c .before .before .before .before .before .before .before .before .before .before .before .before .before .before .before .before .before .before .before .before .before .before .before .before .before .before .before .before .before .before .before .before .before .before .before .before .before .before .pre) (c .before .before .before .before .before .before .before .before .before .before .before .before .before .before .before .before .before .before .before .before .before .before .before .before .before .before .before .before .before .before .before .before .before .before .before .before .before .before .args .tolerance) (c .before .before .before .before .before .before .before .before .before .before .before .before .before .before .before .before .before .before .before .before .before .before .before .before .before .before .before .before .before .before .before .before .before .before .before .before .before .before .args .norm) (c .before .before .before .before .before .before .before .before .before .before .before .before .before .before .before .before .before .before .before .before .before .before .before .before .before .before .before .before .before .before .before .before .before .before .before .before .sqrt .ensures .is) (c .before .before .before .before .before .before .before .before .before .before .before .before .before .before .before .before .before .before .before .before .before .before .before .before .before .before .before .before .before .before .before .before .before .before .before .if1 .left) (done _ (c .before .before .before .before .before .before .before .before .before .before .before .before .before .before .before .before .before .before .before .before .before .before .before .before .before .before .before .before .before .before .before .before .before .operator .ensures) (c .before .before .before .before .before .before .before .before .before .before .before .before .before .before .before .before .before .before .before .before .before .before .before .before .before .before .before .before .before .enum-told2 .given .1)) zero-is (sum-there (c .before .before .before .before .before .before .before .before .before .before .before .before .before .before .before .before .before .before .before .before .before .before .before .before .before .before .before .dot .ensures) (c .before .before .before .before .before .before .before .before .before .before .before .before .before .before .before .before .before .before .before .before .before .before .before .before .before .denominator .given .1)) (c .before .before .before .before .before .before .before .before .before .before .before .before .before .before .before .before .before .before .before .before .before .before .before .if2 .left) (c .before .before .before .before .before .before .before .before .before .before .before .before .before .before .before .before .before .before .before .before .before .add-scaled .ensures) (c .before .before .before .before .before .before .before .before .before .before .before .before .before .before .before .before .before .sub-scaled .ensures) (done _ (c .before .before .before .before .before .before .before .before .before .before .before .before .before .operator2 .ensures) (c .before .before .before .before .before .before .before .before .before .enum-told5 .given .1)) (sum-there (c .before .before .before .before .before .before .before .dot2 .ensures) (c .before .before .before .before .before .next .given .1)) (c .before .before .scale-add .ensures)
+returns-7 c =
+    let at-next = c .before .before .before .before .before in
+    let at-Else4 = at-next .before .before .before .before in
+    let at-operator2 = at-Else4 .before .before .before .before in
+    let at-sub-scaled = at-operator2 .before .before .before .before in
+    let at-add-scaled = at-sub-scaled .before .before .before .before in
+    let at-denominator = at-add-scaled .before .before .before .before in
+    let at-Else2 = at-denominator .before .before .before .before in
+    let at-operator = at-Else2 .before .before .before .before in
+    let at-sqrt = at-operator .before .before .before in
+    let start = at-sqrt .before .before in
+    pass-next (start .args .t) (start .pre) (start .args .tolerance) (start .args .norm) (at-sqrt .sqrt .ensures .is)
+    (at-operator .before .before .if1 .left)
+    (went _ (at-operator .operator .result) (at-Else2 .before .done .ensures) (at-operator .operator .ensures) (at-Else2 .if2 .left))
+    zero-is (sum-there (at-denominator .before .before .dot .ensures) (at-denominator .denominator .given .1))
+    (at-add-scaled .before .before .if3 .left) (at-add-scaled .add-scaled .ensures) (at-sub-scaled .sub-scaled .ensures)
+    (went _ (at-operator2 .operator2 .result) (at-Else4 .before .done2 .ensures) (at-operator2 .operator2 .ensures) (at-Else4 .if4 .left))
+    (sum-there (at-next .before .before .dot2 .ensures) (at-next .next .given .1)) (c .before .before .add-scaled2 .ensures)
 
 pub least-pass-spec : {M : Type 1} → statement M
 least-pass-spec =
@@ -103,13 +268,12 @@ least-pass-spec =
     sqrt-requires
     returns
     operator-requires
-    enum-told
+    done-requires
     same-length
     returns-2
-    enum-told-2
     dot-requires
     enum-known-denominator
-    enum-told-3
+    enum-told
     same-length-2
     returns-3
     same-length-3
@@ -117,15 +281,14 @@ least-pass-spec =
     add-scaled-requires
     sub-scaled-requires
     operator-requires-2
-    enum-told-4
+    done-requires-2
     same-length-4
     returns-5
-    enum-told-5
     dot-requires-2
     enum-known-next
-    enum-told-6
+    enum-told-2
     same-length-5
     returns-6
-    scale-add-requires
+    add-scaled-requires-2
     same-length-6
     returns-7)

@@ -1,107 +1,182 @@
+-- least_squares: the first direction, its norm, the tolerance, and the search.
 use native.Mathlib.Omega.{arith}
 use borrow.Author.Needs.{needs}
-use mathlib.Core.Path.{ap, _∙_}
-use lib.ListN.{length}
+use mathlib.Core.Path.{_∙_, ap}
+use Prim.Native.Nat.{_-_}
 use lib.Ieee.{Float}
-use Rattle.solves.specs.Solver.{toleranceFor}
+use Rattle.arith.specs.Run.{ran}
+use Rattle.arith.specs.Run.{ran}
 use Rattle.solves.specs.Region.{vecAt}
-use Rattle.solves.specs.View.{RHS, SOLUTION}
-use Rattle.solves.specs.DoesLaws.{done, over, sum-there, sum-over}
-use Rattle.solves.proofs.OperatorLaws.{rows-kept}
+use Rattle.solves.specs.View.{RHS, SOLUTION, RESIDUAL, NORMAL}
+use Rattle.solves.specs.DoesLaws.{sum-there, sum-over, went, failed, fails, does-eq}
+use Rattle.solves.proofs.OperatorLaws.{rows-kept, place-of}
+use Rattle.solves.proofs.LeastLaws.{least-unmoved, least-unmeasured, least-intolerant, least-whole}
 use Rattle.solves.proofs.SearchLaws.{tenth-14, new-ended}
-use Rattle.solves.proofs.LeastLaws.{least-lost-1, least-lost-2, least-lost-3, least-whole}
+use Rattle.solves.specs.Solver.{toleranceFor}
 use Rattle.solves.proofs.least_squares.least_squares.Statement.{statement}
 use Rattle.solves.proofs.least_squares.least_squares.Tie as tie
 
 operator-requires : tie.Need-operator-requires
-operator-requires c κs = search needs
+operator-requires c κs =
+    let start = c .before .before in (
+      start .pre,
+      place-of RESIDUAL (omega arith) (omega arith) (omega (arith, start .pre .whole)),
+      place-of NORMAL (omega arith) (omega arith)
+          (omega (arith, start .pre .whole)),
+    )
 
-enum-told : tie.Need-enum-told
-enum-told c = search needs
+done-requires : tie.Need-done-requires
+done-requires c κs = search needs
 
 new-requires : tie.Need-new-requires
 new-requires c κs = search needs
 
 same-length : tie.Need-same-length
-same-length c = search needs
+same-length c =
+    let at-operator = c .before .before .before .before .before in
+    at-operator .operator .ensures .kept .size
 
 returns : tie.Need-returns
-returns c = new-ended (vecAt (c .before .before .before .before .before .operator .last .0) SOLUTION (c .before .before .before .before .before .before .before .before .args .n)) (c .new .ensures) (omega arith) (least-lost-1 (c .before .before .before .before .before .before .before .before .pre) (over _ (c .before .before .before .before .before .operator .ensures) (c .before .enum-told .given .1)))
-
-enum-told-2 : tie.Need-enum-told-2
-enum-told-2 c = search needs
+returns c =
+    let at-Then1 = c .before in
+    let at-done = at-Then1 .before in
+    let at-operator = at-done .before .before .before in
+    let start = at-operator .before .before .before in
+    let end = at-operator .operator .result in
+    new-ended (vecAt (at-operator .operator .last .0) SOLUTION (start .args .t .rows)) (c .new .ensures)
+    (does-eq (ap (λ x. ran x 0 0) (fails _ end (at-done .done .ensures) (at-Then1 .if1 .taken)))
+    (least-unmoved (start .args .t) (start .pre) (failed _ end (at-done .done .ensures) (at-operator .operator .ensures) (at-Then1 .if1 .taken))))
 
 dot-requires : tie.Need-dot-requires
-dot-requires c κs = search needs
+dot-requires c κs =
+    let at-operator = c .before .before .before .before .before in
+    let start = at-operator .before .before .before in
+    omega (arith, at-operator .operator .ensures .kept .size, start .pre .whole, start .pre .most)
 
 enum-known-norm : tie.Need-enum-known-norm
 enum-known-norm c = search needs
 
-enum-told-3 : tie.Need-enum-told-3
-enum-told-3 c = search needs
+enum-told : tie.Need-enum-told
+enum-told c = search needs
 
 new-requires-2 : tie.Need-new-requires-2
 new-requires-2 c κs = search needs
 
 same-length-2 : tie.Need-same-length-2
-same-length-2 c = search needs
+same-length-2 c =
+    let at-done = c .before .before .before .before .before .before in
+    let at-operator = at-done .before .before .before in
+    at-operator .operator .ensures .kept .size
 
 returns-2 : tie.Need-returns-2
-returns-2 c = new-ended (vecAt (c .before .before .before .before .before .before .before .before .before .operator .last .0) SOLUTION (c .before .before .before .before .before .before .before .before .before .before .before .before .args .n)) (c .new2 .ensures) (omega arith) (least-lost-2 (c .before .before .before .before .before .before .before .before .before .before .before .before .pre) (done _ (c .before .before .before .before .before .before .before .before .before .operator .ensures) (c .before .before .before .before .before .enum-told2 .given .1)) (sum-over (c .before .before .before .dot .ensures) (c .before .enum-told3 .given .1)))
+returns-2 c =
+    let at-dot = c .before .before .before in
+    let at-done = at-dot .before .before .before in
+    let at-operator = at-done .before .before .before in
+    let start = at-operator .before .before .before in
+    new-ended (vecAt (at-operator .operator .last .0) SOLUTION (start .args .t .rows)) (c .new2 .ensures)
+    (least-unmeasured (start .args .t) (start .pre)
+    (went _ (at-operator .operator .result) (at-done .done .ensures) (at-operator .operator .ensures) (at-dot .before .before .if1 .left))
+    (sum-over (at-dot .dot .ensures) (c .before .enum-told .given .1)))
 
 tolerance-for-requires : tie.Need-tolerance-for-requires
-tolerance-for-requires c κs = search needs
+tolerance-for-requires c κs =
+    let at-Else1 = c .before .before .before .before .before .before in
+    let at-operator = at-Else1 .before .before .before .before in
+    let start = at-operator .before .before .before in
+    omega (arith, at-operator .operator .ensures .kept .size, start .pre .whole, start .pre .most)
 
 enum-known-tolerance : tie.Need-enum-known-tolerance
 enum-known-tolerance c = search needs
 
-enum-told-4 : tie.Need-enum-told-4
-enum-told-4 c = search needs
+enum-told-2 : tie.Need-enum-told-2
+enum-told-2 c = search needs
 
 new-requires-3 : tie.Need-new-requires-3
 new-requires-3 c κs = search needs
 
 same-length-3 : tie.Need-same-length-3
-same-length-3 c = search needs
+same-length-3 c =
+    let at-norm = c .before .before .before .before .before .before in
+    let at-slice-known2 = at-norm .before .before .before .before .before .before in
+    let at-operator = at-slice-known2 .before .before in
+    at-operator .operator .ensures .kept .size
 
 returns-3 : tie.Need-returns-3
-returns-3 c = new-ended (vecAt (c .before .before .before .before .before .before .before .before .before .before .before .before .before .before .operator .last .0) SOLUTION (c .before .before .before .before .before .before .before .before .before .before .before .before .before .before .before .before .before .args .n)) (c .new3 .ensures) (omega arith) (least-lost-3 (c .before .before .before .before .before .before .before .before .before .before .before .before .before .before .before .before .before .pre) (done _ (c .before .before .before .before .before .before .before .before .before .before .before .before .before .before .operator .ensures) (c .before .before .before .before .before .before .before .before .before .before .enum-told2 .given .1)) (sum-there (c .before .before .before .before .before .before .before .before .dot .ensures) (c .before .before .before .before .before .before .norm .given .1)) (sum-over (c .before .before .before .tolerance-for .ensures) (c .before .enum-told4 .given .1) ∙ ap (λ (x : Float). toleranceFor x (vecAt (c .before .before .before .before .before .before .before .before .before .before .before .before .before .before .operator .last .0) RHS (c .before .before .before .before .before .before .before .before .before .before .before .before .before .before .before .before .before .args .n))) tenth-14))
+returns-3 c =
+    let at-tolerance-for = c .before .before .before in
+    let at-norm = at-tolerance-for .before .before .before in
+    let at-Else1 = at-norm .before .before .before .before in
+    let at-operator = at-Else1 .before .before .before .before in
+    let start = at-operator .before .before .before in
+    new-ended (vecAt (at-operator .operator .last .0) SOLUTION (start .args .t .rows)) (c .new3 .ensures)
+    (least-intolerant (start .args .t) (start .pre)
+    (went _ (at-operator .operator .result) (at-Else1 .before .done .ensures) (at-operator .operator .ensures) (at-Else1 .if1 .left))
+    (sum-there (at-norm .before .before .dot .ensures) (at-norm .norm .given .1))
+    (sum-over (at-tolerance-for .tolerance-for .ensures) (c .before .enum-told2 .given .1) ∙ ap
+    (λ (x : Float). toleranceFor x (vecAt (at-operator .operator .last .0) RHS (start .args .t .rows))) tenth-14))
 
 copy-requires : tie.Need-copy-requires
-copy-requires c κs = search needs
+copy-requires c κs =
+    let at-known-told = c .before .before .before .before .before .before in
+    let at-done = at-known-told .before .before .before .before .before .before in
+    let at-operator = at-done .before .before .before in
+    let start = at-operator .before .before .before in
+    omega (arith, at-operator .operator .ensures .kept .size, start .pre .whole, start .pre .most)
 
-least-loop-requires : tie.Need-least-loop-requires
-least-loop-requires c κs = rows-kept (c .before .before .before .before .before .before .before .before .before .before .before .before .before .before .before .before .before .before .before .before .before .before .pre) (c .before .before .before .copy .ensures .kept .size ∙ c .before .before .before .before .before .before .before .before .before .before .before .before .before .before .before .before .before .before .before .operator .ensures .kept .size)
+search-requires : tie.Need-search-requires
+search-requires c κs =
+    let at-copy = c .before .before .before in
+    let at-tolerance-for-arg = at-copy .before .before .before .before .before .before in
+    let at-Else1 = at-tolerance-for-arg .before .before .before .before .before .before in
+    let at-operator = at-Else1 .before .before .before .before in
+    rows-kept (at-operator .before .before .before .pre) (at-copy .copy .ensures .kept .size ∙ at-operator .operator .ensures .kept .size)
 
 same-length-4 : tie.Need-same-length-4
-same-length-4 c = search needs
+same-length-4 c =
+    let at-copy = c .before .before .before .before .before .before in
+    let at-tolerance-for-arg = at-copy .before .before .before .before .before .before in
+    let at-Else1 = at-tolerance-for-arg .before .before .before .before .before .before in
+    let at-operator = at-Else1 .before .before .before .before in
+    c .before .before .search .ensures .kept .size ∙ at-copy .copy .ensures .kept .size ∙ at-operator .operator .ensures .kept .size
 
 returns-4 : tie.Need-returns-4
-returns-4 c = (least-whole (c .before .before .before .before .before .before .before .before .before .before .before .before .before .before .before .before .before .before .before .before .before .before .before .before .before .pre) (done _ (c .before .before .before .before .before .before .before .before .before .before .before .before .before .before .before .before .before .before .before .before .before .before .operator .ensures) (c .before .before .before .before .before .before .before .before .before .before .before .before .before .before .before .before .before .before .enum-told2 .given .1)) (sum-there (c .before .before .before .before .before .before .before .before .before .before .before .before .before .before .before .before .dot .ensures) (c .before .before .before .before .before .before .before .before .before .before .before .before .before .before .norm .given .1)) (sum-there (c .before .before .before .before .before .before .before .before .before .before .before .tolerance-for .ensures) (c .before .before .before .before .before .before .before .before .before .tolerance .given .1) ∙ ap (λ (x : Float). toleranceFor x (vecAt (c .before .before .before .before .before .before .before .before .before .before .before .before .before .before .before .before .before .before .before .before .before .before .operator .last .0) RHS (c .before .before .before .before .before .before .before .before .before .before .before .before .before .before .before .before .before .before .before .before .before .before .before .before .before .args .n))) tenth-14) (c .before .before .before .before .before .before .copy .ensures) (c .before .before .least-loop .ensures .0), c .before .before .least-loop .ensures .1)
+returns-4 c =
+    let at-copy = c .before .before .before .before .before .before in
+    let at-tolerance = at-copy .before .before .before in
+    let at-norm = at-tolerance .before .before .before .before .before in
+    let at-Else1 = at-norm .before .before .before .before in
+    let at-operator = at-Else1 .before .before .before .before in
+    let start = at-operator .before .before .before in
+    least-whole (start .args .t) (start .pre)
+    (went _ (at-operator .operator .result) (at-Else1 .before .done .ensures) (at-operator .operator .ensures) (at-Else1 .if1 .left))
+    (sum-there (at-norm .before .before .dot .ensures) (at-norm .norm .given .1))
+    (sum-there (at-tolerance .before .before .tolerance-for .ensures) (at-tolerance .tolerance .given .1) ∙ ap
+    (λ (x : Float). toleranceFor x (vecAt (at-operator .operator .last .0) RHS (start .args .t .rows))) tenth-14)
+    (at-copy .copy .ensures) (c .before .before .search .ensures)
 
 pub least-squares-spec : {M : Type 1} → statement M
 least-squares-spec =
     tie.close
     (tie.spec
     operator-requires
-    enum-told
+    done-requires
     new-requires
     same-length
     returns
-    enum-told-2
     dot-requires
     enum-known-norm
-    enum-told-3
+    enum-told
     new-requires-2
     same-length-2
     returns-2
     tolerance-for-requires
     enum-known-tolerance
-    enum-told-4
+    enum-told-2
     new-requires-3
     same-length-3
     returns-3
     copy-requires
-    least-loop-requires
+    search-requires
     same-length-4
     returns-4)

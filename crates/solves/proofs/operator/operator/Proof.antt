@@ -1,64 +1,105 @@
+-- operator: back to the bodies, through their masses, along the rows; by `does-then` of the three.
 use native.Mathlib.Omega.{arith}
-use borrow.Author.Needs.{needs}
 use mathlib.Core.Path.{_∙_}
-use lib.ListN.{length}
-use Rattle.solves.proofs.OperatorLaws.{rows-kept, operator-1, operator-2, operator-3}
+use Prim.Native.Nat.{_-_}
+use Rattle.solves.specs.DoesLaws.{went, failed, fails, does-eq}
+use Rattle.solves.proofs.OperatorLaws.{rows-kept, operator-pushes-failed, operator-scales-failed, operator-rates}
 use Rattle.solves.proofs.operator.operator.Statement.{statement}
 use Rattle.solves.proofs.operator.operator.Tie as tie
 
 transpose-requires : tie.Need-transpose-requires
-transpose-requires c κs = (c .before .before .pre .0, c .before .before .pre .1)
+transpose-requires c κs =
+    let start = c .before .before in
+    (start .pre .0, start .pre .1)
 
-enum-told : tie.Need-enum-told
-enum-told c = search needs
+done-requires : tie.Need-done-requires
+done-requires c κs = omega arith
 
 same-length : tie.Need-same-length
-same-length c = search needs
+same-length c =
+    let at-transpose = c .before .before .before .before in
+    at-transpose .transpose .ensures .kept .size
 
 returns : tie.Need-returns
-returns c = operator-1 (c .before .before .before .before .before .before .before .pre .0) (c .before .before .before .before .before .before .before .pre .1) (c .before .before .before .before .before .before .before .pre .2) _ (c .before .before .before .before .transpose .ensures .0) (c .enum-told .given .1)
-
-enum-told-2 : tie.Need-enum-told-2
-enum-told-2 c = search needs
+returns c =
+    let at-done = c .before in
+    let at-transpose = at-done .before .before .before in
+    let start = at-transpose .before .before .before in
+    let end = at-transpose .transpose .result in
+    does-eq (fails _ end (at-done .done .ensures) (c .if1 .taken))
+    (operator-pushes-failed (start .args .t) (start .pre .0) (start .args .input) (start .args .out)
+    (failed _ end (at-done .done .ensures) (at-transpose .transpose .ensures) (c .if1 .taken)))
 
 scale-all-requires : tie.Need-scale-all-requires
-scale-all-requires c κs = omega (arith, c .before .before .before .before .before .transpose .ensures .0 .kept .size, c .before .before .before .before .before .before .before .before .pre .0 .whole, c .before .before .before .before .before .before .before .before .pre .0 .bodies)
+scale-all-requires c κs =
+    let at-transpose = c .before .before .before .before .before in
+    let start = at-transpose .before .before .before in
+    omega (arith, at-transpose .transpose .ensures .kept .size, start .pre .0 .whole, start .pre .0 .bodies)
 
-enum-told-3 : tie.Need-enum-told-3
-enum-told-3 c = search needs
+done-requires-2 : tie.Need-done-requires-2
+done-requires-2 c κs = omega arith
 
 same-length-2 : tie.Need-same-length-2
-same-length-2 c = search needs
+same-length-2 c =
+    let at-scale-all = c .before .before .before .before in
+    let at-transpose = at-scale-all .before .before .before .before .before .before in
+    at-scale-all .scale-all .ensures .kept .size ∙ at-transpose .transpose .ensures .kept .size
 
 returns-2 : tie.Need-returns-2
-returns-2 c = operator-2 (c .before .before .before .before .before .before .before .before .before .before .before .before .before .pre .0) (c .before .before .before .before .before .before .before .before .before .before .before .before .before .pre .1) (c .before .before .before .before .before .before .before .before .before .before .before .before .before .pre .2) _ (c .before .before .before .before .before .before .before .before .before .before .transpose .ensures .0) (c .before .before .before .before .before .before .enum-told2 .given .1) _ (c .before .before .before .before .scale-all .ensures) (c .enum-told3 .given .1)
-
-enum-told-4 : tie.Need-enum-told-4
-enum-told-4 c = search needs
+returns-2 c =
+    let at-done2 = c .before in
+    let at-scale-all = at-done2 .before .before .before in
+    let at-done = at-scale-all .before .before .before in
+    let at-transpose = at-done .before .before .before in
+    let start = at-transpose .before .before .before in
+    let end = at-scale-all .scale-all .result in
+    does-eq (fails _ end (at-done2 .done2 .ensures) (c .if2 .taken))
+    (operator-scales-failed (start .args .t) (start .pre .0) (start .args .input) (start .args .out)
+    (went _ (at-transpose .transpose .result) (at-done .done .ensures) (at-transpose .transpose .ensures) (at-scale-all .before .before .if1 .left))
+    (failed _ end (at-done2 .done2 .ensures) (at-scale-all .scale-all .ensures) (c .if2 .taken)))
 
 rates-requires : tie.Need-rates-requires
-rates-requires c κs = (rows-kept (c .before .before .before .before .before .before .before .before .before .before .before .before .before .before .pre .0) (c .before .before .before .before .before .scale-all .ensures .kept .size ∙ c .before .before .before .before .before .before .before .before .before .before .before .transpose .ensures .0 .kept .size), c .before .before .before .before .before .before .before .before .before .before .before .before .before .before .pre .2)
+rates-requires c κs =
+    let at-scale-all = c .before .before .before .before .before in
+    let at-transpose = at-scale-all .before .before .before .before .before .before in
+    let start = at-transpose .before .before .before in
+    let size = at-scale-all .scale-all .ensures .kept .size ∙ at-transpose .transpose .ensures .kept .size in (
+      rows-kept (start .pre .0) size,
+      record
+          { low = start .pre .2 .low; apart = start .pre .2 .apart; there = omega (arith, size, start .pre .2 .there) },
+    )
 
 same-length-3 : tie.Need-same-length-3
-same-length-3 c = search needs
+same-length-3 c =
+    let at-slice-known3 = c .before .before .before .before .before .before in
+    let at-scale-all = at-slice-known3 .before .before in
+    let at-transpose = at-scale-all .before .before .before .before .before .before in
+    c .before .before .rates .ensures .kept .size ∙ at-scale-all .scale-all .ensures .kept .size ∙ at-transpose .transpose .ensures .kept .size
 
 returns-3 : tie.Need-returns-3
-returns-3 c = operator-3 (c .before .before .before .before .before .before .before .before .before .before .before .before .before .before .before .before .before .pre .0) (c .before .before .before .before .before .before .before .before .before .before .before .before .before .before .before .before .before .pre .1) (c .before .before .before .before .before .before .before .before .before .before .before .before .before .before .before .before .before .pre .2) _ (c .before .before .before .before .before .before .before .before .before .before .before .before .before .before .transpose .ensures .0) (c .before .before .before .before .before .before .before .before .before .before .enum-told2 .given .1) _ (c .before .before .before .before .before .before .before .before .scale-all .ensures) (c .before .before .before .before .enum-told4 .given .1) (c .before .before .rates .ensures)
+returns-3 c =
+    let at-Else2 = c .before .before .before .before in
+    let at-scale-all = at-Else2 .before .before .before .before in
+    let at-done = at-scale-all .before .before .before in
+    let at-transpose = at-done .before .before .before in
+    let start = at-transpose .before .before .before in
+    operator-rates (start .args .t) (start .pre .0) (start .args .input) (start .args .out)
+    (went _ (at-transpose .transpose .result) (at-done .done .ensures) (at-transpose .transpose .ensures) (at-scale-all .before .before .if1 .left))
+    (went _ (at-scale-all .scale-all .result) (at-Else2 .before .done2 .ensures) (at-scale-all .scale-all .ensures) (at-Else2 .if2 .left))
+    (c .before .before .rates .ensures)
 
 pub operator-spec : {M : Type 1} → statement M
 operator-spec =
     tie.close
     (tie.spec
     transpose-requires
-    enum-told
+    done-requires
     same-length
     returns
-    enum-told-2
     scale-all-requires
-    enum-told-3
+    done-requires-2
     same-length-2
     returns-2
-    enum-told-4
     rates-requires
     same-length-3
     returns-3)

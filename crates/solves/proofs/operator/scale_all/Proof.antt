@@ -1,23 +1,27 @@
+-- scale_all: each share through its mass, by the turns of `scaling`.
 use native.Mathlib.Omega.{arith}
 use borrow.Author.Needs.{needs}
 use mathlib.Core.Path.{_≡_, refl}
 use Prim.Native.Nat.{_*_, _≤_, _-_}
 use lib.ListN.{length}
-use Rattle.arith.specs.Flow.{go}
+use Rattle.arith.specs.Flow.{go, loop, turns}
 use Rattle.rows.specs.View.{Out}
-use Rattle.solves.specs.Solver.{scaleAll}
 use Rattle.solves.specs.Region.{Does}
-use Rattle.solves.specs.View.{generalizedsAt, massesAt, GENERALIZED, MASSES}
+use Rattle.solves.specs.View.{sharesIn, massesAt}
+use Rattle.solves.specs.View.{MASSES, GENERALIZED}
 use Rattle.solves.specs.DoesLaws.{share-there, share-over}
+use Rattle.solves.specs.Solver.{scaleAll}
 use Rattle.solves.proofs.OperatorLaws.{scale-none, scale-stops, scale-again, scale-ends}
 use Rattle.solves.proofs.operator.scale_all.Statement.{statement}
 use Rattle.solves.proofs.operator.scale_all.Tie as tie
 
 abbrev Inv-loop : tie.InvT-loop
-Inv-loop s₀ count k₀ s k = (k ≤ count) × (length s ≡ length s₀) × (Does (λ i. Out GENERALIZED (6 * k) i) s₀ s (go (generalizedsAt s GENERALIZED k)) (scaleAll (generalizedsAt s₀ GENERALIZED count) (massesAt s₀ MASSES count) k))
+Inv-loop s₀ bodies k₀ s k =
+    (k ≤ bodies) × (length s ≡ length s₀)
+    × (Does (λ i. Out GENERALIZED (6 * k) i) s₀ s (go (sharesIn s k)) (scaleAll (sharesIn s₀ bodies) (massesAt s₀ MASSES bodies) k))
 
 abbrev μ-loop : tie.MeasureT-loop
-μ-loop s₀ count k₀ s k = count - k
+μ-loop s₀ bodies k₀ s k = bodies - k
 
 loop-holds : tie.Need-loop-holds Inv-loop μ-loop
 loop-holds c = (omega arith, refl, scale-none _ _ (c .before .pre .1))
@@ -44,7 +48,12 @@ same-length : tie.Need-same-length Inv-loop μ-loop
 same-length c = omega arith
 
 returns : tie.Need-returns Inv-loop μ-loop
-returns c = scale-stops _ _ (c .before .before .before .before .before .before .before .before .before .before .pre .1) (c .before .before .before .before .before .before .before .before .loop .inv .2) (c .before .before .before .before .before .before .before .loop-test .taken) (c .before .before .before .before .before .load-generalized .ensures) (c .before .before .before .load-mass .ensures) (share-over (c .before .before .scaled .ensures) (c .enum-told .given .1))
+returns c =
+    let at-load-mass = c .before .before .before in
+    let in-loop = at-load-mass .before .before .before .before in
+    scale-stops _ _ (in-loop .before .before .before .pre .1) (in-loop .before .loop .inv .2) (in-loop .loop-test .taken)
+    (at-load-mass .before .before .load-generalized .ensures) (at-load-mass .load-mass .ensures)
+    (share-over (c .before .before .scaled .ensures) (c .enum-told .given .1))
 
 add-k : tie.Need-add-k Inv-loop μ-loop
 add-k c = omega arith
@@ -53,7 +62,18 @@ loop-less : tie.Need-loop-less Inv-loop μ-loop
 loop-less c = omega arith
 
 loop-again : tie.Need-loop-again Inv-loop μ-loop
-loop-again c = (omega arith, omega (arith, c .before .before .store-generalized .ensures .0 .size, c .before .before .before .before .before .before .before .before .before .before .before .before .before .loop .inv .1), scale-again _ _ (c .before .before .before .before .before .before .before .before .before .before .before .before .before .before .before .pre .1) (c .before .before .before .before .before .before .before .before .before .before .before .before .before .loop .inv .2) (c .before .before .before .before .before .before .before .before .before .before .before .before .loop-test .taken) (c .before .before .before .before .before .before .before .before .before .before .load-generalized .ensures) (c .before .before .before .before .before .before .before .before .load-mass .ensures) (share-there (c .before .before .before .before .before .before .before .scaled .ensures) (c .before .before .before .before .before .g .given .1)) (c .before .before .store-generalized .ensures))
+loop-again c =
+    let at-store-generalized = c .before .before in
+    let at-g = at-store-generalized .before .before .before in
+    let at-load-mass = at-g .before .before .before in
+    let in-loop = at-load-mass .before .before .before .before in
+    let at-loop = in-loop .before in (
+      omega arith,
+      omega (arith, at-store-generalized .store-generalized .ensures .0 .size, at-loop .loop .inv .1),
+      scale-again _ _ (at-loop .before .before .pre .1) (at-loop .loop .inv .2) (in-loop .loop-test .taken)
+          (at-load-mass .before .before .load-generalized .ensures) (at-load-mass .load-mass .ensures)
+          (share-there (at-g .before .before .scaled .ensures) (at-g .g .given .1)) (at-store-generalized .store-generalized .ensures),
+    )
 
 same-length-2 : tie.Need-same-length-2 Inv-loop μ-loop
 same-length-2 c = omega arith

@@ -1,22 +1,24 @@
+-- transpose: the shares row by row, by the turns of `rowTurn`.
 use native.Mathlib.Omega.{arith}
-use borrow.Author.Needs.{needs}
 use mathlib.Core.Path.{_≡_, refl}
 use Prim.Native.Nat.{_≤_, _-_}
 use lib.ListN.{length}
-use Rattle.arith.specs.Flow.{go}
-use Rattle.arith.specs.Flow.{loop}
+use Rattle.arith.specs.Flow.{go, loop, turns}
 use Rattle.solves.specs.Region.{vecAt, Does}
-use Rattle.solves.specs.View.{rowsOn, generalizedsAt, Shares, GENERALIZED}
-use Rattle.solves.specs.DoesLaws.{done-number, over-number}
-use Rattle.solves.proofs.OperatorLaws.{rowTurn, on-a, on-b, transpose-none, transpose-stops, transpose-again, transpose-ends, transpose-from}
+use Rattle.solves.specs.View.{rowsOn, sharesIn, Shares}
+use Rattle.solves.specs.DoesLaws.{went, failed, fails, does-eq}
+use Rattle.solves.proofs.OperatorLaws.{rowTurn, on-a, on-b, transpose-none, transpose-failed, transpose-again, transpose-ends, transpose-from}
 use Rattle.solves.proofs.operator.transpose.Statement.{statement}
 use Rattle.solves.proofs.operator.transpose.Tie as tie
 
 abbrev Inv-loop : tie.InvT-loop
-Inv-loop s₀ ia ib rows values n count k₀ s k = (k ≤ n) × (length s ≡ length s₀) × (Does Shares s₀ s (go (generalizedsAt s GENERALIZED count)) (loop k (rowTurn (rowsOn ia ib s₀ rows n) (vecAt s₀ values n)) (generalizedsAt s₀ GENERALIZED count)))
+Inv-loop s₀ ia ib t values n bodies k₀ s k =
+    (k ≤ t .rows) × (length s ≡ length s₀)
+    × (Does Shares s₀ s (go (sharesIn s (t .bodies)))
+    (loop k (rowTurn (rowsOn ia ib s₀ (t .place) (t .rows)) (vecAt s₀ values (t .rows))) (sharesIn s₀ (t .bodies))))
 
 abbrev μ-loop : tie.MeasureT-loop
-μ-loop s₀ ia ib rows values n count k₀ s k = n - k
+μ-loop s₀ ia ib t values n bodies k₀ s k = t .rows - k
 
 mul-clear : tie.Need-mul-clear Inv-loop μ-loop
 mul-clear c = omega arith
@@ -25,49 +27,148 @@ clear-requires : tie.Need-clear-requires Inv-loop μ-loop
 clear-requires c κs = omega arith
 
 loop-holds : tie.Need-loop-holds Inv-loop μ-loop
-loop-holds c = (omega arith, refl, transpose-none (c .before .before .before .before .before .pre .0) (c .before .before .before .before .before .pre .1) _)
+loop-holds c =
+    let start = c .before .before .before .before .before in
+    (omega arith, refl, transpose-none (start .pre .0) (start .pre .1) _)
 
 load-row-requires : tie.Need-load-row-requires Inv-loop μ-loop
-load-row-requires c κs = omega (arith, c .before .before .before .before .before .clear .ensures .kept .size, c .before .before .loop .inv .1, c .before .before .before .before .before .before .before .before .pre .0 .whole)
+load-row-requires c κs =
+    let at-clear = c .before .before .before .before .before in
+    let start = at-clear .before .before .before in
+    omega (
+      arith,
+      at-clear .clear .ensures .kept .size,
+      c .before .before .loop .inv .1,
+      c .before .loop-test .taken,
+      start .pre .0 .whole,
+      start .pre .0 .table,
+      start .pre .0 .most,
+      start .pre .1 .there,
+    )
 
 add-value : tie.Need-add-value Inv-loop μ-loop
-add-value c = omega (arith, c .before .before .before .before .before .before .before .before .before .pre .1 .high, c .before .before .before .before .before .before .before .before .before .pre .0 .most)
+add-value c =
+    let at-loop = c .before .before .before in
+    let at-clear = at-loop .before .before .before in
+    let start = at-clear .before .before .before in
+    omega (
+      arith,
+      at-clear .clear .ensures .kept .size,
+      at-loop .loop .inv .1,
+      c .before .before .loop-test .taken,
+      start .pre .0 .whole,
+      start .pre .0 .table,
+      start .pre .0 .most,
+      start .pre .1 .there,
+    )
 
 mul-value : tie.Need-mul-value Inv-loop μ-loop
-mul-value c = omega (arith, c .before .before .before .before .before .before .before .before .before .pre .1 .high, c .before .before .before .before .before .before .before .before .before .pre .0 .most)
+mul-value c =
+    let at-loop = c .before .before .before in
+    let at-clear = at-loop .before .before .before in
+    let start = at-clear .before .before .before in
+    omega (
+      arith,
+      at-clear .clear .ensures .kept .size,
+      at-loop .loop .inv .1,
+      c .before .before .loop-test .taken,
+      start .pre .0 .whole,
+      start .pre .0 .table,
+      start .pre .0 .most,
+      start .pre .1 .there,
+    )
 
 slice-read-value : tie.Need-slice-read-value Inv-loop μ-loop
-slice-read-value c = omega (arith, c .before .before .before .before .before .before .before .clear .ensures .kept .size, c .before .before .before .before .loop .inv .1, c .before .before .before .before .before .before .before .before .before .before .pre .0 .whole, c .before .before .before .before .before .before .before .before .before .before .pre .1 .high, c .before .before .before .before .before .before .before .before .before .before .pre .0 .most)
+slice-read-value c =
+    let in-loop = c .before .before .before in
+    let at-clear = in-loop .before .before .before .before in
+    let start = at-clear .before .before .before in
+    omega (
+      arith,
+      at-clear .clear .ensures .kept .size,
+      in-loop .before .loop .inv .1,
+      in-loop .loop-test .taken,
+      start .pre .0 .whole,
+      start .pre .0 .table,
+      start .pre .0 .most,
+      start .pre .1 .there,
+    )
 
 push-row-requires : tie.Need-push-row-requires Inv-loop μ-loop
-push-row-requires c κs = (omega (arith, c .before .before .before .before .before .before .before .before .clear .ensures .kept .size, c .before .before .before .before .before .loop .inv .1, c .before .before .before .before .before .before .before .before .before .before .before .pre .0 .whole), on-a (c .before .before .before .before .before .before .before .before .before .before .before .pre .0) (c .before .before .before .before .loop-test .taken) (c .before .before .before .before .before .loop .s) (c .before .before .load-row .ensures), on-b (c .before .before .before .before .before .before .before .before .before .before .before .pre .0) (c .before .before .before .before .loop-test .taken) (c .before .before .before .before .before .loop .s) (c .before .before .load-row .ensures), c .before .before .before .before .before .before .before .before .before .before .before .pre .0 .bodies)
+push-row-requires c κs =
+    let at-load-row = c .before .before in
+    let in-loop = at-load-row .before .before in
+    let at-loop = in-loop .before in
+    let at-clear = at-loop .before .before .before in
+    let start = at-clear .before .before .before in (
+      omega (arith, at-clear .clear .ensures .kept .size, at-loop .loop .inv .1, start .pre .0 .whole),
+      on-a (start .pre .0) (in-loop .loop-test .taken) (at-loop .loop .s) (at-load-row .load-row .ensures),
+      on-b (start .pre .0) (in-loop .loop-test .taken) (at-loop .loop .s) (at-load-row .load-row .ensures),
+      start .pre .0 .bodies,
+    )
 
-enum-told : tie.Need-enum-told Inv-loop μ-loop
-enum-told c = search needs
+done-requires : tie.Need-done-requires Inv-loop μ-loop
+done-requires c κs = omega arith
 
 same-length : tie.Need-same-length Inv-loop μ-loop
-same-length c = omega (arith, c .before .before .before .before .before .before .before .before .before .before .before .before .before .clear .ensures .kept .size, c .before .before .before .before .before .before .before .before .before .before .loop .inv .1, c .before .before .before .before .before .before .before .before .before .before .before .before .before .before .before .before .pre .0 .whole, c .before .before .before .before .push-row .ensures .kept .size)
+same-length c =
+    let at-push-row = c .before .before .before .before in
+    let at-loop = at-push-row .before .before .before .before .before .before in
+    omega (arith, at-loop .before .before .before .clear .ensures .kept .size, at-loop .loop .inv .1, at-push-row .push-row .ensures .kept .size)
 
 returns : tie.Need-returns Inv-loop μ-loop
-returns c = over-number (transpose-from (c .before .before .before .before .before .before .before .before .before .before .before .before .before .before .before .before .pre .0) (c .before .before .before .before .before .before .before .before .before .before .before .before .before .before .before .before .pre .1) _ (c .before .before .before .before .before .before .before .before .before .before .before .before .before .clear .ensures) (transpose-stops (c .before .before .before .before .before .before .before .before .before .before .before .before .before .before .before .before .pre .0) (c .before .before .before .before .before .before .before .before .before .before .before .before .before .before .before .before .pre .1) _ (c .before .before .before .before .before .before .before .before .before .before .loop .inv .2) (c .before .before .before .before .before .before .before .before .before .loop-test .taken) (c .before .before .before .before .before .before .before .load-row .ensures) refl (c .before .before .before .before .push-row .ensures) (c .enum-told .given .1)))
-
-enum-told-2 : tie.Need-enum-told-2 Inv-loop μ-loop
-enum-told-2 c = search needs
+returns c =
+    let at-done = c .before in
+    let at-push-row = at-done .before .before .before in
+    let at-load-row = at-push-row .before .before .before in
+    let at-loop = at-load-row .before .before .before in
+    let at-clear = at-loop .before .before .before in
+    let start = at-clear .before .before .before in
+    let end = at-push-row .push-row .result in
+    does-eq (fails _ end (at-done .done .ensures) (c .if1 .taken))
+    (transpose-from (start .pre .0) (start .pre .1) _ (at-clear .clear .ensures)
+    (transpose-failed (start .pre .0) (start .pre .1) _ (at-loop .loop .inv .2) (at-load-row .before .before .loop-test .taken)
+    (at-load-row .load-row .ensures) refl
+    (failed _ end (at-done .done .ensures) (at-push-row .push-row .ensures) (c .if1 .taken))))
 
 add-k : tie.Need-add-k Inv-loop μ-loop
-add-k c = omega (arith, c .before .before .before .before .before .before .before .before .before .loop-test .taken, c .before .before .before .before .before .before .before .before .before .before .before .before .before .before .before .before .pre .0 .most)
+add-k c =
+    let at-slice-known3 = c .before .before .before .before .before .before in
+    let in-loop = at-slice-known3 .before .before .before in
+    let at-slice-known = in-loop .before .before .before .before .before .before in
+    let start = at-slice-known .before in
+    omega (arith, in-loop .loop-test .taken, start .pre .0 .most)
 
 loop-less : tie.Need-loop-less Inv-loop μ-loop
-loop-less c = omega (arith, c .before .before .before .before .before .before .before .before .before .loop-test .taken)
+loop-less c =
+    let at-slice-known3 = c .before .before .before .before .before .before in
+    let in-loop = at-slice-known3 .before .before .before in
+    omega (arith, in-loop .loop-test .taken)
 
 loop-again : tie.Need-loop-again Inv-loop μ-loop
-loop-again c = (omega (arith, c .before .before .before .before .before .before .before .before .before .loop-test .taken), omega (arith, c .before .before .before .before .before .before .before .before .before .before .loop .inv .1, c .before .before .before .before .push-row .ensures .kept .size), transpose-again (c .before .before .before .before .before .before .before .before .before .before .before .before .before .before .before .before .pre .0) (c .before .before .before .before .before .before .before .before .before .before .before .before .before .before .before .before .pre .1) _ (c .before .before .before .before .before .before .before .before .before .before .loop .inv .2) (c .before .before .before .before .before .before .before .before .before .loop-test .taken) (c .before .before .before .before .before .before .before .load-row .ensures) refl (c .before .before .before .before .push-row .ensures) (c .enum-told2 .given .1))
+loop-again c =
+    let at-push-row = c .before .before .before .before in
+    let at-load-row = at-push-row .before .before .before in
+    let in-loop = at-load-row .before .before in
+    let at-loop = in-loop .before in
+    let start = at-loop .before .before .before .before .before .before in (
+      omega (arith, in-loop .loop-test .taken),
+      omega (arith, at-loop .loop .inv .1, at-push-row .push-row .ensures .kept .size),
+      transpose-again (start .pre .0) (start .pre .1) _ (at-loop .loop .inv .2) (in-loop .loop-test .taken) (at-load-row .load-row .ensures) refl
+          (went _ (at-push-row .push-row .result) (c .before .done .ensures) (at-push-row .push-row .ensures) (c .if1 .left)),
+    )
 
 same-length-2 : tie.Need-same-length-2 Inv-loop μ-loop
-same-length-2 c = omega (arith, c .before .before .before .before .clear .ensures .kept .size, c .before .loop .inv .1, c .before .before .before .before .before .before .before .pre .0 .whole)
+same-length-2 c =
+    let at-clear = c .before .before .before .before in
+    omega (arith, at-clear .clear .ensures .kept .size, c .before .loop .inv .1)
 
 returns-2 : tie.Need-returns-2 Inv-loop μ-loop
-returns-2 c = done-number (transpose-from (c .before .before .before .before .before .before .before .pre .0) (c .before .before .before .before .before .before .before .pre .1) _ (c .before .before .before .before .clear .ensures) (transpose-ends (c .before .before .before .before .before .before .before .pre .0) (c .before .before .before .before .before .before .before .pre .1) _ (c .before .loop .inv .2) (omega arith) (c .loop-test .left)))
+returns-2 c =
+    let at-clear = c .before .before .before .before in
+    let start = at-clear .before .before .before in
+    transpose-from (start .pre .0) (start .pre .1) _ (at-clear .clear .ensures)
+    (transpose-ends (start .pre .0) (start .pre .1) _ (c .before .loop .inv .2) (omega arith) (c .loop-test .left))
 
 pub transpose-spec : {M : Type 1} → statement M
 transpose-spec =
@@ -83,10 +184,9 @@ transpose-spec =
     mul-value
     slice-read-value
     push-row-requires
-    enum-told
+    done-requires
     same-length
     returns
-    enum-told-2
     add-k
     loop-less
     loop-again

@@ -11,10 +11,9 @@ use Rattle.solves.specs.Path.{pathEntry}
 use Rattle.solves.specs.Answer.{partAs}
 use Rattle.solves.specs.Region.{vecAt, Does}
 use Rattle.solves.specs.View.{rowsOn, massesAt, listAt, bandAt, MASSES, PATH-BAND, PATH-SCALE}
-use Rattle.solves.specs.DoesLaws.{does-as}
+use Rattle.solves.specs.DoesLaws.{does-as, does-eq}
 use Rattle.solves.proofs.OperatorLaws.{rows-kept}
 use Rattle.solves.proofs.FactorLaws.{entries-start, entries-more, entries-stop, entries-end}
-use Rattle.solves.proofs.RefineLaws.{does-eq}
 use Rattle.solves.proofs.path.path_row.Statement.{statement}
 use Rattle.solves.proofs.path.path_row.Tie as tie
 

@@ -1,43 +1,93 @@
+-- refine: forward, backward, and the residual of the solution so found.
 use native.Mathlib.Omega.{arith}
 use borrow.Author.Needs.{needs}
 use mathlib.Core.Path.{_∙_}
-use lib.ListN.{length}
+use Prim.Native.Nat.{_-_}
 use denote.Ref.{now}
-use Rattle.solves.specs.DoesLaws.{done, over}
-use Rattle.solves.proofs.OperatorLaws.{rows-kept}
-use Rattle.solves.proofs.RefineLaws.{refine-lost, refine-done}
+use Rattle.solves.specs.View.{SOLUTION, PRODUCT}
+use Rattle.solves.specs.DoesLaws.{went, failed, fails, does-eq}
+use Rattle.solves.proofs.OperatorLaws.{rows-kept, place-of}
+use Rattle.solves.proofs.SolveLaws.{refine-failed, refine-done}
 use Rattle.solves.proofs.path.refine.Statement.{statement}
 use Rattle.solves.proofs.path.refine.Tie as tie
 
 forward-requires : tie.Need-forward-requires
-forward-requires c κs = (c .before .before .pre .0 .whole, c .before .before .pre .0 .most, c .before .before .pre .1)
+forward-requires c κs =
+    let start = c .before .before in
+    (start .pre .0 .whole, start .pre .0 .most, start .pre .1)
 
 backward-requires : tie.Need-backward-requires
-backward-requires c κs = (omega (arith, c .before .before .before .forward .ensures .kept .size, c .before .before .before .before .before .before .pre .0 .whole), c .before .before .before .before .before .before .pre .0 .most, c .before .before .before .before .before .before .pre .1)
+backward-requires c κs =
+    let at-forward = c .before .before .before in
+    let start = at-forward .before .before .before in
+    (omega (arith, at-forward .forward .ensures .kept .size, start .pre .0 .whole), start .pre .0 .most, start .pre .1)
 
 operator-requires : tie.Need-operator-requires
-operator-requires c κs = (rows-kept (c .before .before .before .before .before .before .before .before .before .before .pre .0) (c .before .before .before .backward .ensures .kept .size ∙ c .before .before .before .before .before .before .before .forward .ensures .kept .size), search needs, search needs)
+operator-requires c κs =
+    let at-backward = c .before .before .before in
+    let at-forward = at-backward .before .before .before .before in
+    let start = at-forward .before .before .before in
+    let size = at-backward .backward .ensures .kept .size ∙ at-forward .forward .ensures .kept .size in (
+      rows-kept (start .pre .0) size,
+      place-of SOLUTION (omega arith) (omega arith) (omega (arith, size, start .pre .0 .whole)),
+      place-of PRODUCT (omega arith) (omega arith) (omega (arith, size, start .pre .0 .whole)),
+    )
 
-enum-told : tie.Need-enum-told
-enum-told c = search needs
+done-requires : tie.Need-done-requires
+done-requires c κs = search needs
 
 same-length : tie.Need-same-length
-same-length c = c .before .before .before .before .operator .ensures .kept .size ∙ c .before .before .before .before .before .before .before .before .backward .ensures .kept .size ∙ c .before .before .before .before .before .before .before .before .before .before .before .before .forward .ensures .kept .size
+same-length c =
+    let at-operator = c .before .before .before .before in
+    let at-backward = at-operator .before .before .before .before in
+    let at-forward = at-backward .before .before .before .before in
+    at-operator .operator .ensures .kept .size ∙ at-backward .backward .ensures .kept .size ∙ at-forward .forward .ensures .kept .size
 
 returns : tie.Need-returns
-returns c = refine-lost (c .before .before .before .before .before .before .before .before .before .before .before .before .before .before .before .pre .0) (now (c .before .before .before .before .before .before .before .before .before .before .before .before .before .before .before .args .order)) (c .before .before .before .before .before .before .before .before .before .before .before .before .forward .ensures) (c .before .before .before .before .before .before .before .before .backward .ensures) (over _ (c .before .before .before .before .operator .ensures) (c .enum-told .given .1))
-
-enum-told-2 : tie.Need-enum-told-2
-enum-told-2 c = search needs
+returns c =
+    let at-done = c .before in
+    let at-operator = at-done .before .before .before in
+    let at-backward = at-operator .before .before .before .before in
+    let at-forward = at-backward .before .before .before .before in
+    let start = at-forward .before .before .before in
+    let end = at-operator .operator .result in
+    does-eq (fails _ end (at-done .done .ensures) (c .if1 .taken))
+    (refine-failed (start .args .t) (start .pre .0) (now (start .args .order)) (at-forward .forward .ensures) (at-backward .backward .ensures)
+    (failed _ end (at-done .done .ensures) (at-operator .operator .ensures) (c .if1 .taken)))
 
 difference-requires : tie.Need-difference-requires
-difference-requires c κs = omega (arith, c .before .before .before .before .before .operator .ensures .kept .size ∙ c .before .before .before .before .before .before .before .before .before .backward .ensures .kept .size ∙ c .before .before .before .before .before .before .before .before .before .before .before .before .before .forward .ensures .kept .size, c .before .before .before .before .before .before .before .before .before .before .before .before .before .before .before .before .pre .0 .whole, c .before .before .before .before .before .before .before .before .before .before .before .before .before .before .before .before .pre .0 .most)
+difference-requires c κs =
+    let at-operator = c .before .before .before .before .before in
+    let at-backward = at-operator .before .before .before .before in
+    let at-forward = at-backward .before .before .before .before in
+    let start = at-forward .before .before .before in
+    omega (
+      arith,
+      at-operator .operator .ensures .kept .size,
+      at-backward .backward .ensures .kept .size ∙ at-forward .forward .ensures .kept .size,
+      start .pre .0 .whole,
+      start .pre .0 .most,
+    )
 
 same-length-2 : tie.Need-same-length-2
-same-length-2 c = c .before .before .difference .ensures .kept .size ∙ c .before .before .before .before .before .before .before .before .operator .ensures .kept .size ∙ c .before .before .before .before .before .before .before .before .before .before .before .before .backward .ensures .kept .size ∙ c .before .before .before .before .before .before .before .before .before .before .before .before .before .before .before .before .forward .ensures .kept .size
+same-length-2 c =
+    let at-slice-known4 = c .before .before .before .before .before .before in
+    let at-operator = at-slice-known4 .before .before in
+    let at-backward = at-operator .before .before .before .before in
+    let at-forward = at-backward .before .before .before .before in
+    c .before .before .difference .ensures .kept .size ∙ at-operator .operator .ensures .kept .size ∙ at-backward .backward .ensures .kept .size
+    ∙ at-forward .forward .ensures .kept .size
 
 returns-2 : tie.Need-returns-2
-returns-2 c = refine-done (c .before .before .before .before .before .before .before .before .before .before .before .before .before .before .before .before .before .before .before .pre .0) (now (c .before .before .before .before .before .before .before .before .before .before .before .before .before .before .before .before .before .before .before .args .order)) (c .before .before .before .before .before .before .before .before .before .before .before .before .before .before .before .before .forward .ensures) (c .before .before .before .before .before .before .before .before .before .before .before .before .backward .ensures) (done _ (c .before .before .before .before .before .before .before .before .operator .ensures) (c .before .before .before .before .enum-told2 .given .1)) (c .before .before .difference .ensures)
+returns-2 c =
+    let at-Else1 = c .before .before .before .before in
+    let at-operator = at-Else1 .before .before .before .before in
+    let at-backward = at-operator .before .before .before .before in
+    let at-forward = at-backward .before .before .before .before in
+    let start = at-forward .before .before .before in
+    refine-done (start .args .t) (start .pre .0) (now (start .args .order)) (at-forward .forward .ensures) (at-backward .backward .ensures)
+    (went _ (at-operator .operator .result) (at-Else1 .before .done .ensures) (at-operator .operator .ensures) (at-Else1 .if1 .left))
+    (c .before .before .difference .ensures)
 
 pub refine-spec : {M : Type 1} → statement M
 refine-spec =
@@ -46,10 +96,9 @@ refine-spec =
     forward-requires
     backward-requires
     operator-requires
-    enum-told
+    done-requires
     same-length
     returns
-    enum-told-2
     difference-requires
     same-length-2
     returns-2)

@@ -1,101 +1,154 @@
+-- refinements: at most four, by `Reached`.
 use native.Mathlib.Omega.{arith}
 use borrow.Author.Needs.{needs}
-use mathlib.Core.Path.{_≡_, refl, _∙_}
-use Prim.Native.Nat.{_≤_, _-_}
-use lib.ListN.{length}
+use mathlib.Core.Path.{_∙_, ap}
+use Prim.Native.Nat.{_-_}
 use denote.Ref.{now}
-use Rattle.arith.specs.Flow.{go, loop}
-use Rattle.solves.specs.Path.{refinement}
-use Rattle.solves.specs.Region.{vecAt, Does}
-use Rattle.solves.specs.View.{rowsOn, massesAt, listAt, factorAt, refinedAt, Refining, MASSES, RHS, SOLUTION}
-use Rattle.solves.specs.DoesLaws.{done, over}
+use Rattle.arith.specs.Flow.{loop}
+use Rattle.arith.specs.Run.{ran}
+use Rattle.rows.specs.View.{at}
+use Rattle.arith.specs.Run.{ran}
+use Rattle.solves.specs.Region.{vecAt}
+use Rattle.solves.specs.View.{systemOn, refinedAt, factorAt, listAt}
+use Rattle.solves.specs.View.{Refining}
+use Rattle.solves.specs.View.{RHS, SOLUTION}
+use Rattle.solves.specs.DoesLaws.{went, failed, fails, does-eq, does-more}
+use Rattle.solves.specs.ViewLaws.{refining-work}
 use Rattle.solves.proofs.OperatorLaws.{rows-kept}
-use Rattle.solves.proofs.SearchLaws.{new-ended}
-use Rattle.solves.proofs.GradientLaws.{test-is}
-use Rattle.solves.proofs.RefineLaws.{refined-none, refined-lost, refined-near, refined-wild, refined-more, refined-spent}
+use Rattle.solves.proofs.SearchLaws.{new-ended, Came, came-none, came-spent}
+use Rattle.solves.specs.Search.{refinement}
+use Rattle.solves.proofs.SolveLaws.{Refines, refined-failed, refined-over, refined-more}
 use Rattle.solves.proofs.path.refinements.Statement.{statement}
 use Rattle.solves.proofs.path.refinements.Tie as tie
 
 abbrev Inv-loop : tie.InvT-loop
-Inv-loop s₀ ia ib rows order n count tolerance k₀ s k = (k ≤ 4) × (length s ≡ length s₀) × (Does Refining s₀ s (go (refinedAt s n)) (loop k (refinement (rowsOn ia ib s₀ rows n) (massesAt s₀ MASSES count) (vecAt s₀ RHS n) n (listAt order n) (factorAt s₀ n) tolerance) (refinedAt s₀ n)))
+Inv-loop s₀ ia ib t order tolerance k₀ s k =
+    Came Refining 4 (refinement (systemOn ia ib s₀ t) (vecAt s₀ RHS (t .rows)) (listAt order (t .rows)) (factorAt s₀ (t .rows)) tolerance)
+    s₀ (refinedAt s₀ (t .rows)) k s (refinedAt s (t .rows))
 
 abbrev μ-loop : tie.MeasureT-loop
-μ-loop s₀ ia ib rows order n count tolerance k₀ s k = 4 - k
+μ-loop s₀ ia ib t order tolerance k₀ s k = 4 - k
 
 loop-holds : tie.Need-loop-holds Inv-loop μ-loop
-loop-holds c = (omega arith, refl, refined-none (c .before .pre .0) (now (c .before .args .order)) (c .before .args .tolerance) _)
+loop-holds c =
+    let start = c .before in
+    came-none Refining 4 (Refines (start .args .t) (start .pre .0) (now (start .args .order)) (start .args .tolerance) (now (start .args .s))) _
+    (refinedAt (now (start .args .s)) (start .args .t .rows))
 
 refine-requires : tie.Need-refine-requires Inv-loop μ-loop
-refine-requires c κs = (rows-kept (c .before .before .before .before .pre .0) (c .before .before .loop .inv .1), c .before .before .before .before .pre .1)
+refine-requires c κs =
+    let start = c .before .before .before .before in
+    (rows-kept (start .pre .0) (c .before .before .loop .inv .kept .size), start .pre .1)
 
-enum-told : tie.Need-enum-told Inv-loop μ-loop
-enum-told c = search needs
+done-requires : tie.Need-done-requires Inv-loop μ-loop
+done-requires c κs = search needs
 
 new-requires : tie.Need-new-requires Inv-loop μ-loop
 new-requires c κs = search needs
 
 same-length : tie.Need-same-length Inv-loop μ-loop
-same-length c = c .before .before .before .before .before .refine .ensures .kept .size ∙ c .before .before .before .before .before .before .before .before .loop .inv .1
+same-length c =
+    let at-refine = c .before .before .before .before .before in
+    at-refine .refine .ensures .kept .size ∙ at-refine .before .before .before .loop .inv .kept .size
 
 returns : tie.Need-returns Inv-loop μ-loop
-returns c = new-ended (vecAt (c .before .before .before .before .before .refine .last .0) SOLUTION (c .before .before .before .before .before .before .before .before .before .before .args .n)) (c .new .ensures) (omega (arith, c .before .before .before .before .before .before .before .loop-test .taken)) (refined-lost (c .before .before .before .before .before .before .before .before .before .before .pre .0) (now (c .before .before .before .before .before .before .before .before .before .before .args .order)) (c .before .before .before .before .before .before .before .before .before .before .args .tolerance) _ (c .before .before .before .before .before .before .before .before .loop .inv .2) (c .before .before .before .before .before .before .before .loop-test .taken) (over _ (c .before .before .before .before .before .refine .ensures) (c .before .enum-told .given .1)))
-
-enum-told-2 : tie.Need-enum-told-2 Inv-loop μ-loop
-enum-told-2 c = search needs
+returns c =
+    let at-Then1 = c .before in
+    let at-done = at-Then1 .before in
+    let at-refine = at-done .before .before .before in
+    let at-loop = at-refine .before .before .before in
+    let start = at-loop .before .before in
+    let end = at-refine .refine .result in
+    let k = at-loop .loop .k in
+    new-ended (vecAt (at-refine .refine .last .0) SOLUTION (start .args .t .rows)) (c .new .ensures)
+    (does-eq (ap (λ x. ran x 0 k) (fails _ end (at-done .done .ensures) (at-Then1 .if1 .taken)))
+    (does-more refining-work
+    (refined-failed (start .args .t) (start .pre .0) (now (start .args .order)) (start .args .tolerance) _ (at-loop .loop .inv)
+    (at-refine .before .before .loop-test .taken)
+    (failed _ end (at-done .done .ensures) (at-refine .refine .ensures) (at-Then1 .if1 .taken)))))
 
 residual-test-requires : tie.Need-residual-test-requires Inv-loop μ-loop
-residual-test-requires c κs = omega (arith, c .before .before .before .before .before .refine .ensures .kept .size ∙ c .before .before .before .before .before .before .before .before .loop .inv .1, c .before .before .before .before .before .before .before .before .before .before .pre .0 .whole, c .before .before .before .before .before .before .before .before .before .before .pre .0 .most)
+residual-test-requires c κs =
+    let at-refine = c .before .before .before .before .before in
+    let at-loop = at-refine .before .before .before in
+    let start = at-loop .before .before in
+    omega (arith, at-refine .refine .ensures .kept .size, at-loop .loop .inv .kept .size, start .pre .0 .whole, start .pre .0 .most)
 
-enum-told-3 : tie.Need-enum-told-3 Inv-loop μ-loop
-enum-told-3 c = search needs
+enum-known-end : tie.Need-enum-known-end Inv-loop μ-loop
+enum-known-end c = search needs
 
 add-new : tie.Need-add-new Inv-loop μ-loop
-add-new c = omega (arith, c .before .before .before .before .before .before .before .before .before .before .loop-test .taken)
+add-new c =
+    let at-done = c .before .before .before .before .before .before in
+    let in-loop = at-done .before .before .before .before .before in
+    omega (arith, in-loop .loop-test .taken)
 
 new-requires-2 : tie.Need-new-requires-2 Inv-loop μ-loop
 new-requires-2 c κs = search needs
 
 same-length-2 : tie.Need-same-length-2 Inv-loop μ-loop
-same-length-2 c = c .before .before .before .before .before .before .before .before .before .refine .ensures .kept .size ∙ c .before .before .before .before .before .before .before .before .before .before .before .before .loop .inv .1
+same-length-2 c =
+    let at-Else1 = c .before .before .before .before .before .before in
+    let at-refine = at-Else1 .before .before .before .before in
+    at-refine .refine .ensures .kept .size ∙ at-refine .before .before .before .loop .inv .kept .size
 
 returns-2 : tie.Need-returns-2 Inv-loop μ-loop
-returns-2 c = new-ended (vecAt (c .before .before .before .before .before .before .before .before .before .refine .last .0) SOLUTION (c .before .before .before .before .before .before .before .before .before .before .before .before .before .before .args .n)) (c .new2 .ensures) (omega (arith, c .before .before .before .before .before .before .before .before .before .before .before .loop-test .taken)) (refined-near (c .before .before .before .before .before .before .before .before .before .before .before .before .before .before .pre .0) (now (c .before .before .before .before .before .before .before .before .before .before .before .before .before .before .args .order)) (c .before .before .before .before .before .before .before .before .before .before .before .before .before .before .args .tolerance) _ (c .before .before .before .before .before .before .before .before .before .before .before .before .loop .inv .2) (c .before .before .before .before .before .before .before .before .before .before .before .loop-test .taken) (done _ (c .before .before .before .before .before .before .before .before .before .refine .ensures) (c .before .before .before .before .before .enum-told2 .given .1)) (test-is (c .before .before .before .residual-test .ensures) (c .before .enum-told3 .given .1)))
+returns-2 c =
+    let at-residual-test = c .before .before .before .before in
+    let at-done = at-residual-test .before .before .before in
+    let at-refine = at-done .before .before .before in
+    let at-loop = at-refine .before .before .before in
+    let start = at-loop .before .before in
+    new-ended (vecAt (at-refine .refine .last .0) SOLUTION (start .args .t .rows)) (c .new2 .ensures)
+    (does-more refining-work
+    (refined-over (start .args .t) (start .pre .0) (now (start .args .order)) (start .args .tolerance) _ (at-loop .loop .inv)
+    (at-refine .before .before .loop-test .taken)
+    (went _ (at-refine .refine .result) (at-done .done .ensures) (at-refine .refine .ensures)
+    (at-residual-test .before .before .if1 .left))
+    (at-residual-test .residual-test .result) (at-residual-test .residual-test .ensures) (c .before .before .end .given .1)))
 
-enum-told-4 : tie.Need-enum-told-4 Inv-loop μ-loop
-enum-told-4 c = search needs
+enum-told : tie.Need-enum-told Inv-loop μ-loop
+enum-told c = search needs
 
-enum-told-5 : tie.Need-enum-told-5 Inv-loop μ-loop
-enum-told-5 c = search needs
+add-k : tie.Need-add-k Inv-loop μ-loop
+add-k c =
+    let at-slice-known2 = c .before .before .before .before .before .before in
+    let in-loop = at-slice-known2 .before .before .before .before in
+    omega (arith, in-loop .loop-test .taken)
 
-add-new-2 : tie.Need-add-new-2 Inv-loop μ-loop
-add-new-2 c = omega (arith, c .before .before .before .before .before .before .before .before .before .before .loop-test .taken)
+loop-less : tie.Need-loop-less Inv-loop μ-loop
+loop-less c =
+    let at-slice-known2 = c .before .before .before .before .before .before in
+    let in-loop = at-slice-known2 .before .before .before .before in
+    omega (arith, in-loop .loop-test .taken)
+
+loop-again : tie.Need-loop-again Inv-loop μ-loop
+loop-again c =
+    let at-residual-test = c .before .before in
+    let at-done = at-residual-test .before .before .before in
+    let at-refine = at-done .before .before .before in
+    let at-loop = at-refine .before .before .before in
+    let start = at-loop .before .before in
+    refined-more (start .args .t) (start .pre .0) (now (start .args .order)) (start .args .tolerance) _ (at-loop .loop .inv)
+    (at-refine .before .before .loop-test .taken)
+    (went _ (at-refine .refine .result) (at-done .done .ensures) (at-refine .refine .ensures) (at-residual-test .before .before .if1 .left))
+    (at-residual-test .residual-test .result) (at-residual-test .residual-test .ensures) (c .enum-told .given .1)
 
 new-requires-3 : tie.Need-new-requires-3 Inv-loop μ-loop
 new-requires-3 c κs = search needs
 
 same-length-3 : tie.Need-same-length-3 Inv-loop μ-loop
-same-length-3 c = c .before .before .before .before .before .before .before .before .before .refine .ensures .kept .size ∙ c .before .before .before .before .before .before .before .before .before .before .before .before .loop .inv .1
+same-length-3 c = c .before .before .loop .inv .kept .size
 
 returns-3 : tie.Need-returns-3 Inv-loop μ-loop
-returns-3 c = new-ended (vecAt (c .before .before .before .before .before .before .before .before .before .refine .last .0) SOLUTION (c .before .before .before .before .before .before .before .before .before .before .before .before .before .before .args .n)) (c .new3 .ensures) (omega (arith, c .before .before .before .before .before .before .before .before .before .before .before .loop-test .taken)) (refined-wild (c .before .before .before .before .before .before .before .before .before .before .before .before .before .before .pre .0) (now (c .before .before .before .before .before .before .before .before .before .before .before .before .before .before .args .order)) (c .before .before .before .before .before .before .before .before .before .before .before .before .before .before .args .tolerance) _ (c .before .before .before .before .before .before .before .before .before .before .before .before .loop .inv .2) (c .before .before .before .before .before .before .before .before .before .before .before .loop-test .taken) (done _ (c .before .before .before .before .before .before .before .before .before .refine .ensures) (c .before .before .before .before .before .enum-told2 .given .1)) (test-is (c .before .before .before .residual-test .ensures) (c .before .enum-told5 .given .1)))
-
-add-k : tie.Need-add-k Inv-loop μ-loop
-add-k c = omega (arith, c .before .before .before .before .before .before .before .before .before .before .loop-test .taken)
-
-loop-less : tie.Need-loop-less Inv-loop μ-loop
-loop-less c = omega (arith, c .before .before .before .before .before .before .before .before .before .before .loop-test .taken)
-
-loop-again : tie.Need-loop-again Inv-loop μ-loop
-loop-again c = (omega (arith, c .before .before .before .before .before .before .before .before .before .before .loop-test .taken), c .before .before .before .before .before .before .before .before .refine .ensures .kept .size ∙ c .before .before .before .before .before .before .before .before .before .before .before .loop .inv .1, refined-more (c .before .before .before .before .before .before .before .before .before .before .before .before .before .pre .0) (now (c .before .before .before .before .before .before .before .before .before .before .before .before .before .args .order)) (c .before .before .before .before .before .before .before .before .before .before .before .before .before .args .tolerance) _ (c .before .before .before .before .before .before .before .before .before .before .before .loop .inv .2) (c .before .before .before .before .before .before .before .before .before .before .loop-test .taken) (done _ (c .before .before .before .before .before .before .before .before .refine .ensures) (c .before .before .before .before .enum-told2 .given .1)) (test-is (c .before .before .residual-test .ensures) (c .enum-told4 .given .1)))
-
-new-requires-4 : tie.Need-new-requires-4 Inv-loop μ-loop
-new-requires-4 c κs = search needs
-
-same-length-4 : tie.Need-same-length-4 Inv-loop μ-loop
-same-length-4 c = c .before .before .loop .inv .1
-
-returns-4 : tie.Need-returns-4 Inv-loop μ-loop
-returns-4 c = new-ended (vecAt (c .before .before .loop .s) SOLUTION (c .before .before .before .before .args .n)) (c .new4 .ensures) (omega arith) (refined-spent (c .before .before .before .before .pre .0) (now (c .before .before .before .before .args .order)) (c .before .before .before .before .args .tolerance) _ (c .before .before .loop .inv .2) (c .before .before .loop .inv .0) (c .before .loop-test .left))
+returns-3 c =
+    let at-loop = c .before .before in
+    let start = at-loop .before .before in
+    new-ended (vecAt (at-loop .loop .s) SOLUTION (start .args .t .rows)) (c .new3 .ensures)
+    (does-more refining-work
+    (came-spent Refining 4
+    (Refines (start .args .t) (start .pre .0) (now (start .args .order)) (start .args .tolerance) (now (start .args .s))) _
+    (refinedAt (now (start .args .s)) (start .args .t .rows)) (at-loop .loop .inv) (c .before .loop-test .left)))
 
 pub refinements-spec : {M : Type 1} → statement M
 refinements-spec =
@@ -105,26 +158,20 @@ refinements-spec =
     μ-loop
     loop-holds
     refine-requires
-    enum-told
+    done-requires
     new-requires
     same-length
     returns
-    enum-told-2
     residual-test-requires
-    enum-told-3
+    enum-known-end
     add-new
     new-requires-2
     same-length-2
     returns-2
-    enum-told-4
-    enum-told-5
-    add-new-2
-    new-requires-3
-    same-length-3
-    returns-3
+    enum-told
     add-k
     loop-less
     loop-again
-    new-requires-4
-    same-length-4
-    returns-4)
+    new-requires-3
+    same-length-3
+    returns-3)

@@ -1,73 +1,113 @@
+-- linear_solve: zeros and the right side, then the solve that is chosen.
 use native.Mathlib.Omega.{arith}
-use borrow.Author.Needs.{needs}
 use mathlib.Core.Path.{_∙_}
-use lib.ListN.{length}
-use Rattle.solves.specs.declared.End.{End}
-use Rattle.solves.specs.Answer.{endAs}
-use Rattle.solves.specs.Region.{vecAt}
-use Rattle.solves.specs.View.{SOLUTION}
-use Rattle.solves.specs.DoesLaws.{does-as}
+use Prim.Native.Nat.{_-_}
+use Rattle.arith.specs.FlowLaws.{not-yes, not-no}
 use Rattle.solves.proofs.OperatorLaws.{rows-kept}
-use Rattle.solves.proofs.RefineLaws.{solved-as, does-eq, linear-least, linear-path, linear-gradients, solves-so}
+use Rattle.solves.proofs.SolveLaws.{linear-least, linear-gradients, linear-path, order-no, order-yes}
 use Rattle.solves.proofs.solver.linear_solve.Statement.{statement}
 use Rattle.solves.proofs.solver.linear_solve.Tie as tie
 
 clear-requires : tie.Need-clear-requires
-clear-requires c κs = omega arith
+clear-requires c κs =
+    let start = c .before .before in
+    omega (arith, start .pre .whole, start .pre .most)
 
 copy-requires : tie.Need-copy-requires
-copy-requires c κs = omega (arith, c .before .before .before .clear .ensures .kept .size, c .before .before .before .before .before .before .pre .whole, c .before .before .before .before .before .before .pre .most)
+copy-requires c κs =
+    let at-clear = c .before .before .before in
+    let start = at-clear .before .before .before in
+    omega (arith, at-clear .clear .ensures .kept .size, start .pre .whole, start .pre .most)
 
 least-squares-requires : tie.Need-least-squares-requires
-least-squares-requires c κs = rows-kept (c .before .before .before .before .before .before .before .before .before .before .before .pre) (c .before .before .before .before .copy .ensures .kept .size ∙ c .before .before .before .before .before .before .before .before .clear .ensures .kept .size)
+least-squares-requires c κs =
+    let at-copy = c .before .before .before .before in
+    let at-clear = at-copy .before .before .before .before in
+    rows-kept (at-clear .before .before .before .pre) (at-copy .copy .ensures .kept .size ∙ at-clear .clear .ensures .kept .size)
 
 same-length : tie.Need-same-length
-same-length c = c .before .before .least-squares .ensures .0 .kept .size ∙ c .before .before .before .before .before .before .before .copy .ensures .kept .size ∙ c .before .before .before .before .before .before .before .before .before .before .before .clear .ensures .kept .size
+same-length c =
+    let at-s2 = c .before .before .before .before .before .before in
+    let at-copy = at-s2 .before in
+    let at-clear = at-copy .before .before .before .before in
+    c .before .before .least-squares .ensures .kept .size ∙ at-copy .copy .ensures .kept .size ∙ at-clear .clear .ensures .kept .size
 
 returns : tie.Need-returns
-returns c = solves-so _ (c .before .before .least-squares .result) (linear-least (c .before .before .before .before .before .before .before .before .before .before .before .before .before .before .pre) (c .before .before .before .before .before .before .before .before .before .before .before .before .before .before .args .cyclic) (c .before .before .before .before .before .before .before .before .before .before .before .clear .ensures) (c .before .before .before .before .before .before .before .copy .ensures) (c .before .before .before .before .if1 .taken) (c .before .before .least-squares .ensures .0)) (c .before .before .least-squares .ensures .1)
+returns c =
+    let at-Then1 = c .before .before .before .before in
+    let at-copy = at-Then1 .before .before .before in
+    let at-clear = at-copy .before .before .before .before in
+    let start = at-clear .before .before .before in
+    linear-least (start .args .t) (start .pre) (start .args .cyclic) (at-clear .clear .ensures) (at-copy .copy .ensures) (at-Then1 .if1 .taken)
+    (c .before .before .least-squares .ensures)
 
-path-solve-requires : tie.Need-path-solve-requires
-path-solve-requires c κs = rows-kept (c .before .before .before .before .before .before .before .before .before .before .before .pre) (c .before .before .before .before .copy .ensures .kept .size ∙ c .before .before .before .before .before .before .before .before .clear .ensures .kept .size)
-
-enum-told : tie.Need-enum-told
-enum-told c = search needs
+path-order-requires : tie.Need-path-order-requires
+path-order-requires c κs =
+    let at-s = c .before .before .before .before .before .before in
+    let start = at-s .before .before .before .before in (
+      start .pre .most,
+      λ k h. omega (arith, start .pre .a-there k h, start .pre .bodies),
+      λ k h. omega
+          (arith, start .pre .b-there k h, start .pre .bodies),
+    )
 
 gradients-requires : tie.Need-gradients-requires
-gradients-requires c κs = rows-kept (c .before .before .before .before .before .before .before .before .before .before .before .before .before .before .before .before .before .pre) (c .before .before .before .before .before .path-solve .ensures .0 .kept .size ∙ c .before .before .before .before .before .before .before .before .before .before .copy .ensures .kept .size ∙ c .before .before .before .before .before .before .before .before .before .before .before .before .before .before .clear .ensures .kept .size)
-
-enum-told-2 : tie.Need-enum-told-2
-enum-told-2 c = search needs
-
-enum-told-3 : tie.Need-enum-told-3
-enum-told-3 c = search needs
-
-enum-told-4 : tie.Need-enum-told-4
-enum-told-4 c = search needs
+gradients-requires c κs =
+    let at-s2 = c .before .before .before .before .before .before in
+    let at-copy = at-s2 .before in
+    let at-clear = at-copy .before .before .before .before in
+    rows-kept (at-clear .before .before .before .pre) (at-copy .copy .ensures .kept .size ∙ at-clear .clear .ensures .kept .size)
 
 same-length-2 : tie.Need-same-length-2
-same-length-2 c = c .before .before .gradients .ensures .0 .kept .size ∙ c .before .before .before .before .before .before .before .before .path-solve .ensures .0 .kept .size ∙ c .before .before .before .before .before .before .before .before .before .before .before .before .before .copy .ensures .kept .size ∙ c .before .before .before .before .before .before .before .before .before .before .before .before .before .before .before .before .before .clear .ensures .kept .size
+same-length-2 c =
+    let at-path-order = c .before .before .before .before .before .before in
+    let at-copy = at-path-order .before .before .before .before in
+    let at-clear = at-copy .before .before .before .before in
+    c .before .before .gradients .ensures .kept .size ∙ at-copy .copy .ensures .kept .size ∙ at-clear .clear .ensures .kept .size
 
 returns-2 : tie.Need-returns-2
-returns-2 c = solves-so _ (c .before .before .gradients .result) (linear-gradients (c .before .before .before .before .before .before .before .before .before .before .before .before .before .before .before .before .before .before .before .before .pre) (c .before .before .before .before .before .before .before .before .before .before .before .before .before .before .before .before .before .before .before .before .args .cyclic) (c .before .before .before .before .before .before .before .before .before .before .before .before .before .before .before .before .before .clear .ensures) (c .before .before .before .before .before .before .before .before .before .before .before .before .before .copy .ensures) (c .before .before .before .before .before .before .before .before .before .before .if1 .left) (does-as (λ (q : End). endAs q (c .before .before .before .before .before .before .before .before .path-solve .result .passes) (vecAt (c .before .before .before .before .before .before .before .before .path-solve .last .0) SOLUTION (c .before .before .before .before .before .before .before .before .before .before .before .before .before .before .before .before .before .before .before .before .args .n))) (c .before .before .before .before .enum-told .given .1) (c .before .before .before .before .before .before .before .before .path-solve .ensures .0)) (c .before .before .before .before .before .before .before .before .path-solve .ensures .1 (c .before .before .before .before .enum-told .given .1) .0) (c .before .before .gradients .ensures .0)) (omega (arith, c .before .before .gradients .ensures .1))
+returns-2 c =
+    let at-Then2 = c .before .before .before .before in
+    let at-path-order = at-Then2 .before .before in
+    let at-copy = at-path-order .before .before .before .before in
+    let at-clear = at-copy .before .before .before .before in
+    let start = at-clear .before .before .before in
+    linear-gradients (start .args .t) (start .pre) (start .args .cyclic) (at-clear .clear .ensures) (at-copy .copy .ensures)
+    (at-path-order .before .if1 .left)
+    (order-no (at-path-order .path-order .result) (at-path-order .path-order .ensures .0) (not-yes _ (at-Then2 .if2 .taken)))
+    (c .before .before .gradients .ensures)
+
+path-along-requires : tie.Need-path-along-requires
+path-along-requires c κs =
+    let at-Else2 = c .before .before .before .before in
+    let at-copy = at-Else2 .before .before .before .before .before .before in
+    let at-clear = at-copy .before .before .before .before in (
+      rows-kept (at-clear .before .before .before .pre) (at-copy .copy .ensures .kept .size ∙ at-clear .clear .ensures .kept .size),
+      at-Else2 .before .before .path-order .ensures .1 (not-no _ (at-Else2 .if2 .left)) .1,
+    )
 
 same-length-3 : tie.Need-same-length-3
-same-length-3 c = c .before .before .before .before .path-solve .ensures .0 .kept .size ∙ c .before .before .before .before .before .before .before .before .before .copy .ensures .kept .size ∙ c .before .before .before .before .before .before .before .before .before .before .before .before .before .clear .ensures .kept .size
+same-length-3 c =
+    let at-along = c .before .before .before .before .before .before in
+    let at-s2 = at-along .before .before .before .before .before .before in
+    let at-copy = at-s2 .before in
+    let at-clear = at-copy .before .before .before .before in
+    c .before .before .path-along .ensures .kept .size ∙ at-copy .copy .ensures .kept .size ∙ at-clear .clear .ensures .kept .size
 
 returns-3 : tie.Need-returns-3
-returns-3 c = solves-so _ (c .before .before .before .before .path-solve .result) (does-eq (solved-as (c .before .before .before .before .path-solve .result) (vecAt (c .before .before .before .before .path-solve .last .0) SOLUTION (c .before .before .before .before .before .before .before .before .before .before .before .before .before .before .before .before .args .n)) (c .enum-told2 .given .1)) (linear-path (c .before .before .before .before .before .before .before .before .before .before .before .before .before .before .before .before .pre) (c .before .before .before .before .before .before .before .before .before .before .before .before .before .before .before .before .args .cyclic) (c .before .before .before .before .before .before .before .before .before .before .before .before .before .clear .ensures) (c .before .before .before .before .before .before .before .before .before .copy .ensures) (c .before .before .before .before .before .before .if1 .left) (does-as (λ (q : End). endAs q (c .before .before .before .before .path-solve .result .passes) (vecAt (c .before .before .before .before .path-solve .last .0) SOLUTION (c .before .before .before .before .before .before .before .before .before .before .before .before .before .before .before .before .args .n))) (c .enum-told2 .given .1) (c .before .before .before .before .path-solve .ensures .0)))) (omega (arith, c .before .before .before .before .path-solve .ensures .2))
-
-same-length-4 : tie.Need-same-length-4
-same-length-4 c = c .before .before .before .before .path-solve .ensures .0 .kept .size ∙ c .before .before .before .before .before .before .before .before .before .copy .ensures .kept .size ∙ c .before .before .before .before .before .before .before .before .before .before .before .before .before .clear .ensures .kept .size
-
-returns-4 : tie.Need-returns-4
-returns-4 c = solves-so _ (c .before .before .before .before .path-solve .result) (does-eq (solved-as (c .before .before .before .before .path-solve .result) (vecAt (c .before .before .before .before .path-solve .last .0) SOLUTION (c .before .before .before .before .before .before .before .before .before .before .before .before .before .before .before .before .args .n)) (c .enum-told3 .given .1)) (linear-path (c .before .before .before .before .before .before .before .before .before .before .before .before .before .before .before .before .pre) (c .before .before .before .before .before .before .before .before .before .before .before .before .before .before .before .before .args .cyclic) (c .before .before .before .before .before .before .before .before .before .before .before .before .before .clear .ensures) (c .before .before .before .before .before .before .before .before .before .copy .ensures) (c .before .before .before .before .before .before .if1 .left) (does-as (λ (q : End). endAs q (c .before .before .before .before .path-solve .result .passes) (vecAt (c .before .before .before .before .path-solve .last .0) SOLUTION (c .before .before .before .before .before .before .before .before .before .before .before .before .before .before .before .before .args .n))) (c .enum-told3 .given .1) (c .before .before .before .before .path-solve .ensures .0)))) (omega (arith, c .before .before .before .before .path-solve .ensures .2))
-
-same-length-5 : tie.Need-same-length-5
-same-length-5 c = c .before .before .before .before .path-solve .ensures .0 .kept .size ∙ c .before .before .before .before .before .before .before .before .before .copy .ensures .kept .size ∙ c .before .before .before .before .before .before .before .before .before .before .before .before .before .clear .ensures .kept .size
-
-returns-5 : tie.Need-returns-5
-returns-5 c = solves-so _ (c .before .before .before .before .path-solve .result) (does-eq (solved-as (c .before .before .before .before .path-solve .result) (vecAt (c .before .before .before .before .path-solve .last .0) SOLUTION (c .before .before .before .before .before .before .before .before .before .before .before .before .before .before .before .before .args .n)) (c .enum-told4 .given .1)) (linear-path (c .before .before .before .before .before .before .before .before .before .before .before .before .before .before .before .before .pre) (c .before .before .before .before .before .before .before .before .before .before .before .before .before .before .before .before .args .cyclic) (c .before .before .before .before .before .before .before .before .before .before .before .before .before .clear .ensures) (c .before .before .before .before .before .before .before .before .before .copy .ensures) (c .before .before .before .before .before .before .if1 .left) (does-as (λ (q : End). endAs q (c .before .before .before .before .path-solve .result .passes) (vecAt (c .before .before .before .before .path-solve .last .0) SOLUTION (c .before .before .before .before .before .before .before .before .before .before .before .before .before .before .before .before .args .n))) (c .enum-told4 .given .1) (c .before .before .before .before .path-solve .ensures .0)))) (omega (arith, c .before .before .before .before .path-solve .ensures .2))
+returns-3 c =
+    let at-along = c .before .before .before .before .before .before in
+    let at-Else2 = at-along .before in
+    let at-path-order = at-Else2 .before .before in
+    let at-copy = at-path-order .before .before .before .before in
+    let at-clear = at-copy .before .before .before .before in
+    let start = at-clear .before .before .before in
+    let found = not-no _ (at-Else2 .if2 .left) in
+    linear-path (start .args .t) (start .pre) (start .args .cyclic) (at-clear .clear .ensures) (at-copy .copy .ensures)
+    (at-path-order .before .if1 .left) (at-path-order .path-order .result .order .rows)
+    (order-yes (at-path-order .path-order .result) (start .args .t .rows) (at-path-order .path-order .ensures .0) found
+    (at-path-order .path-order .ensures .1 found .0))
+    (c .before .before .path-along .ensures)
 
 pub linear-solve-spec : {M : Type 1} → statement M
 linear-solve-spec =
@@ -78,17 +118,10 @@ linear-solve-spec =
     least-squares-requires
     same-length
     returns
-    path-solve-requires
-    enum-told
+    path-order-requires
     gradients-requires
-    enum-told-2
-    enum-told-3
-    enum-told-4
     same-length-2
     returns-2
+    path-along-requires
     same-length-3
-    returns-3
-    same-length-4
-    returns-4
-    same-length-5
-    returns-5)
+    returns-3)

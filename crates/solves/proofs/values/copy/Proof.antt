@@ -1,16 +1,19 @@
+-- copy: double by double, by `filled-more`.
 use native.Mathlib.Omega.{arith}
 use mathlib.Core.Path.{_≡_, refl}
 use Prim.Native.Nat.{_+_, _≤_, _-_}
 use lib.ListN.{length, length-set}
+use Rattle.arith.specs.Flow.{loop}
 use Rattle.rows.specs.View.{at}
 use Rattle.solves.specs.Region.{Filled}
-use Rattle.solves.specs.RegionLaws.{filled-none, filled-more}
-use Rattle.solves.proofs.VectorLaws.{copied}
+use Rattle.solves.specs.RegionLaws.{filled-none}
+use Rattle.solves.proofs.VectorLaws.{copied, copy-more}
 use Rattle.solves.proofs.values.copy.Statement.{statement}
 use Rattle.solves.proofs.values.copy.Tie as tie
 
 abbrev Inv-loop : tie.InvT-loop
-Inv-loop s₀ to from n k₀ s k = (k ≤ n) × (length s ≡ length s₀) × (Filled to k (λ j. at s₀ (from + j)) s₀ s)
+Inv-loop s₀ to from n k₀ s k =
+    (k ≤ n) × (length s ≡ length s₀) × (Filled to k (λ j. at s₀ (from + j)) s₀ s)
 
 abbrev μ-loop : tie.MeasureT-loop
 μ-loop s₀ to from n k₀ s k = n - k
@@ -43,7 +46,12 @@ loop-less : tie.Need-loop-less Inv-loop μ-loop
 loop-less c = omega arith
 
 loop-again : tie.Need-loop-again Inv-loop μ-loop
-loop-again c = (omega arith, simp length-set (omega arith), filled-more (c .before .before .loop .inv .2) (omega arith) (c .before .before .loop .inv .2 .kept .same _ (omega arith)))
+loop-again c =
+    let start = c .before .before .before in (
+      omega arith,
+      simp length-set (omega arith),
+      copy-more (start .args .from) (c .before .before .loop .inv .2) (omega arith) (omega arith) (start .pre .3),
+    )
 
 same-length : tie.Need-same-length Inv-loop μ-loop
 same-length c = omega arith

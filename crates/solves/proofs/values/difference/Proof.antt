@@ -1,18 +1,21 @@
+-- difference: x = a - b double by double, by `two-more` and `two-is`.
 use native.Mathlib.Omega.{arith}
 use mathlib.Core.Path.{_≡_, refl}
 use Prim.Native.Nat.{_≤_, _-_}
 use lib.ListN.{length, length-set}
 use lib.Ieee.{Float}
 use Rattle.arith.specs.Real.{_⊖_}
-use Rattle.solves.specs.Solver.{difference}
+use Rattle.arith.specs.Flow.{loop}
 use Rattle.solves.specs.Region.{Filled}
+use Rattle.solves.specs.Solver.{difference}
 use Rattle.solves.specs.RegionLaws.{filled-none}
-use Rattle.solves.proofs.VectorLaws.{both, two-more, two-is, apart-out}
+use Rattle.solves.proofs.VectorLaws.{both, two-more, two-is}
 use Rattle.solves.proofs.values.difference.Statement.{statement}
 use Rattle.solves.proofs.values.difference.Tie as tie
 
 abbrev Inv-loop : tie.InvT-loop
-Inv-loop s₀ x a b n k₀ s k = (k ≤ n) × (length s ≡ length s₀) × (Filled x k (both (λ (p q : Float). p ⊖ q) x a b s₀) s₀ s)
+Inv-loop s₀ x a b n k₀ s k =
+    (k ≤ n) × (length s ≡ length s₀) × (Filled x k (both (λ (p q : Float). p ⊖ q) x a b s₀) s₀ s)
 
 abbrev μ-loop : tie.MeasureT-loop
 μ-loop s₀ x a b n k₀ s k = n - k
@@ -54,14 +57,24 @@ loop-less : tie.Need-loop-less Inv-loop μ-loop
 loop-less c = omega arith
 
 loop-again : tie.Need-loop-again Inv-loop μ-loop
-loop-again c = (omega arith, simp length-set (omega arith), two-more (λ (p q : Float). p ⊖ q) (c .before .before .before .before .args .x) (c .before .before .before .before .args .a) (c .before .before .before .before .args .b) _ (c .before .before .before .loop .inv .2) (omega arith) (apart-out (c .before .before .before .before .args .x) (c .before .before .before .before .args .a) (c .before .before .before .loop .k) (c .before .before .before .before .pre .4) (omega arith)) (apart-out (c .before .before .before .before .args .x) (c .before .before .before .before .args .b) (c .before .before .before .loop .k) (c .before .before .before .before .pre .5) (omega arith)))
+loop-again c =
+    let at-loop = c .before .before .before in
+    let start = at-loop .before in (
+      omega arith,
+      simp length-set (omega arith),
+      two-more (λ (p q : Float). p ⊖ q) (start .args .x) (start .args .a) (start .args .b) _
+          (at-loop .loop .inv .2) (omega arith) (omega arith) (start .pre .0 .3) (start .pre .1 .3),
+    )
 
 same-length : tie.Need-same-length Inv-loop μ-loop
 same-length c = omega arith
 
 returns : tie.Need-returns Inv-loop μ-loop
 unfolding difference
-returns c = two-is (λ (p q : Float). p ⊖ q) (c .before .before .args .x) (c .before .before .args .a) (c .before .before .args .b) _ (c .before .loop .inv .2) (omega arith) (c .loop-test .left) (omega arith)
+returns c =
+    let start = c .before .before in
+    two-is (λ (p q : Float). p ⊖ q) (start .args .x) (start .args .a) (start .args .b) _ (c .before .loop .inv .2) (omega arith) (c .loop-test .left)
+    (omega arith)
 
 pub difference-spec : {M : Type 1} → statement M
 difference-spec =

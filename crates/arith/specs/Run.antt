@@ -1,0 +1,78 @@
+-- A run with its two counters. `Run A E` is a Turn that counted: `go a` or `stop e`, with the nonlinear passes begun and the linear passes
+-- counted on the way.
+-- In a `do` block of a file that imports these `_>>=_` and `_>>_`, `x ← e` is `let x = e?` and the counts add up; a failure leaves with the
+-- counts as they stand.
+use Prim.Native.Nat.{ℕ, zero, suc, _+_}
+use mathlib.Core.Bool.{Bool, cond}
+use Rattle.arith.specs.Flow.{Turn, go, stop}
+
+pub record Run (A E : Type 0) : Type 0 where
+  pub ends : Turn A E
+  pub nonlinear : ℕ
+  pub linear : ℕ
+
+-- what ended as t, with so many passes of either kind
+abbrev pub ran : {A E : Type 0} → Turn A E → ℕ → ℕ → Run A E
+ran t n l = record { ends = t; nonlinear = n; linear = l }
+
+-- r, after so many passes of either kind
+abbrev pub after : {A E : Type 0} → ℕ → ℕ → Run A E → Run A E
+after n l r = ran (r .ends) (n + r .nonlinear) (l + r .linear)
+
+-- e?, of what counts nothing
+abbrev pub try : {A E : Type 0} → Turn A E → Run A E
+try r = ran r 0 0
+
+abbrev pub ok : {A E : Type 0} → A → Run A E
+ok a = try (go a)
+
+abbrev pub fail : {A E : Type 0} → E → Run A E
+fail e = try (stop e)
+
+-- nonlinear_iterations += 1, linear_iterations += 1
+abbrev pub begin : {E : Type 0} → Run (Unit {0}) E
+begin = ran (go tt) 1 0
+
+abbrev pub tick : {E : Type 0} → Run (Unit {0}) E
+tick = ran (go tt) 0 1
+
+abbrev pub onward : {A B E : Type 0} → (A → Run B E) → Turn A E → Run B E
+onward f (go a) = f a
+onward f (stop e) = fail e
+
+infixl 10 _>>=_
+infixl 10 _>>_
+unfoldable pub _>>=_ : {A B E : Type 0} → Run A E → (A → Run B E) → Run B E
+r >>= f = after (r .nonlinear) (r .linear) (onward f (r .ends))
+
+abbrev pub _>>_ : {A B E : Type 0} → Run A E → Run B E → Run B E
+r >> s = r >>= λ _. s
+
+-- if test { return Err(e); }
+unfoldable pub failIf : {E : Type 0} → Bool → E → Run (Unit {0}) E
+failIf test e = cond test (fail e) (ok tt)
+
+-- how a pass ends: the next one starts from a, or the loop is left with b
+abbrev pub again : {A B E : Type 0} → A → Run (Turn A B) E
+again a = ok (go a)
+
+abbrev pub leave : {A B E : Type 0} → B → Run (Turn A B) E
+leave b = ok (stop b)
+
+-- if test { leave with b; } rest
+unfoldable pub leaveIf : {A B E : Type 0} → Bool → B → Run (Turn A B) E → Run (Turn A B) E
+leaveIf test b rest = cond test (leave b) rest
+
+-- a pass after which the loop is over, as t says: left with b, or failed
+abbrev pub over : {A B E : Type 0} → Turn B E → Turn (Turn A B) E
+over (go b) = go (stop b)
+over (stop e) = stop e
+
+abbrev pub next : {A B E : Type 0} → (A → Run B E) → Turn A B → Run B E
+next f (go a) = f a
+next f (stop b) = ok b
+
+-- for _ in 0..most { pass } Err(e)
+unfoldable pub upTo : {A B E : Type 0} → ℕ → E → (A → Run (Turn A B) E) → A → Run B E
+upTo zero e pass a = fail e
+upTo (suc k) e pass a = pass a >>= next (upTo k e pass)

@@ -1,0 +1,143 @@
+-- search: the passes of a search, by `Reached`.
+use native.Mathlib.Omega.{arith}
+use borrow.Author.Needs.{needs}
+use mathlib.Core.Path.{_∙_, ap}
+use Prim.Native.Nat.{ℕ, _-_}
+use denote.Ref.{now}
+use Rattle.arith.specs.Flow.{loop}
+use Rattle.arith.specs.Run.{upTo}
+use Rattle.rows.specs.Fault.{nonConvergent}
+use Rattle.solves.specs.Region.{vecAt}
+use Rattle.solves.specs.View.{systemOn, searchAt}
+use Rattle.solves.specs.View.{Passing}
+use Rattle.solves.specs.View.{RHS, SOLUTION, DIAGONAL}
+use Rattle.solves.specs.DoesLaws.{does-is, does-more}
+use Rattle.solves.specs.ViewLaws.{passing-work}
+use Rattle.solves.specs.Answer.{passOf}
+use Rattle.solves.proofs.SearchLaws.{new-ended, PassAt, pass-kept, came-none, came-spent, Searched, search-again, search-over}
+use Rattle.solves.proofs.OperatorLaws.{rows-kept}
+use Rattle.solves.proofs.search.search.Statement.{statement}
+use Rattle.solves.proofs.search.search.Tie as tie
+
+abbrev Inv-loop : tie.InvT-loop
+Inv-loop s₀ ia ib t which tolerance start most rho₀ k₀ s rho k =
+    Searched (t .rows) most (passOf which (systemOn ia ib s₀ t) (vecAt s₀ RHS (t .rows)) (vecAt s₀ DIAGONAL (t .rows)) tolerance) s₀ start k s rho
+
+abbrev μ-loop : tie.MeasureT-loop
+μ-loop s₀ ia ib t which tolerance start most rho₀ k₀ s rho k = most - k
+
+limit-requires : tie.Need-limit-requires Inv-loop μ-loop
+limit-requires c κs = c .before .pre .most
+
+loop-holds : tie.Need-loop-holds Inv-loop μ-loop
+loop-holds c =
+    let start = c .before .before in
+    came-none Passing (c .limit .result) (PassAt (start .args .t) (start .pre) (start .args .which) (start .args .tolerance) (now (start .args .s))) _
+    (searchAt (now (start .args .s)) (start .args .t .rows) (start .args .start))
+
+search-pass-requires : tie.Need-search-pass-requires Inv-loop μ-loop
+search-pass-requires c κs =
+    let start = c .before .before .before .before .before in
+    rows-kept (start .pre) (c .before .before .loop .inv .kept .size)
+
+enum-known-next : tie.Need-enum-known-next Inv-loop μ-loop
+enum-known-next c = search needs
+
+enum-known-end : tie.Need-enum-known-end Inv-loop μ-loop
+enum-known-end c = search needs
+
+new-requires : tie.Need-new-requires Inv-loop μ-loop
+new-requires c κs = search needs
+
+same-length : tie.Need-same-length Inv-loop μ-loop
+same-length c =
+    let at-search-pass = c .before .before .before .before .before .before in
+    at-search-pass .search-pass .ensures .kept .size ∙ at-search-pass .before .before .before .loop .inv .kept .size
+
+returns : tie.Need-returns Inv-loop μ-loop
+returns c =
+    let at-search-pass = c .before .before .before .before .before .before in
+    let at-loop = at-search-pass .before .before .before in
+    let at-limit = at-loop .before in
+    let start = at-limit .before .before in
+    new-ended (vecAt (at-search-pass .search-pass .last .0) SOLUTION (start .args .t .rows)) (c .new .ensures)
+    (does-is (does-more passing-work (search-over (start .args .t .rows) (at-limit .limit .result)
+    (PassAt (start .args .t) (start .pre) (start .args .which) (start .args .tolerance) (now (start .args .s))) _ (start .args .start)
+    (at-loop .loop .inv) (at-search-pass .before .before .loop-test .taken) (at-search-pass .search-pass .result)
+    (does-is (at-search-pass .search-pass .ensures)
+    (pass-kept (start .args .t) (start .pre) (start .args .which) (start .args .tolerance) (at-loop .loop .inv .kept) _))
+    (c .before .before .end .given .1)))
+    (ap
+    (λ (m : ℕ). upTo m nonConvergent
+    (PassAt (start .args .t) (start .pre) (start .args .which) (start .args .tolerance) (now (start .args .s)))
+    (searchAt (now (start .args .s)) (start .args .t .rows) (start .args .start)))
+    (at-limit .limit .ensures)))
+
+add-k : tie.Need-add-k Inv-loop μ-loop
+add-k c =
+    let at-search-pass-arg = c .before .before .before .before .before .before in
+    let in-loop = at-search-pass-arg .before in
+    let start = in-loop .before .before .before .before in
+    omega (arith, in-loop .loop-test .taken, in-loop .before .before .limit .ensures, start .pre .most)
+
+loop-less : tie.Need-loop-less Inv-loop μ-loop
+loop-less c =
+    let at-search-pass-arg = c .before .before .before .before .before .before in
+    let in-loop = at-search-pass-arg .before in
+    omega (arith, in-loop .loop-test .taken)
+
+loop-again : tie.Need-loop-again Inv-loop μ-loop
+loop-again c =
+    let at-search-pass = c .before .before .before .before .before in
+    let at-loop = at-search-pass .before .before .before in
+    let start = at-loop .before .before .before in
+    search-again (start .args .t .rows) (at-loop .before .limit .result)
+    (PassAt (start .args .t) (start .pre) (start .args .which) (start .args .tolerance) (now (start .args .s))) _ (start .args .start)
+    (at-loop .loop .inv) (at-search-pass .before .before .loop-test .taken) (at-search-pass .search-pass .result)
+    (does-is (at-search-pass .search-pass .ensures)
+    (pass-kept (start .args .t) (start .pre) (start .args .which) (start .args .tolerance) (at-loop .loop .inv .kept) _))
+    (c .before .next .given .1)
+
+new-requires-2 : tie.Need-new-requires-2 Inv-loop μ-loop
+new-requires-2 c κs = search needs
+
+same-length-2 : tie.Need-same-length-2 Inv-loop μ-loop
+same-length-2 c = c .before .before .loop .inv .kept .size
+
+returns-2 : tie.Need-returns-2 Inv-loop μ-loop
+returns-2 c =
+    let at-loop = c .before .before in
+    let at-limit = at-loop .before in
+    let start = at-limit .before .before in
+    new-ended (vecAt (at-loop .loop .s) SOLUTION (start .args .t .rows)) (c .new2 .ensures)
+    (does-is
+    (does-more passing-work
+    (came-spent Passing (at-limit .limit .result)
+    (PassAt (start .args .t) (start .pre) (start .args .which) (start .args .tolerance) (now (start .args .s))) _
+    (searchAt (now (start .args .s)) (start .args .t .rows) (start .args .start)) (at-loop .loop .inv) (c .before .loop-test .left)))
+    (ap
+    (λ (m : ℕ). upTo m nonConvergent
+    (PassAt (start .args .t) (start .pre) (start .args .which) (start .args .tolerance) (now (start .args .s)))
+    (searchAt (now (start .args .s)) (start .args .t .rows) (start .args .start)))
+    (at-limit .limit .ensures)))
+
+pub search-spec : {M : Type 1} → statement M
+search-spec =
+    tie.close
+    (tie.spec
+    Inv-loop
+    μ-loop
+    limit-requires
+    loop-holds
+    search-pass-requires
+    enum-known-next
+    enum-known-end
+    new-requires
+    same-length
+    returns
+    add-k
+    loop-less
+    loop-again
+    new-requires-2
+    same-length-2
+    returns-2)
