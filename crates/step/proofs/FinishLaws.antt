@@ -1,198 +1,153 @@
--- The end of a run: masses of the candidates, the velocity loop and the states; the run as a whole; and what it is to the caller.
+-- The end of a run and the run as a whole, from the calls' contracts link by link; and what the run is to the caller.
 use Prim.Native.Nat.{ℕ, zero, suc, _+_, _*_, _-_, _%_, _≤_, _<_}
 use mathlib.Core.Path.{_≡_, refl, sym, _∙_, ap}
-use mathlib.Core.Bool.{Bool, true, false, cond}
+use mathlib.Core.Bool.{Bool, true, false, not, cond}
 use mathlib.Core.List.{List, _++_}
 use native.Mathlib.Omega.{arith}
-use lib.Dec.{leb}
 use lib.ListN.{length, drop, replicate, length-replicate, getD-replicate}
 use lib.Seq.{ext-getD}
 use lib.Ieee.{Float, nan}
 use Rattle.arith.specs.Real.{ratio}
-use Rattle.arith.specs.Flow.{Turn, go, stop, _>>=_, every}
-use Rattle.arith.specs.FlowLaws.{then-go, then-stop, cond-yes, cond-no}
-use Rattle.rows.specs.declared.body.Finish.{Finish}
-use Rattle.rows.specs.declared.body.Finish.the-variants as Ends
+use Rattle.arith.specs.Flow.{go, stop, every}
+use Rattle.arith.specs.FlowLaws.{not-no, cond-yes, cond-no}
+use Rattle.arith.specs.Run.{ran, try, after, _>>=_}
+use Rattle.arith.specs.RunLaws.{run-is, then-go, then-stop, try-go}
 use Rattle.rows.specs.declared.body.RigidBody.{RigidBody}
 use Rattle.rows.specs.declared.body.BodyState.{BodyState}
 use Rattle.rows.specs.declared.body.MomentumBody.{MomentumBody}
 use Rattle.rows.specs.declared.geometry.Joint.{Joint}
-use Rattle.rows.specs.Fault.{Fault, nonConvergent, arithmeticOverflow, Result}
+use Rattle.rows.specs.Fault.{Result}
 use Rattle.rows.specs.View.{at, vec3At, Out, Kept}
-use Rattle.rows.specs.Answer.{finishAs}
-use Rattle.rows.specs.Region.{tab-at, tab-length, kept-then, kept-more}
-use Rattle.solves.specs.declared.Outcome.{Outcome}
-use Rattle.solves.specs.declared.Outcome.the-variants as Outcomes
-use Rattle.solves.specs.declared.places.MassResponse.{MassResponse}
+use Rattle.rows.specs.Region.{tab-length, tab-at, kept-then, kept-more}
+use Rattle.solves.specs.declared.End.{End}
+use Rattle.solves.specs.declared.End.the-variants as Ends
+use Rattle.solves.specs.declared.Ended.{Ended}
+use Rattle.solves.specs.declared.Table.{Table}
+use Rattle.solves.specs.Layout.{MASS-TABLE}
 use Rattle.solves.specs.Region.{Filled, Does}
-use Rattle.solves.specs.Answer.{ranAs}
-use Rattle.solves.specs.DoesLaws.{ran-done, ran-over}
-use Rattle.solves.specs.View.{ROWS, MASSES, CANDIDATE, END, rowsOn, massesAt}
+use Rattle.solves.specs.System.{Counting}
+use Rattle.solves.specs.Answer.{ranAs, isDone, endedAs}
+use Rattle.solves.specs.DoesLaws.{ran-done, fails}
+use Rattle.solves.specs.View.{START-ROWS, ROWS, MASSES, rowsOn, massesAt, systemOn}
 use Rattle.solves.specs.ViewLaws.{kept-rows}
-use Rattle.step.specs.declared.Outcome.{Outcome as Answer}
-use Rattle.step.specs.declared.Outcome.the-variants as Answers
-use Rattle.step.specs.declared.passes.Looped.{Looped}
-use Rattle.step.specs.declared.integrator.Progress.{Progress}
-use Rattle.step.specs.Records.{recordAt, recordsOf, bodyCount, stateAt}
+use Rattle.step.specs.declared.Outcome.{Outcome}
+use Rattle.step.specs.declared.Outcome.the-variants as Outcomes
+use Rattle.step.specs.declared.passes.Ran.{Ran}
+use Rattle.step.specs.Layout.{CANDIDATE, STATES, SCRATCH, USED}
+use Rattle.step.specs.Records.{bodyCount, stateAt}
 use Rattle.step.specs.Checks.{withinOf}
 use Rattle.step.specs.View.{candidatesAt, statesAt, Handed}
 use Rattle.step.specs.ViewLaws.{kept-candidates}
 use Rattle.step.specs.BackLaws.{handed-back}
-use Rattle.step.specs.Step.{noState, stateIn, prepareMasses, Started, startOf, Left, Found, nonlinearLoop, velocityLoop, statesOf, Counted, counted, finishOf, runOf, Stepped, grounded, cleared, settled}
-use Rattle.step.specs.RunView.{rowsBefore, Sides, startedAt, foundAt, Trying, Correcting, loopedAs, endedAs, progressAs}
-use Rattle.step.proofs.SolveLaws.{finish-case}
-
--- what a run answers
-abbrev RunEnd : Type 0
-RunEnd = Turn (Counted (List BodyState)) (Counted Fault)
-
-ended-then : (nonlinear p : ℕ) (r : Finish) (states : List BodyState)
-    → endedAs r nonlinear p states ≡ (counted nonlinear p (finishAs r states) >>= λ states. go (record { answer = states; nonlinear = nonlinear; linear = p }))
-unfolding _>>=_
-ended-then nonlinear p Ends.Done states = refl
-ended-then nonlinear p Ends.NonConvergent states = refl
-ended-then nonlinear p Ends.ArithmeticOverflow states = refl
+use Rattle.step.specs.Bodies.{Job, Started, startOf, prepareMasses, statesOf, noState, stateIn}
+use Rattle.step.specs.Step.{nonlinearLoop, velocityLoop, finishOf, runOf, Stepped, stepped, grounded, cleared, settledAs, settled}
+use Rattle.step.specs.RunView.{startedAt, foundAt, Sides, candidateTable, Trying, Correcting, leftAs}
+use Rattle.step.proofs.PassLaws.{failed-as}
 
 -- ---- finish_run
-module _ (bodies : List RigidBody) (cyclic : Bool) (nonlinear linear : ℕ) (ia ib : List ℕ) (n size : ℕ) (l : n ≤ 96) (g : size ≤ 16) (s s₁ : List Float) (r₁ : Outcome)
-    (d₁ : Does (λ i. Out MASSES 160 i) s s₁ (ranAs r₁ (massesAt s₁ MASSES size)) (prepareMasses (candidatesAt s size))) where
-  abbrev Finishes : List Float → RunEnd → Type 0
-  Finishes t x = Does (λ i. Out MASSES (END - MASSES) i) s t x (finishOf bodies cyclic nonlinear linear (foundAt ia ib s n size))
+module _ (cyclic : Bool) (bodies : List RigidBody) (ia ib : List ℕ) (t : Table) (l : t .rows ≤ 96) (g : t .bodies ≤ 16) {s s₁ : List Float} (r₁ : End)
+    (d₁ : Does (Out MASSES MASS-TABLE) s s₁ (ranAs r₁ (massesAt s₁ MASSES (t .bodies))) (prepareMasses (candidatesAt s (t .bodies))))
+    {b : Bool} (eb : b ≡ isDone r₁) where
+  abbrev Finishes : List Float → Counting (List BodyState) → Type 0
+  Finishes u x = Does (Out MASSES (USED - MASSES)) s u x (finishOf cyclic bodies (foundAt ia ib s t))
 
-  abbrev onStates : ℕ → List BodyState → RunEnd
-  onStates passes states = go (record { answer = states; nonlinear = nonlinear; linear = passes })
-
-  abbrev onCandidate : ℕ → List MomentumBody → RunEnd
-  onCandidate passes candidate = counted nonlinear passes (statesOf bodies candidate) >>= onStates passes
-
-  abbrev onMasses : List MassResponse → RunEnd
-  onMasses masses =
-      let left : Left (List MomentumBody) = velocityLoop cyclic (rowsOn ia ib s ROWS n) masses (candidatesAt s size) in
-      counted nonlinear (linear + left .passes) (left .answer) >>= onCandidate (linear + left .passes)
-
-  pub finish-1 : r₁ ≡ Outcomes.ArithmeticOverflow
-      → Finishes s₁ (stop (record { answer = arithmeticOverflow; nonlinear = nonlinear; linear = linear }))
+  pub not-weighed : not b ≡ true → Finishes s₁ (ran (ranAs r₁ (statesAt s₁ (t .bodies))) 0 0)
   unfolding finishOf
-  finish-1 h =
-      record { kept = kept-more (d₁ .kept) (λ i x. omega arith); is = then-stop onMasses (ap (counted nonlinear linear) (ran-over (massesAt s₁ MASSES size) d₁ h)) }
+  not-weighed h = record {
+    kept = kept-more (d₁ .kept) (λ i x. omega arith);
+    is = failed-as (massesAt s₁ MASSES (t .bodies)) (statesAt s₁ (t .bodies)) r₁ eb h (d₁ .is) _;
+  }
 
-  module _ (h₁ : r₁ ≡ Outcomes.Done) (s₂ : List Float) (r₂ : Looped)
-      (d₂ : Does Correcting s₁ s₂ (loopedAs r₂ (candidatesAt s₂ size)) (velocityLoop cyclic (rowsOn ia ib s₁ ROWS n) (massesAt s₁ MASSES size) (candidatesAt s₁ size))) where
-    abbrev left : Left (List MomentumBody)
-    left = velocityLoop cyclic (rowsOn ia ib s ROWS n) (massesAt s₁ MASSES size) (candidatesAt s size)
+  module _ (h : not b ≡ false) {s₂ : List Float} (r₂ : Ended)
+      (d₂ : Does Correcting s₁ s₂ (endedAs r₂ (candidatesAt s₂ (t .bodies)))
+      (velocityLoop cyclic (systemOn ia ib s₁ (candidateTable t)) (candidatesAt s₁ (t .bodies)))) {c : Bool} (ec : c ≡ isDone (r₂ .end)) where
+    weighed : go (massesAt s₁ MASSES (t .bodies)) ≡ prepareMasses (candidatesAt s (t .bodies))
+    weighed = sym (ran-done (massesAt s₁ MASSES (t .bodies)) r₁ (sym eb ∙ not-no b h)) ∙ d₁ .is
 
-    left-is : loopedAs r₂ (candidatesAt s₂ size) ≡ left
-    left-is =
-        d₂ .is ∙
-        (λ j. velocityLoop cyclic (kept-rows (d₁ .kept) ia ib ROWS n (λ i a b. omega arith) j) (massesAt s₁ MASSES size)
-        (kept-candidates (d₁ .kept) size (λ i a b. omega arith) (λ i a b. omega arith) j))
+    abbrev loop : Counting (List MomentumBody)
+    loop = velocityLoop cyclic (record { rows = rowsOn ia ib s ROWS (t .rows); masses = massesAt s₁ MASSES (t .bodies) }) (candidatesAt s (t .bodies))
 
-    passes-are : linear + r₂ .passes ≡ linear + left .passes
-    passes-are = ap (λ (x : Left (List MomentumBody)). linear + x .passes) left-is
+    loop-is : endedAs r₂ (candidatesAt s₂ (t .bodies)) ≡ loop
+    loop-is = d₂ .is ∙ λ j. velocityLoop cyclic
+        (record { rows = kept-rows (d₁ .kept) ia ib ROWS (t .rows) (λ i a b. omega arith) j; masses = massesAt s₁ MASSES (t .bodies) })
+        (kept-candidates (d₁ .kept) (t .bodies) (λ i a b. omega arith) (λ i a b. omega arith) j)
 
-    kept₂ : Kept (λ i. Out MASSES (END - MASSES) i) s s₂
+    kept₂ : Kept (Out MASSES (USED - MASSES)) s s₂
     kept₂ = kept-then (kept-more (d₁ .kept) (λ i x. omega arith)) (d₂ .kept) (λ i x. (omega arith, omega arith))
 
-    rest₁ : {x : RunEnd} → x ≡ onMasses (massesAt s₁ MASSES size) → x ≡ finishOf bodies cyclic nonlinear linear (foundAt ia ib s n size)
+    pub not-rested : not c ≡ true → Finishes s₂ (endedAs r₂ (statesAt s₂ (t .bodies)))
     unfolding finishOf
-    rest₁ e = e ∙ then-go onMasses (ap (counted nonlinear linear) (ran-done (massesAt s₁ MASSES size) d₁ h₁))
-
-    answer-is : {q : Finish} → r₂ .finish ≡ q → finishAs q (candidatesAt s₂ size) ≡ left .answer
-    answer-is h = finish-case (candidatesAt s₂ size) (r₂ .finish) (ap (λ (x : Left (List MomentumBody)). x .answer) left-is) h
-
-    fails : {f : Fault} → stop f ≡ left .answer → Finishes s₂ (stop (record { answer = f; nonlinear = nonlinear; linear = linear + r₂ .passes }))
-    fails {f} e = record {
+    not-rested k = record {
       kept = kept₂;
-      is = ap (λ (p : ℕ). stop (record { answer = f; nonlinear = nonlinear; linear = p })) passes-are
-          ∙ rest₁ (then-stop (onCandidate (linear + left .passes)) (ap (counted nonlinear (linear + left .passes)) e));
+      is = ap (λ (t : Result (List BodyState)). ran t 0 (r₂ .linear)) (fails (statesAt s₂ (t .bodies)) (r₂ .end) ec k)
+          ∙ then-stop _ (ap (λ (t : Result (List MomentumBody)). ran t 0 (r₂ .linear)) (sym (fails (candidatesAt s₂ (t .bodies)) (r₂ .end) ec k)) ∙ loop-is)
+          ∙ try-go _ weighed;
     }
 
-    pub finish-2 : r₂ .finish ≡ Ends.NonConvergent
-        → Finishes s₂ (stop (record { answer = nonConvergent; nonlinear = nonlinear; linear = linear + r₂ .passes }))
-    finish-2 h = fails (answer-is h)
-
-    pub finish-3 : r₂ .finish ≡ Ends.ArithmeticOverflow
-        → Finishes s₂ (stop (record { answer = arithmeticOverflow; nonlinear = nonlinear; linear = linear + r₂ .passes }))
-    finish-3 h = fails (answer-is h)
-
-    pub finish-4 : r₂ .finish ≡ Ends.Done → (s₃ : List Float) (r₃ : Finish)
-        → Does (λ i. Out CANDIDATE 208 i) s₂ s₃ (finishAs r₃ (statesAt s₃ size)) (statesOf bodies (candidatesAt s₂ size))
-        → Finishes s₃ (endedAs r₃ nonlinear (linear + r₂ .passes) (statesAt s₃ size))
-    finish-4 h s₃ r₃ d₃ = record {
+    pub all-finished : not c ≡ false → {s₃ : List Float} (r₃ : End)
+        → Does (Out CANDIDATE STATES) s₂ s₃ (ranAs r₃ (statesAt s₃ (t .bodies))) (statesOf bodies (candidatesAt s₂ (t .bodies)))
+        → Finishes s₃ (ran (ranAs r₃ (statesAt s₃ (t .bodies))) 0 (r₂ .linear))
+    unfolding finishOf
+    all-finished k r₃ d₃ = record {
       kept = kept-then kept₂ (d₃ .kept) (λ i x. omega arith);
-      is = ap (λ (p : ℕ). endedAs r₃ nonlinear p (statesAt s₃ size)) passes-are
-          ∙ ended-then nonlinear (linear + left .passes) r₃ (statesAt s₃ size)
-          ∙ ap (λ (x : Result (List BodyState)). counted nonlinear (linear + left .passes) x >>= onStates (linear + left .passes)) (d₃ .is)
-          ∙ rest₁ (then-go (onCandidate (linear + left .passes)) (ap (counted nonlinear (linear + left .passes)) (answer-is h)));
+      is = run-is refl (let z : r₂ .linear ≡ r₂ .linear + 0 = omega arith in z)
+          ∙ ap (λ (t : Result (List BodyState)). after 0 (r₂ .linear) (try t)) (d₃ .is)
+          ∙ then-go (λ candidate. try (statesOf bodies candidate)) rested
+          ∙ try-go (λ masses. velocityLoop cyclic (record { rows = rowsOn ia ib s ROWS (t .rows); masses = masses }) (candidatesAt s (t .bodies))
+          >>= λ candidate. try (statesOf bodies candidate)) weighed;
     }
+      where
+        rested : ran (go (candidatesAt s₂ (t .bodies))) 0 (r₂ .linear) ≡ loop
+        rested = ap (λ (t : Result (List MomentumBody)). ran t 0 (r₂ .linear)) (sym (ran-done (candidatesAt s₂ (t .bodies)) (r₂ .end) (sym ec ∙ not-no c k))) ∙ loop-is
 
 -- ---- run
-module _ (bodies : List Float) (joints : List Joint) (count : ℕ) (dt : Float) {ia ib : List ℕ} (S : Sides joints count ia ib) (m : ℕ) (em : m ≡ rowsBefore joints count) (s s₁ : List Float) (r₁ : Finish)
-    (f₁ : (ja jb : List ℕ) → Sides joints count ja jb
-    → Does (λ i. Out 0 END i) s s₁ (finishAs r₁ (startedAt ja jb s₁ (rowsBefore joints count) (bodyCount bodies)))
-    (startOf (recordsOf bodies) joints count)) where
-  d₁ : Does (λ i. Out 0 END i) s s₁ (finishAs r₁ (startedAt ia ib s₁ m (bodyCount bodies))) (startOf (recordsOf bodies) joints count)
-  d₁ = record { kept = f₁ ia ib S .kept; is = ap (λ (k : ℕ). finishAs r₁ (startedAt ia ib s₁ k (bodyCount bodies))) em ∙ f₁ ia ib S .is }
+-- the rows of the joints, as they were counted
+pub started-as : {joints : List Joint} {count : ℕ} {ia ib : List ℕ} → Sides joints count ia ib → {n m : ℕ} (size : ℕ) {s s₁ : List Float} (r : End)
+    {d : Result Started} → n ≡ m
+    → Does (Out 0 USED) s s₁ (ranAs r (startedAt ia ib s₁ (record { place = START-ROWS; rows = m; bodies = size }))) d
+    → Does (Out 0 USED) s s₁ (ranAs r (startedAt ia ib s₁ (record { place = START-ROWS; rows = n; bodies = size }))) d
+started-as {joints} {count} {ia} {ib} sides size {s} {s₁} r e f = record {
+  kept = f .kept;
+  is = ap (λ (k : ℕ). ranAs r (startedAt ia ib s₁ (record { place = START-ROWS; rows = k; bodies = size }))) e ∙ f .is;
+}
 
-  abbrev Runs : List Float → RunEnd → Type 0
-  Runs t x = Does (λ i. Out 0 END i) s t x (runOf (recordsOf bodies) joints count dt)
+module _ (job : Job) (bodies : List RigidBody) {joints : List Joint} {count : ℕ} {ia ib : List ℕ} (sides : Sides joints count ia ib) (t : Table)
+    {s s₁ : List Float} (r₁ : End) (d₁ : Does (Out 0 USED) s s₁ (ranAs r₁ (startedAt ia ib s₁ t)) (startOf job bodies)) {b : Bool} (eb : b ≡ isDone r₁) where
+  abbrev Runs : List Float → Counting (List BodyState) → Type 0
+  Runs u x = Does (Out 0 USED) s u x (runOf job bodies)
 
-  abbrev onLeft : Left Found → RunEnd
-  onLeft left =
-      counted (left .begun) (left .passes) (left .answer) >>= finishOf (recordsOf bodies) (leb (length (recordsOf bodies)) count) (left .begun)
-      (left .passes)
-
-  abbrev onStarted : Started → RunEnd
-  onStarted started = onLeft (nonlinearLoop joints count dt (leb (length (recordsOf bodies)) count) started)
-
-  cyclic-is : leb (bodyCount bodies) count ≡ leb (length (recordsOf bodies)) count
-  cyclic-is = ap (λ (k : ℕ). leb k count) (sym (tab-length (bodyCount bodies) (recordAt bodies)))
-
-  run-fails : {f : Fault} → stop f ≡ startOf (recordsOf bodies) joints count → Runs s₁ (stop (record { answer = f; nonlinear = 0; linear = 0 }))
+  pub not-started : not b ≡ true → Runs s₁ (ran (ranAs r₁ (statesAt s₁ (t .bodies))) 0 0)
   unfolding runOf
-  run-fails e = record { kept = d₁ .kept; is = then-stop onStarted (ap (counted 0 0) e) }
+  not-started h = record { kept = d₁ .kept; is = failed-as (startedAt ia ib s₁ t) (statesAt s₁ (t .bodies)) r₁ eb h (d₁ .is) _ }
 
-  pub run-1 : r₁ ≡ Ends.NonConvergent → Runs s₁ (stop (record { answer = nonConvergent; nonlinear = 0; linear = 0 }))
-  run-1 h = run-fails (finish-case (startedAt ia ib s₁ m (bodyCount bodies)) r₁ (d₁ .is) h)
+  module _ (h : not b ≡ false) {s₂ : List Float} (r₂ : Ran)
+      (d₂ : Does Trying s₁ s₂ (leftAs r₂ (foundAt ia ib s₂ t)) (nonlinearLoop job (startedAt ia ib s₁ t))) {c : Bool} (ec : c ≡ isDone (r₂ .end)) where
+    started : go (startedAt ia ib s₁ t) ≡ startOf job bodies
+    started = sym (ran-done (startedAt ia ib s₁ t) r₁ (sym eb ∙ not-no b h)) ∙ d₁ .is
 
-  pub run-2 : r₁ ≡ Ends.ArithmeticOverflow → Runs s₁ (stop (record { answer = arithmeticOverflow; nonlinear = 0; linear = 0 }))
-  run-2 h = run-fails (finish-case (startedAt ia ib s₁ m (bodyCount bodies)) r₁ (d₁ .is) h)
-
-  module _ (h₁ : r₁ ≡ Ends.Done) (s₂ : List Float) (r₂ : Looped)
-      (d₂ : Does Trying s₁ s₂ (loopedAs r₂ (foundAt ia ib s₂ m (bodyCount bodies))) (nonlinearLoop joints count dt (leb (bodyCount bodies) count) (startedAt ia ib s₁ m (bodyCount bodies)))) where
-    kept-run : Kept (λ i. Out 0 END i) s s₂
+    kept-run : Kept (Out 0 USED) s s₂
     kept-run = kept-then (d₁ .kept) (d₂ .kept) (λ i x. (omega arith, omega arith, omega arith))
 
-    loop-is : loopedAs r₂ (foundAt ia ib s₂ m (bodyCount bodies)) ≡ nonlinearLoop joints count dt (leb (length (recordsOf bodies)) count) (startedAt ia ib s₁ m (bodyCount bodies))
-    loop-is = d₂ .is ∙ ap (λ (b : Bool). nonlinearLoop joints count dt b (startedAt ia ib s₁ m (bodyCount bodies))) cyclic-is
+    abbrev counts : {A : Type 0} → Result A → Counting A
+    counts x = ran x (r₂ .nonlinear) (r₂ .linear)
 
-    run-rest : {x : RunEnd} → x ≡ onLeft (loopedAs r₂ (foundAt ia ib s₂ m (bodyCount bodies))) → x ≡ runOf (recordsOf bodies) joints count dt
+    pub not-met : not c ≡ true → Runs s₂ (leftAs r₂ (statesAt s₂ (t .bodies)))
     unfolding runOf
-    run-rest e = e ∙ ap onLeft loop-is ∙ then-go onStarted (ap (counted 0 0) (finish-case (startedAt ia ib s₁ m (bodyCount bodies)) r₁ (d₁ .is) h₁))
+    not-met k = record {
+      kept = kept-run;
+      is = ap counts (fails (statesAt s₂ (t .bodies)) (r₂ .end) ec k) ∙ then-stop _ (ap counts (sym (fails (foundAt ia ib s₂ t) (r₂ .end) ec k)) ∙ d₂ .is) ∙ try-go _ started;
+    }
 
-    abbrev onFound : Found → RunEnd
-    onFound = finishOf (recordsOf bodies) (leb (length (recordsOf bodies)) count) (r₂ .begun) (r₂ .passes)
-
-    abbrev told : {q : Finish} → r₂ .finish ≡ q
-        → counted (r₂ .begun) (r₂ .passes) (finishAs q (foundAt ia ib s₂ m (bodyCount bodies))) ≡ counted (r₂ .begun) (r₂ .passes)
-        (finishAs (r₂ .finish) (foundAt ia ib s₂ m (bodyCount bodies)))
-    told h = ap (λ (q : Finish). counted (r₂ .begun) (r₂ .passes) (finishAs q (foundAt ia ib s₂ m (bodyCount bodies)))) (sym h)
-
-    pub run-3 : r₂ .finish ≡ Ends.NonConvergent → Runs s₂ (stop (record { answer = nonConvergent; nonlinear = r₂ .begun; linear = r₂ .passes }))
-    run-3 h = record { kept = kept-run; is = run-rest (then-stop onFound (told h)) }
-
-    pub run-4 : r₂ .finish ≡ Ends.ArithmeticOverflow
-        → Runs s₂ (stop (record { answer = arithmeticOverflow; nonlinear = r₂ .begun; linear = r₂ .passes }))
-    run-4 h = record { kept = kept-run; is = run-rest (then-stop onFound (told h)) }
-
-    pub run-5 : r₂ .finish ≡ Ends.Done → (s₃ : List Float) {x : RunEnd}
-        → Does (λ i. Out MASSES (END - MASSES) i) s₂ s₃ x
-        (finishOf (recordsOf bodies) (leb (bodyCount bodies) count) (r₂ .begun) (r₂ .passes) (foundAt ia ib s₂ m (bodyCount bodies))) → Runs s₃ x
-    run-5 h s₃ d₃ = record {
+    pub all-run : not c ≡ false → {s₃ : List Float} (r₃ : Ended)
+        → Does (Out MASSES (USED - MASSES)) s₂ s₃ (endedAs r₃ (statesAt s₃ (t .bodies))) (finishOf (job .cyclic) bodies (foundAt ia ib s₂ t))
+        → Runs s₃ (ran (ranAs (r₃ .end) (statesAt s₃ (t .bodies))) (r₂ .nonlinear) (r₂ .linear + r₃ .linear))
+    unfolding runOf
+    all-run k r₃ d₃ = record {
       kept = kept-then kept-run (d₃ .kept) (λ i x. omega arith);
-      is =
-          d₃ .is ∙ ap (λ (b : Bool). finishOf (recordsOf bodies) b (r₂ .begun) (r₂ .passes) (foundAt ia ib s₂ m (bodyCount bodies))) cyclic-is ∙
-          run-rest (then-go onFound (told h));
+      is = run-is (let z : r₂ .nonlinear ≡ r₂ .nonlinear + 0 = omega arith in z) refl
+          ∙ ap (after (r₂ .nonlinear) (r₂ .linear)) (d₃ .is)
+          ∙ then-go (finishOf (job .cyclic) bodies) (ap counts (sym (ran-done (foundAt ia ib s₂ t) (r₂ .end) (sym ec ∙ not-no c k))) ∙ d₂ .is)
+          ∙ try-go (λ start. nonlinearLoop job start >>= finishOf (job .cyclic) bodies) started;
     }
 
 -- ---- settle
@@ -215,110 +170,61 @@ module _ (n : ℕ) (s bodies : List Float) where
       (λ k h. ap (λ (x : BodyState). withinOf (x .origin) (ratio 8192 1)) (sym (tab-at n (λ j. stateAt s (CANDIDATE + 13 * j)) noState k h)))
       ∙ ap (λ (m : ℕ). every m (λ k. withinOf (stateIn states k .origin) (ratio 8192 1))) (sym (tab-length n (λ j. stateAt s (CANDIDATE + 13 * j))))
 
-  module _ {b : Bool} (e : b ≡ every n (λ k. withinOf (vec3At s (CANDIDATE + 13 * k)) (ratio 8192 1))) (nonlinear linear : ℕ) (scratch : List Float) where
+  module _ {b : Bool} (e : b ≡ every n (λ k. withinOf (vec3At s (CANDIDATE + 13 * k)) (ratio 8192 1))) {end : End} (q : end ≡ Ends.Done)
+      (nonlinear linear : ℕ) (scratch : List Float) where
+    -- in the case that the run went through
+    done : settledAs bodies scratch nonlinear linear (go states) ≡ settledAs bodies scratch nonlinear linear (ranAs end states)
+    done = ap (λ (x : End). settledAs bodies scratch nonlinear linear (ranAs x states)) (sym q)
+
     pub settle-accepts : b ≡ true → n ≡ bodyCount bodies → length bodies % 26 ≡ 0 → {after : List Float} → Handed n s bodies after
-        → record {
-          outcome =
-              Answers.Accepted;
-          nonlinear = nonlinear;
-          linear = linear;
-          bodies = after;
-          scratch = scratch;
-        } ≡ settled bodies scratch (endedAs Ends.Done
-        nonlinear linear states)
-    settle-accepts q c w h =
-        ap (λ (a : List Float). record { outcome = Answers.Accepted; nonlinear = nonlinear; linear = linear; bodies = a; scratch = scratch })
-        (handed-back n s c w h)
-        ∙ cond-yes {b = grounded states} _ _ (sym (sym q ∙ e ∙ ground-is))
+        → stepped Outcomes.Accepted nonlinear linear after scratch ≡ settledAs bodies scratch nonlinear linear (ranAs end states)
+    settle-accepts t c w h =
+        ap (λ (a : List Float). stepped Outcomes.Accepted nonlinear linear a scratch) (handed-back n s c w h)
+        ∙ cond-yes {b = grounded states} _ _ (sym (sym t ∙ e ∙ ground-is)) ∙ done
 
     pub settle-grounds : b ≡ false
-        → record { outcome = Answers.Ground; nonlinear = nonlinear; linear = linear; bodies = bodies; scratch = scratch } ≡ settled bodies scratch
-        (endedAs Ends.Done nonlinear linear states)
-    settle-grounds q = cond-no {b = grounded states} _ _ (sym (sym q ∙ e ∙ ground-is))
+        → stepped Outcomes.Ground nonlinear linear bodies scratch ≡ settledAs bodies scratch nonlinear linear (ranAs end states)
+    settle-grounds t = cond-no {b = grounded states} _ _ (sym (sym t ∙ e ∙ ground-is)) ∙ done
 
--- in the case of the run's end
-pub settle-as : (bodies scratch : List Float) {after : List Float} {outcome : Answer} (states : List BodyState) (r : Finish) {q : Finish} → r ≡ q
-    → (nonlinear linear : ℕ)
-    → record {
-      outcome =
-          outcome;
-      nonlinear = nonlinear;
-      linear = linear;
-      bodies = after;
-      scratch = scratch;
-    } ≡ settled bodies scratch (endedAs q nonlinear linear
-    states)
-    → record {
-      outcome =
-          outcome;
-      nonlinear = nonlinear;
-      linear = linear;
-      bodies = after;
-      scratch = scratch;
-    } ≡ settled bodies scratch (endedAs r nonlinear linear
-    states)
-settle-as bodies scratch {after} {outcome} states r h nonlinear linear e =
-    e ∙ ap (λ (x : Finish). settled bodies scratch (endedAs x nonlinear linear states)) (sym h)
+-- in the case that it failed
+pub settle-fails : (bodies scratch : List Float) (states : List BodyState) {end q : End} → end ≡ q → (nonlinear linear : ℕ)
+    → settledAs bodies scratch nonlinear linear (ranAs q states) ≡ settledAs bodies scratch nonlinear linear (ranAs end states)
+settle-fails bodies scratch states e nonlinear linear = ap (λ (x : End). settledAs bodies scratch nonlinear linear (ranAs x states)) (sym e)
 
 -- the scratch of a run, cleared
-pub all-zero : {s t : List Float} → length s ≡ 6144 → Filled 0 6144 (λ _. ratio 0 1) s t → t ≡ replicate 6144 (ratio 0 1)
+pub all-zero : {s t : List Float} → length s ≡ SCRATCH → Filled 0 SCRATCH (λ _. ratio 0 1) s t → t ≡ replicate SCRATCH (ratio 0 1)
 all-zero {s} {t} e f =
-    ext-getD nan t (replicate 6144 (ratio 0 1)) (f .kept .size ∙ e ∙ sym (length-replicate 6144 (ratio 0 1)))
-    (λ k h. ap (at t) (let z : k ≡ 0 + k = omega arith in z) ∙ f .there k (inside k h) ∙ sym (getD-replicate 6144 k (ratio 0 1) nan (inside k h)))
+    ext-getD nan t (replicate SCRATCH (ratio 0 1)) (f .kept .size ∙ e ∙ sym (length-replicate SCRATCH (ratio 0 1)))
+    (λ k h. ap (at t) (let z : k ≡ 0 + k = omega arith in z) ∙ f .there k (inside k h) ∙ sym (getD-replicate SCRATCH k (ratio 0 1) nan (inside k h)))
   where
-    inside : (k : ℕ) → k < length t → k < 6144
+    inside : (k : ℕ) → k < length t → k < SCRATCH
     inside k h = omega (arith, f .kept .size)
 
 -- ---- solve_in
-module _ (bodies : List Float) (joints : List Joint) (count : ℕ) (dt : Float) (n : ℕ) {P : ℕ → Type 0} (s t u : List Float) (r : Progress)
-    (d : Does P s t (progressAs r (statesAt t n)) (runOf (recordsOf bodies) joints count dt)) {outcome : Answer} {after : List Float}
-    (e : (nonlinear linear : ℕ) (scratch : List Float)
-    → record { outcome = outcome; nonlinear = nonlinear; linear = linear; bodies = after; scratch = scratch } ≡ settled bodies scratch
-    (endedAs (r .finish) nonlinear linear (statesAt t n))) where
-  pub solved-in : u ≡ replicate 6144 (ratio 0 1)
-      → record {
-        outcome =
-            outcome;
-        nonlinear = r .nonlinear;
-        linear = r .linear;
-        bodies = after;
-        scratch = u;
-      } ≡ settled bodies (replicate 6144 (ratio 0 1)) (runOf
-      (recordsOf bodies) joints count dt)
-  solved-in z =
-      ap (λ (x : List Float). record { outcome = outcome; nonlinear = r .nonlinear; linear = r .linear; bodies = after; scratch = x }) z
-      ∙ e (r .nonlinear) (r .linear) (replicate 6144 (ratio 0 1)) ∙ ap (settled bodies (replicate 6144 (ratio 0 1))) (d .is)
+pub solved-in : (bodies : List Float) (run : Counting (List BodyState)) {P : ℕ → Type 0} {s t u : List Float} (r : Ran) (states : List BodyState)
+    → Does P s t (leftAs r states) run → {outcome : Outcome} {after : List Float}
+    → ((nonlinear linear : ℕ) (scratch : List Float) → stepped outcome nonlinear linear after scratch ≡ settledAs bodies scratch nonlinear linear (ranAs (r .end) states))
+    → u ≡ replicate SCRATCH (ratio 0 1)
+    → stepped outcome (r .nonlinear) (r .linear) after u ≡ settled bodies (replicate SCRATCH (ratio 0 1)) run
+solved-in bodies run r states d {outcome} {after} e z =
+    ap (stepped outcome (r .nonlinear) (r .linear) after) z ∙ e (r .nonlinear) (r .linear) (replicate SCRATCH (ratio 0 1))
+    ∙ ap (settled bodies (replicate SCRATCH (ratio 0 1))) (d .is)
 
 -- the step's scratch is the run's, with what stands behind it
-pub solved-scratch : (bodies scratch : List Float) (end : RunEnd) {outcome : Answer} {nonlinear linear : ℕ} {after work : List Float}
-    → record {
-      outcome =
-          outcome;
-      nonlinear = nonlinear;
-      linear = linear;
-      bodies = after;
-      scratch = work;
-    } ≡ settled bodies (replicate 6144 (ratio 0 1)) end
-    → record {
-      outcome =
-          outcome;
-      nonlinear = nonlinear;
-      linear = linear;
-      bodies = after;
-      scratch = work ++ drop 6144 scratch;
-    } ≡ settled bodies (cleared scratch) end
+pub solved-scratch : (bodies scratch : List Float) (run : Counting (List BodyState)) {outcome : Outcome} {nonlinear linear : ℕ} {after work : List Float}
+    → stepped outcome nonlinear linear after work ≡ settled bodies (replicate SCRATCH (ratio 0 1)) run
+    → stepped outcome nonlinear linear after (work ++ drop SCRATCH scratch) ≡ settled bodies (cleared scratch) run
 unfolding cleared
-solved-scratch bodies scratch end e = ap behind e ∙ moved end
+solved-scratch bodies scratch run e = ap behind e ∙ moved (run .ends)
   where
     behind : Stepped → Stepped
-    behind x =
-        record { outcome = x .outcome; nonlinear = x .nonlinear; linear = x .linear; bodies = x .bodies; scratch = x .scratch ++ drop 6144 scratch }
+    behind x = stepped (x .outcome) (x .nonlinear) (x .linear) (x .bodies) (x .scratch ++ drop SCRATCH scratch)
 
     one : (b : Bool) (x y : Stepped) → behind (cond b x y) ≡ cond b (behind x) (behind y)
     one true x y = refl
     one false x y = refl
 
-    moved : (end : RunEnd)
-        → behind (settled bodies (replicate 6144 (ratio 0 1)) end) ≡ settled bodies (replicate 6144 (ratio 0 1) ++ drop 6144 scratch) end
+    moved : (ends : Result (List BodyState)) → behind (settledAs bodies (replicate SCRATCH (ratio 0 1)) (run .nonlinear) (run .linear) ends)
+        ≡ settledAs bodies (replicate SCRATCH (ratio 0 1) ++ drop SCRATCH scratch) (run .nonlinear) (run .linear) ends
     moved (stop x) = refl
-    moved (go x) = one (grounded (x .answer)) _ _
+    moved (go x) = one (grounded x) _ _

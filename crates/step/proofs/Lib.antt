@@ -7,8 +7,9 @@ pub mod MotionLaws
 pub mod FrameLaws
 pub mod EachLaws
 pub mod TableLaws
-pub mod SolveLaws
 pub mod RowLaws
 pub mod VelocityLaws
 pub mod LoopLaws
+pub mod NonlinearLaws
+pub mod CountLaws
 pub mod FinishLaws

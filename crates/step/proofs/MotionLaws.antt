@@ -12,7 +12,7 @@ use Rattle.rows.specs.Laws.Results.{step, go-same}
 use Rattle.solves.specs.declared.places.Generalized.{Generalized}
 use Rattle.step.specs.View.{colsOf, heldOf, movedTo}
 use Rattle.step.specs.ViewLaws.{held-cols, inverse-cols, moved-is}
-use Rattle.step.specs.Step.{kickAndDrift}
+use Rattle.step.specs.Bodies.{kickAndDrift}
 
 record SameMass (a b : MomentumBody) : Type 0 where
   pub mass-is : b .mass ≡ a .mass

@@ -1,77 +1,107 @@
--- The step's two loops: from what one turn answers to how the loop is left. `e` is a turn's contract, `h` the case of its answer.
+-- The passes of the step's two loops and the loops themselves: links of a Run from the calls' contracts, and one law for both loops by `Reached`.
 use Prim.Native.Nat.{ℕ, _+_, _≤_, _<_}
-use mathlib.Core.Path.{_≡_, sym, _∙_, ap, subst}
+use mathlib.Core.Path.{_≡_, refl, sym, _∙_, ap}
+use mathlib.Core.Bool.{Bool, true, false, not}
 use mathlib.Core.List.{List}
+use native.Mathlib.Omega.{arith}
+use native.Mathlib.Nat.{zero-add}
 use lib.Ieee.{Float}
-use Rattle.arith.specs.Flow.{Turn, go, stop, loop}
-use Rattle.arith.specs.FlowLaws.{loop-none, loop-more, loop-stop, loop-end}
-use Rattle.rows.specs.declared.body.Finish.the-variants as Ends
-use Rattle.rows.specs.declared.body.BodyState.{BodyState}
-use Rattle.rows.specs.Fault.{Fault, Result}
+use Rattle.arith.specs.Flow.{Turn, go, stop}
+use Rattle.arith.specs.Run.{ran, after, over, try, begin, again, _>>=_, upTo}
+use Rattle.arith.specs.RunLaws.{run-is, then-go, then-stop, try-go, try-stop, Reached, reached-none, reached-again, reached-over, reached-spent}
+use Rattle.rows.specs.Fault.{nonConvergent, Result}
+use Rattle.rows.specs.View.{Kept}
+use Rattle.rows.specs.Region.{kept-refl, kept-then}
+use Rattle.solves.specs.declared.End.{End}
+use Rattle.solves.specs.declared.Ended.{Ended}
+use Rattle.solves.specs.declared.Pass.{Pass}
+use Rattle.solves.specs.declared.Pass.the-variants as Passes
 use Rattle.solves.specs.Region.{Does}
-use Rattle.step.specs.declared.passes.PassEnd.{PassEnd}
-use Rattle.step.specs.declared.passes.PassEnd.the-variants as Passes
+use Rattle.solves.specs.System.{Counting}
+use Rattle.solves.specs.Answer.{ranAs, passAs, isDone, endedAs}
+use Rattle.solves.specs.DoesLaws.{ran-done, fails, fails-over}
+use Rattle.arith.specs.FlowLaws.{not-no}
 use Rattle.step.specs.declared.passes.Passed.{Passed}
-use Rattle.step.specs.declared.passes.Looped.{Looped}
-use Rattle.step.specs.declared.integrator.Progress.{Progress}
-use Rattle.step.specs.Step.{Counted, Took, Left, summed, leftAfter, summedTurn, passesOf}
-use Rattle.step.specs.RunView.{endAs, passAs, loopedAs, progressAs}
+use Rattle.step.specs.declared.passes.Ran.{Ran}
+use Rattle.step.specs.RunView.{passedAs, leftAs, correction}
 
--- what stands before turn k: a, and the linear passes so far
-abbrev pub Reached : {A B : Type 0} → (A → Turn (Took A) (Took (Result B))) → A → ℕ → A → ℕ → Type 0
-Reached {A} {B} pass a₀ k a passes =
-    go (record { answer = a; passes = passes }) ≡ loop {A = Took A} {E = Left B} k (summedTurn pass) (record { answer = a₀; passes = 0 })
+-- ---- links
+-- a pass counts itself, and then does the rest
+pub begun : {A : Type 0} {t : Result A} {l : ℕ} {rest : Counting A} → ran t 0 l ≡ rest → ran t 1 l ≡ (begin >>= λ _. rest)
+unfolding _>>=_
+begun {A} {t} {l} e = run-is refl (sym (zero-add l)) ∙ ap (λ (r : Counting A). begin >>= λ _. r) e
 
-module _ {A B : Type 0} (pass : A → Turn (Took A) (Took (Result B))) (a₀ : A) where
-  pub reached-none : Reached pass a₀ 0 a₀ 0
-  reached-none = loop-none (summedTurn pass) (record { answer = a₀; passes = 0 })
+-- what was not done fails alike, whatever it was to leave
+pub failed-as : {A B : Type 0} (x : A) (y : B) (end : End) {b : Bool} → b ≡ isDone end → not b ≡ true → {R : Result A} → ranAs end x ≡ R → (f : A → Counting B)
+    → ran (ranAs end y) 0 0 ≡ (try R >>= f)
+failed-as x y end eb h e f = ap (λ (t : Result _). ran t 0 0) (fails y end eb h) ∙ try-stop f (sym (fails x end eb h) ∙ e)
 
-  module _ (k : ℕ) {before : ℕ} {a : A} (at : Reached pass a₀ k a before) (r : Passed) (x : A) (b : B) (e : passAs r x b ≡ pass a) where
-    case : {end : PassEnd} → r .end ≡ end → summed k before (endAs end (r .passes) x b) ≡ summedTurn pass k (record { answer = a; passes = before })
-    case h = ap (summed k before) (sym (ap (λ (end : PassEnd). endAs end (r .passes) x b) h) ∙ e)
+-- ---- a correction: `solve` answered r and left x
+module _ {A B : Type 0} {solve : Counting (List Float)} (make : List Float → Result A) (r : Ended) (x : List Float) (e : endedAs r x ≡ solve) (y : B)
+    {b : Bool} (eb : b ≡ isDone (r .end)) where
+  pub unsolved : not b ≡ true → ran (over (ranAs (r .end) y)) 0 (r .linear) ≡ correction {B = B} solve make
+  unsolved h =
+      ap (λ (t : Result (Turn A B)). ran t 0 (r .linear)) (fails-over y (r .end) eb h)
+      ∙ then-stop _ (sym (ap (λ (t : Result (List Float)). ran t 0 (r .linear)) (fails x (r .end) eb h)) ∙ e)
 
-    pub reached-next : r .end ≡ Passes.Next → Reached pass a₀ (k + 1) x (before + r .passes)
-    reached-next h = loop-more (summedTurn pass) (record { answer = a₀; passes = 0 }) at (case h)
+  module _ (h : not b ≡ false) where
+    solved : ran (go x) 0 (r .linear) ≡ solve
+    solved = sym (ap (λ (t : Result (List Float)). ran t 0 (r .linear)) (ran-done x (r .end) (sym eb ∙ not-no b h))) ∙ e
 
-    module _ (most : ℕ) (l : k < most) where
-      left : {answer : Result B}
-          → stop (record { answer = answer; begun = k + 1; passes = before + r .passes }) ≡ summedTurn pass k (record { answer = a; passes = before })
-          → record { answer = answer; begun = k + 1; passes = before + r .passes } ≡ passesOf most pass a₀
-      left q = ap (leftAfter most) (loop-stop (summedTurn pass) (record { answer = a₀; passes = 0 }) most l at q)
+    onto : {t : Result (Turn A B)} → ran t 0 0 ≡ (try (make x) >>= λ next. again next) → ran t 0 (r .linear) ≡ correction {B = B} solve make
+    onto {t} q =
+        run-is refl (let z : r .linear ≡ r .linear + 0 = omega arith in z) ∙ ap (after 0 (r .linear)) q
+        ∙ then-go (λ solution. try (make solution) >>= λ next. again next) solved
 
-      pub left-met : r .end ≡ Passes.Met
-          → loopedAs (record { finish = Ends.Done; begun = k + 1; passes = before + r .passes }) b ≡ passesOf most pass a₀
-      left-met h = left (case h)
+    pub corrected : {a : A} → go a ≡ make x → ran (go (go a)) 0 (r .linear) ≡ correction {B = B} solve make
+    corrected q = onto (try-go (λ next. again next) q)
 
-      pub left-nonconvergent : r .end ≡ Passes.NonConvergent
-          → loopedAs (record { finish = Ends.NonConvergent; begun = k + 1; passes = before + r .passes }) b ≡ passesOf most pass a₀
-      left-nonconvergent h = left (case h)
+    pub not-made : (a : A) (end : End) {c : Bool} → c ≡ isDone end → not c ≡ true → ranAs end a ≡ make x
+        → ran (over (ranAs end y)) 0 (r .linear) ≡ correction {B = B} solve make
+    not-made a end ec g q =
+        ap (λ (t : Result (Turn A B)). ran t 0 (r .linear)) (fails-over y end ec g)
+        ∙ onto (try-stop (λ next. again next) (sym (fails a end ec g) ∙ q))
 
-      pub left-overflow : r .end ≡ Passes.ArithmeticOverflow
-          → loopedAs (record { finish = Ends.ArithmeticOverflow; begun = k + 1; passes = before + r .passes }) b ≡ passesOf most pass a₀
-      left-overflow h = left (case h)
+-- ---- an answer that was put together
+module _ {A B : Type 0} {P : ℕ → Type 0} {s t : List Float} where
+  pub passed-is : (n : ℕ) (view : List Float → A) (found : List Float → B) {r q : Passed} {d : Counting (Turn A B)} → r ≡ q
+      → Does P s t (passedAs n q (view t) (found t)) d → Does P s t (passedAs n r (view t) (found t)) d
+  passed-is n view found e f = record { kept = f .kept; is = ap (λ (r : Passed). passedAs n r (view t) (found t)) e ∙ f .is }
 
-  -- all turns were taken
-  pub left-spent : (most k : ℕ) {passes : ℕ} {a : A} (b : B) → Reached pass a₀ k a passes → k ≤ most → most ≤ k
-      → loopedAs (record { finish = Ends.NonConvergent; begun = most; passes = passes }) b ≡ passesOf most pass a₀
-  left-spent most k b at h g = ap (leftAfter most) (loop-end (summedTurn pass) (record { answer = a₀; passes = 0 }) h g at)
+module _ {A : Type 0} {P : ℕ → Type 0} {s t : List Float} where
+  pub ended-is : (found : List Float → A) {r q : Ended} {d : Counting A} → r ≡ q → Does P s t (endedAs q (found t)) d → Does P s t (endedAs r (found t)) d
+  ended-is found e f = record { kept = f .kept; is = ap (λ (r : Ended). endedAs r (found t)) e ∙ f .is }
 
--- ---- an answer that was made of its parts
-module _ {A B : Type 0} (x : List Float → A) (y : List Float → B) where
-  pub passed-is : {P : ℕ → Type 0} {s t : List Float} {d : Turn (Took A) (Took (Result B))} {m : ℕ} {r q : Passed} → r ≡ q
-      → (Does P s t (passAs q (x t) (y t)) d) × (q .passes ≤ m) → (Does P s t (passAs r (x t) (y t)) d) × (r .passes ≤ m)
-  passed-is {P} {s} {t} {d} {m} e h = subst (λ (z : Passed). (Does P s t (passAs z (x t) (y t)) d) × (z .passes ≤ m)) (sym e) h
+  pub left-is : (found : List Float → A) {r q : Ran} {d : Counting A} → r ≡ q → Does P s t (leftAs q (found t)) d → Does P s t (leftAs r (found t)) d
+  left-is found e f = record { kept = f .kept; is = ap (λ (r : Ran). leftAs r (found t)) e ∙ f .is }
 
-pub looped-is : {B : Type 0} (y : List Float → B) {P : ℕ → Type 0} {s t : List Float} {d : Left B} {r q : Looped} → r ≡ q
-    → Does P s t (loopedAs q (y t)) d → Does P s t (loopedAs r (y t)) d
-looped-is y {P} {s} {t} {d} e h = subst (λ (z : Looped). Does P s t (loopedAs z (y t)) d) (sym e) h
+-- ---- both loops: each turn takes one pass over what stands in the scratch, and leaves its frame
+module _ {A B : Type 0} (most : ℕ) (P : ℕ → Type 0) (pass : List Float → A → Counting (Turn A B)) (view : List Float → A) (s₀ : List Float) where
+  -- what stands before turn k, after n nonlinear and l linear passes
+  pub record Looping (s : List Float) (k n l : ℕ) : Type 0 where
+    pub kept : Kept P s₀ s
+    pub reached : Reached most nonConvergent (pass s₀) (view s₀) k (view s) n l
 
-pub begun-is : {m : ℕ} {r q : Looped} → r ≡ q → q .begun ≤ m → r .begun ≤ m
-begun-is {m} e h = subst (λ (z : Looped). z .begun ≤ m) (sym e) h
+  pub loop-none : Looping s₀ 0 0 0
+  loop-none = record { kept = kept-refl P s₀; reached = reached-none most nonConvergent (pass s₀) (view s₀) }
 
-pub passes-is : {m : ℕ} {r q : Looped} → r ≡ q → q .passes ≤ m → r .passes ≤ m
-passes-is {m} e h = subst (λ (z : Looped). z .passes ≤ m) (sym e) h
+  pub loop-spent : {s : List Float} {k n m l : ℕ} → Looping s k n l → most ≤ k → m ≡ n
+      → Does P s₀ s (ran (stop nonConvergent) m l) (upTo most nonConvergent (pass s₀) (view s₀))
+  loop-spent inv h e = record { kept = inv .kept; is = run-is e refl ∙ reached-spent most nonConvergent (pass s₀) (view s₀) (inv .reached) h }
 
-pub progress-is : (y : List Float → List BodyState) {P : ℕ → Type 0} {s t : List Float} {d : Turn (Counted (List BodyState)) (Counted Fault)} {r q : Progress}
-    → r ≡ q → Does P s t (progressAs q (y t)) d → Does P s t (progressAs r (y t)) d
-progress-is y {P} {s} {t} {d} e h = subst (λ (z : Progress). Does P s t (progressAs z (y t)) d) (sym e) h
+  module _ (found : List Float → B) (same : (s : List Float) → Kept P s₀ s → pass s ≡ pass s₀) {s t : List Float} {k n l m : ℕ} (inv : Looping s k n l)
+      (r : Passed) (d : Does P s t (passedAs m r (view t) (found t)) (pass s (view s))) (h : k < most) where
+    keeps : Kept P s₀ t
+    keeps = kept-then (inv .kept) (d .kept) (λ i x. x)
+
+    case : {q : Pass} → r .pass ≡ q → ran (passAs q (view t) (found t)) m (r .linear) ≡ pass s₀ (view s)
+    case e =
+        sym (ap (λ (q : Pass). ran (passAs q (view t) (found t)) m (r .linear)) e) ∙ d .is
+        ∙ ap (λ (f : A → Counting (Turn A B)). f (view s)) (same s (inv .kept))
+
+    pub loop-again : r .pass ≡ Passes.Again → Looping t (k + 1) (n + m) (l + r .linear)
+    loop-again e = record { kept = keeps; reached = reached-again most nonConvergent (pass s₀) (view s₀) (inv .reached) h (case e) }
+
+    pub loop-over : {end : End} → r .pass ≡ Passes.Over end
+        → Does P s₀ t (ran (ranAs end (found t)) (n + m) (l + r .linear)) (upTo most nonConvergent (pass s₀) (view s₀))
+    loop-over {end} e = record { kept = keeps; is = reached-over most nonConvergent (pass s₀) (view s₀) (inv .reached) h (ranAs end (found t)) (case e) }

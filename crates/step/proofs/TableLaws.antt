@@ -35,17 +35,16 @@ use Rattle.solves.specs.declared.places.MassResponse.{MassResponse}
 use Rattle.solves.specs.Region.{vecAt, Filled, Does}
 use Rattle.solves.specs.RegionLaws.{vec-at, filled-vec, filled-more}
 use Rattle.solves.specs.Solver.{noRow, rowIn, generalizedIn, tryNumber}
-use Rattle.solves.specs.declared.Outcome.{Outcome}
-use Rattle.solves.specs.declared.Outcome.the-variants as Outcomes
-use Rattle.solves.specs.Answer.{ranAs}
-use Rattle.solves.specs.DoesLaws.{number-yes, number-no, ran-done, ran-over}
-use Rattle.solves.specs.View.{ROWS, MASSES, IMPULSES, RHS, SOLUTION, GENERALIZED, START, CANDIDATE, rowOn, rowsOn, generalizedAt, generalizedsAt, massOf, massAt, massesAt}
+use Rattle.solves.specs.DoesLaws.{number-yes, number-no}
+use Rattle.solves.specs.Layout.{MASS-TABLE}
+use Rattle.solves.specs.View.{ROWS, MASSES, RHS, SOLUTION, GENERALIZED, rowOn, rowsOn, generalizedAt, generalizedsAt, massOf, massAt, massesAt}
+use Rattle.step.specs.Layout.{IMPULSES, START, CANDIDATE}
 use Rattle.solves.specs.ViewLaws.{share-in, masses-more}
 use Rattle.step.specs.declared.integrator.MassAnswer.{MassAnswer}
 use Rattle.step.specs.Records.{recordAt, recordsOf, bodyCount, stateAt}
 use Rattle.step.specs.View.{colsOf, startBodyAt, candidateAt, startBodiesAt, candidatesAt, statesAt, heldOf, movedTo}
 use Rattle.step.specs.ViewLaws.{kept-start, kept-candidate, kept-state}
-use Rattle.step.specs.Step.{noRecord, bodyIn, recordIn, startBodies, massResponse, prepareMasses, kickAndDrift, moveBodies, rowsMet, rhsOf, addImpulses, statesOf}
+use Rattle.step.specs.Bodies.{noRecord, bodyIn, recordIn, startBodies, massResponse, prepareMasses, kickAndDrift, moveBodies, rowsMet, rhsOf, addImpulses, statesOf}
 use Rattle.step.specs.RunView.{bodiesAt, massAs}
 use Rattle.step.proofs.FrameLaws.{candidate-in, start-in, body-in}
 use Rattle.step.proofs.EachLaws.{so-none, so-more, so-put, so-stop, so-end}
@@ -151,20 +150,18 @@ module _ (moved : Bool) (n : ℕ) (s₀ : List Float) where
     weigh-turn : massResponse body ≡ weigh k
     weigh-turn = ap massResponse (body-in (so .kept) (λ i a b. omega arith) (λ i a b. omega arith) moved n k h l eb)
 
-    pub weigh-again : {t : List Float} (r : Outcome) → r ≡ Outcomes.Done
-        → Does (λ j. Out (MASSES + 10 * k) 10 j) s t (ranAs r (massAt t MASSES k)) (massResponse body) → Weighed (k + 1) t
-    weigh-again {t} r q d = record {
+    pub weigh-again : {t : List Float} → Does (λ j. Out (MASSES + 10 * k) 10 j) s t (go (massAt t MASSES k)) (massResponse body) → Weighed (k + 1) t
+    weigh-again {t} d = record {
       kept = kept-then (kept-more (so .kept) (λ i x. omega arith)) (d .kept) (λ i x. omega arith);
-      is = ap go (masses-more MASSES k (d .kept, refl)) ∙ each-more weigh (so .is) (ran-done (massAt t MASSES k) d q ∙ weigh-turn);
+      is = ap go (masses-more MASSES k (d .kept, refl)) ∙ each-more weigh (so .is) (d .is ∙ weigh-turn);
     }
 
-    pub weigh-stops : {t : List Float} (r : Outcome) → r ≡ Outcomes.ArithmeticOverflow
-        → Does (λ j. Out (MASSES + 10 * k) 10 j) s t (ranAs r (massAt t MASSES k)) (massResponse body)
-        → Does (λ i. Out MASSES 160 i) s₀ t (stop arithmeticOverflow) (prepareMasses (bodiesAt moved s₀ n))
+    pub weigh-stops : {t : List Float} {f : Fault} → Does (λ j. Out (MASSES + 10 * k) 10 j) s t (stop f) (massResponse body)
+        → Does (λ i. Out MASSES MASS-TABLE i) s₀ t (stop f) (prepareMasses (bodiesAt moved s₀ n))
     unfolding prepareMasses
-    weigh-stops {t} r q d =
-        so-stop (λ s k. massAt s MASSES k) weigh s₀ k s so (λ i. Out MASSES 160 i) (λ i x. omega arith) (bodies-length moved s₀ n) h (d .kept)
-        (λ i x. omega arith) (ran-over (massAt t MASSES k) d q ∙ weigh-turn)
+    weigh-stops {t} d =
+        so-stop (λ s k. massAt s MASSES k) weigh s₀ k s so (λ i. Out MASSES MASS-TABLE i) (λ i x. omega arith) (bodies-length moved s₀ n) h (d .kept)
+        (λ i x. omega arith) (d .is ∙ weigh-turn)
 
   pub weigh-ends : (k : ℕ) (s : List Float) → Weighed k s → k ≤ n → n ≤ k → n ≤ 16
       → Does (λ i. Out MASSES 160 i) s₀ s (go (massesAt s MASSES n)) (prepareMasses (bodiesAt moved s₀ n))

@@ -1,7 +1,7 @@
 -- The velocity loop: from reads of the scratch and the calls' contracts to the definitions over lists.
-use Prim.Native.Nat.{ℕ, _+_, _*_, _^_, _≤_, _<_}
+use Prim.Native.Nat.{ℕ, _+_, _*_, _^_, _-_, _≤_, _<_}
 use mathlib.Core.Path.{_≡_, refl, sym, _∙_, ap, subst}
-use mathlib.Core.Bool.{Bool, true, false}
+use mathlib.Core.Bool.{Bool, true, false, not}
 use mathlib.Core.List.{List}
 use native.Mathlib.Omega.{arith}
 use lib.ListN.{length, set}
@@ -9,46 +9,44 @@ use lib.Ieee as Ieee
 use lib.Ieee.{Float, ofBits, round}
 use Rattle.arith.specs.Real.{F, ratio, isFinite, absOf, _⊕_}
 use Rattle.arith.specs.Flow.{Turn, go, stop, _>>=_, each, every}
-use Rattle.arith.specs.FlowLaws.{then-go, then-stop, every-fail, every-end}
+use Rattle.arith.specs.FlowLaws.{not-no, then-go, then-stop, every-fail, every-end}
+use Rattle.arith.specs.Run.{ran, over, leave, upTo}
+use Rattle.arith.specs.RunLaws.{try-go, try-stop, leave-yes, leave-no}
 use Rattle.vectors.specs.declared.vector.Vec3.{Vec3}
 use Rattle.vectors.specs.declared.vector.OptionVec3.{OptionVec3}
 use Rattle.vectors.specs.declared.vector.OptionVec3.the-variants.{Some, None}
 use Rattle.vectors.specs.Vector.{dotOf, divOf}
-use Rattle.rows.specs.declared.body.Finish.{Finish}
-use Rattle.rows.specs.declared.body.Finish.the-variants as Ends
 use Rattle.rows.specs.declared.body.MomentumBody.{MomentumBody}
 use Rattle.rows.specs.declared.geometry.EqualityRow.{EqualityRow}
 use Rattle.rows.specs.Fault.{Fault, nonConvergent, arithmeticOverflow, Result, vectorOr}
 use Rattle.rows.specs.Body.{omegaOf, kickOf}
 use Rattle.rows.specs.View.{at, Out, Kept}
 use Rattle.rows.specs.Region.{tab-length, kept-refl, kept-set, kept-then, kept-more}
-use Rattle.rows.specs.Answer.{finishAs}
 use Rattle.rows.specs.AnswerLaws.{vector-go, vector-stop}
 use Rattle.solves.specs.declared.places.Generalized.{Generalized}
-use Rattle.solves.specs.declared.Outcome.{Outcome}
-use Rattle.solves.specs.declared.Outcome.the-variants as Outcomes
-use Rattle.solves.specs.declared.End.the-variants as Solved
-use Rattle.solves.specs.declared.Ended.{Ended}
 use Rattle.solves.specs.Solver.{rowIn, generalizedIn, transpose}
-use Rattle.solves.specs.Path.{linearSolve}
-use Rattle.solves.specs.Answer.{ranAs, Solves}
+use Rattle.solves.specs.declared.End.{End}
+use Rattle.solves.specs.declared.Ended.{Ended}
+use Rattle.solves.specs.declared.Table.{Table}
+use Rattle.solves.specs.System.{Counting}
+use Rattle.solves.specs.Search.{linearSolve}
+use Rattle.solves.specs.Answer.{ranAs, isDone, endedAs}
 use Rattle.solves.specs.Region.{vecAt, Does}
+use Rattle.solves.specs.View.{RHS, SOLUTION, GENERALIZED, Rows, Shares, Work, Beside, rowOn, rowsOn, generalizedAt, generalizedsAt, sharesIn, systemOn}
+use Rattle.solves.specs.ViewLaws.{row-in, share-in, system-kept}
+use Rattle.solves.specs.DoesLaws.{number-yes, number-no, ran-done, went, failed, fails-over, does-stop, does-then, does-eq}
+use Rattle.step.specs.Layout.{IMPULSES, CANDIDATE, STATES}
+use Rattle.step.specs.Bodies.{bodyIn, velocityOf, velocityRhs, compatibleOf, kickBodies, reactionOf}
+use Rattle.step.specs.Step.{velocityPass, velocityLoop}
+use Rattle.step.specs.RunView.{Moves, MotionAt, Remembers, Correcting, correction}
 use Rattle.solves.specs.RegionLaws.{vec-at}
-use Rattle.solves.specs.View.{ROWS, MASSES, RHS, SOLUTION, GENERALIZED, CANDIDATE, Rows, Shares, rowOn, rowsOn, generalizedAt, generalizedsAt, massesAt}
-use Rattle.solves.specs.ViewLaws.{kept-rows, kept-masses, row-in, share-in}
-use Rattle.solves.specs.DoesLaws.{number-yes, number-no, goes-on, returns-if, ran-done, ran-over, does-stop, does-then}
-use Rattle.step.specs.declared.passes.PassEnd.the-variants as Passes
-use Rattle.step.specs.declared.passes.Passed.{Passed}
 use Rattle.step.specs.View.{startBodyAt, candidateAt, candidatesAt, movedTo}
 use Rattle.step.specs.ViewLaws.{kept-candidate, kept-candidates}
-use Rattle.step.specs.Step.{bodyIn, Took, taking, velocityOf, velocityRhs, compatibleOf, kickBodies, reactionOf, velocitiesBy, velocityPass, velocityLoop}
 use Rattle.step.specs.declared.velocity.Motion.{Motion}
-use Rattle.step.specs.RunView.{Moves, MotionAt, Remembers, Correcting, passAs, loopedAs}
 use Rattle.step.proofs.FrameLaws.{candidate-in}
 use Rattle.step.proofs.EachLaws.{so-none, so-more, so-put, so-stop, so-end}
 use Rattle.step.proofs.MotionLaws.{kick-moved}
-use Rattle.step.proofs.PassLaws.{Reached, reached-none, reached-next, left-met, left-nonconvergent, left-overflow, left-spent}
-use Rattle.step.proofs.SolveLaws.{finish-case, turn-nonconvergent, turn-overflow, turn-next, turn-stops, not-declined}
+use Rattle.step.proofs.PassLaws.{unsolved, corrected, not-made}
 
 -- velocity: the rate of a row from the motions of its bodies
 module _ (row : EqualityRow) (x y : MomentumBody) {a b : Motion} (ma : Moves x a) (mb : Moves y b) where
@@ -104,37 +102,37 @@ motion-remembered {s} {j} {m} k v l known = record { moves = λ h. subst (λ (bo
     same h = kept-candidate (kept-set s (RHS + k) v) (m .body) (λ i p q. omega arith) (λ i p q. omega arith)
 
 -- velocity_rhs
-module _ (ia ib : List ℕ) (n bodies : ℕ) (s₀ : List Float) where
+module _ (ia ib : List ℕ) (place n bodies : ℕ) (s₀ : List Float) where
   abbrev oppose : ℕ → Result Float
   oppose k =
-      velocityOf (rowIn (rowsOn ia ib s₀ ROWS n) k) (bodyIn (candidatesAt s₀ bodies) (rowIn (rowsOn ia ib s₀ ROWS n) k .a))
-      (bodyIn (candidatesAt s₀ bodies) (rowIn (rowsOn ia ib s₀ ROWS n) k .b)) >>= λ (value : Float). go (Ieee.neg value)
+      velocityOf (rowIn (rowsOn ia ib s₀ place n) k) (bodyIn (candidatesAt s₀ bodies) (rowIn (rowsOn ia ib s₀ place n) k .a))
+      (bodyIn (candidatesAt s₀ bodies) (rowIn (rowsOn ia ib s₀ place n) k .b)) >>= λ (value : Float). go (Ieee.neg value)
 
   abbrev pub Opposed : ℕ → List Float → Type 0
-  Opposed k s = Does (λ i. Out RHS 96 i) s₀ s (go (vecAt s RHS k)) (each k oppose)
+  Opposed k s = Does (Beside RHS) s₀ s (go (vecAt s RHS k)) (each k oppose)
 
-module _ {s₀ : List Float} {ia ib : List ℕ} {n bodies : ℕ} (pre : Rows s₀ ia ib ROWS n bodies) where
+module _ {s₀ : List Float} {ia ib : List ℕ} {place n bodies : ℕ} (pre : Rows s₀ ia ib place n bodies) where
   abbrev R : List EqualityRow
-  R = rowsOn ia ib s₀ ROWS n
+  R = rowsOn ia ib s₀ place n
 
   abbrev C : List MomentumBody
   C = candidatesAt s₀ bodies
 
-  pub rhs-none : Opposed ia ib n bodies s₀ 0 s₀
-  rhs-none = so-none (λ s k. at s (RHS + k)) (oppose ia ib n bodies s₀) s₀ _
+  pub rhs-none : Opposed ia ib place n bodies s₀ 0 s₀
+  rhs-none = so-none (λ s k. at s (RHS + k)) (oppose ia ib place n bodies s₀) s₀ _
 
   -- a loaded row is on bodies of the list
-  module _ {k : ℕ} (h : k < n) (s : List Float) {row : EqualityRow} (er : row ≡ rowOn ia ib s ROWS k) where
+  module _ {k : ℕ} (h : k < n) (s : List Float) {row : EqualityRow} (er : row ≡ rowOn ia ib s place k) where
     pub row-a : row .a < bodies
     row-a = subst (λ (q : EqualityRow). q .a < bodies) (sym er) (pre .a-there k h)
 
     pub row-b : row .b < bodies
     row-b = subst (λ (q : EqualityRow). q .b < bodies) (sym er) (pre .b-there k h)
 
-  module _ {k : ℕ} {s : List Float} {row : EqualityRow} (so : Opposed ia ib n bodies s₀ k s) (h : k < n) (er : row ≡ rowOn ia ib s ROWS k) where
+  module _ {k : ℕ} {s : List Float} {row : EqualityRow} (so : Opposed ia ib place n bodies s₀ k s) (h : k < n) (er : row ≡ rowOn ia ib s place k) where
     rhs-turn : velocityOf row (candidateAt s (row .a)) (candidateAt s (row .b)) ≡ velocityOf (rowIn R k) (bodyIn C (rowIn R k .a)) (bodyIn C (rowIn R k .b))
     rhs-turn =
-        let x : row ≡ rowIn R k = row-in (so .kept) ia ib ROWS n k (λ i p q. omega (arith, pre .most)) h er in
+        let x : row ≡ rowIn R k = row-in (so .kept) ia ib place n k (λ i p q. omega (arith, pre .most, pre .table)) h er in
         let la : row .a < bodies = row-a h s er in
         let lb : row .b < bodies = row-b h s er in
         let most : bodies ≤ 16 = pre .bodies in
@@ -143,24 +141,24 @@ module _ {s₀ : List Float} {ia ib : List ℕ} {n bodies : ℕ} (pre : Rows s�
         cc
 
     pub rhs-again : {v : Float} → go v ≡ velocityOf row (candidateAt s (row .a)) (candidateAt s (row .b))
-        → Opposed ia ib n bodies s₀ (k + 1) (set s (RHS + k) (Ieee.neg v))
+        → Opposed ia ib place n bodies s₀ (k + 1) (set s (RHS + k) (Ieee.neg v))
     rhs-again {v} e =
-        so-put RHS (oppose ia ib n bodies s₀) s₀ k s so (λ i. Out RHS 96 i) (λ i x. x) (Ieee.neg v) (λ i x. omega (arith, pre .most))
+        so-put RHS (oppose ia ib place n bodies s₀) s₀ k s so (Beside RHS) (λ i x. x) (Ieee.neg v) (λ i x. omega (arith, pre .most))
         (omega (arith, pre .most, pre .whole, so .kept .size)) (then-go _ (e ∙ rhs-turn))
 
     pub rhs-stops : stop arithmeticOverflow ≡ velocityOf row (candidateAt s (row .a)) (candidateAt s (row .b))
-        → Does (λ i. Out RHS 96 i) s₀ s (stop arithmeticOverflow) (velocityRhs R C)
+        → Does (Beside RHS) s₀ s (stop arithmeticOverflow) (velocityRhs R C)
     unfolding velocityRhs
     rhs-stops e =
-        so-stop (λ s k. at s (RHS + k)) (oppose ia ib n bodies s₀) s₀ k s so (λ i. Out RHS 96 i) (λ i x. x) (sym (tab-length n (rowOn ia ib s₀ ROWS)))
+        so-stop (λ s k. at s (RHS + k)) (oppose ia ib place n bodies s₀) s₀ k s so (Beside RHS) (λ i x. x) (sym (tab-length n (rowOn ia ib s₀ place)))
         h
-        (kept-refl (λ i. Out RHS 96 i) s) (λ i x. x) (then-stop _ (e ∙ rhs-turn))
+        (kept-refl (Beside RHS) s) (λ i x. x) (then-stop _ (e ∙ rhs-turn))
 
-  pub rhs-ends : {k : ℕ} {s : List Float} → Opposed ia ib n bodies s₀ k s → k ≤ n → n ≤ k
-      → Does (λ i. Out RHS 96 i) s₀ s (go (vecAt s RHS n)) (velocityRhs R C)
+  pub rhs-ends : {k : ℕ} {s : List Float} → Opposed ia ib place n bodies s₀ k s → k ≤ n → n ≤ k
+      → Does (Beside RHS) s₀ s (go (vecAt s RHS n)) (velocityRhs R C)
   unfolding velocityRhs
   rhs-ends {k} {s} so a b =
-      so-end (λ s k. at s (RHS + k)) (oppose ia ib n bodies s₀) s₀ k s so (λ i. Out RHS 96 i) (λ i x. x) n (sym (tab-length n (rowOn ia ib s₀ ROWS)))
+      so-end (λ s k. at s (RHS + k)) (oppose ia ib place n bodies s₀) s₀ k s so (Beside RHS) (λ i x. x) n (sym (tab-length n (rowOn ia ib s₀ place)))
       a b
 
 -- compatible
@@ -218,201 +216,153 @@ module _ (s₀ : List Float) (bodies : ℕ) where
         (st .1 ∙ kick-moved (startBodyAt s k) (candidateAt s k) (share .linear) (share .angular) refl refl refl
         (q ∙ e ∙ ap (λ (x : MomentumBody). kickOf x (share .linear) (share .angular)) eo)) (q ∙ kick-turn)
 
-    pub kick-stops : {f : Fault} → stop f ≡ d → Does (λ i. Out CANDIDATE 208 i) s₀ s (stop f) (kickBodies B G)
+    pub kick-stops : {f : Fault} → stop f ≡ d → Does (λ i. Out CANDIDATE STATES i) s₀ s (stop f) (kickBodies B G)
     unfolding kickBodies
     kick-stops q =
-        so-stop candidateAt kick s₀ k s so (λ i. Out CANDIDATE 208 i) (λ i x. omega arith) (sym (tab-length bodies (candidateAt s₀))) h
-        (kept-refl (λ i. Out CANDIDATE 208 i) s) (λ i x. x) (q ∙ kick-turn)
+        so-stop candidateAt kick s₀ k s so (λ i. Out CANDIDATE STATES i) (λ i x. omega arith) (sym (tab-length bodies (candidateAt s₀))) h
+        (kept-refl (λ i. Out CANDIDATE STATES i) s) (λ i x. x) (q ∙ kick-turn)
 
   pub kick-ends : {k : ℕ} {s : List Float} → Kicked k s → k ≤ bodies → bodies ≤ k → bodies ≤ 16
-      → Does (λ i. Out CANDIDATE 208 i) s₀ s (go (candidatesAt s bodies)) (kickBodies B G)
+      → Does (λ i. Out CANDIDATE STATES i) s₀ s (go (candidatesAt s bodies)) (kickBodies B G)
   unfolding kickBodies
   kick-ends {k} {s} so a b most =
-      so-end candidateAt kick s₀ k s so (λ i. Out CANDIDATE 208 i) (λ i x. omega arith) bodies (sym (tab-length bodies (candidateAt s₀))) a b
+      so-end candidateAt kick s₀ k s so (λ i. Out CANDIDATE STATES i) (λ i x. omega arith) bodies (sym (tab-length bodies (candidateAt s₀))) a b
 
 -- apply
-module _ {s : List Float} {ia ib : List ℕ} {n bodies : ℕ} (pre : Rows s ia ib ROWS n bodies) {t : List Float} (r : Outcome)
-    (d : Does Shares s t (ranAs r (generalizedsAt t GENERALIZED bodies)) (transpose (rowsOn ia ib s ROWS n) (vecAt s SOLUTION n) bodies)) where
-  -- `length candidate` is bodies
-  first : Does Shares s t (ranAs r (generalizedsAt t GENERALIZED bodies)) (transpose (rowsOn ia ib s ROWS n) (vecAt s SOLUTION n) (length (candidatesAt s bodies)))
-  first =
-      record { kept = d .kept; is = d .is ∙ ap (transpose (rowsOn ia ib s ROWS n) (vecAt s SOLUTION n)) (sym (tab-length bodies (candidateAt s))) }
+module _ {s : List Float} {ia ib : List ℕ} (table : Table) (pre : Rows s ia ib (table .place) (table .rows) (table .bodies)) {t : List Float} {x : Result (List Generalized)}
+    (d : Does Shares s t x (transpose (rowsOn ia ib s (table .place) (table .rows)) (vecAt s SOLUTION (table .rows)) (table .bodies))) where
+  abbrev reaction : Result (List MomentumBody)
+  reaction = reactionOf (rowsOn ia ib s (table .place) (table .rows)) (candidatesAt s (table .bodies)) (vecAt s SOLUTION (table .rows))
 
-  pub apply-stops : r ≡ Outcomes.ArithmeticOverflow
-      → Does Correcting s t (stop arithmeticOverflow) (reactionOf (rowsOn ia ib s ROWS n) (candidatesAt s bodies) (vecAt s SOLUTION n))
-  unfolding reactionOf
-  apply-stops h = does-stop _ first Correcting _ (λ i x. omega (arith, x .0)) h
+  -- `length candidate` is the number of bodies
+  pushed : Does Shares s t x
+      (transpose (rowsOn ia ib s (table .place) (table .rows)) (vecAt s SOLUTION (table .rows)) (length (candidatesAt s (table .bodies))))
+  pushed = record {
+    kept = d .kept;
+    is = d .is ∙ ap (transpose (rowsOn ia ib s (table .place) (table .rows)) (vecAt s SOLUTION (table .rows))) (sym (tab-length (table .bodies) (candidateAt s)));
+  }
 
-  pub apply-then : r ≡ Outcomes.Done → {u : List Float} {y : Result (List MomentumBody)}
-      → Does (λ i. Out CANDIDATE 208 i) t u y (kickBodies (candidatesAt t bodies) (generalizedsAt t GENERALIZED bodies))
-      → Does Correcting s u y (reactionOf (rowsOn ia ib s ROWS n) (candidatesAt s bodies) (vecAt s SOLUTION n))
+  pub apply-stops : {f : Fault} → x ≡ stop f → {z : Result (List MomentumBody)} → z ≡ stop f → Does Correcting s t z reaction
   unfolding reactionOf
-  apply-then h {u} {y} e = does-then _ first Correcting (λ i. Out CANDIDATE 208 i) _ (λ i x. omega (arith, x .0)) (λ i x. x .1) h second
-    where
-      second : Does (λ i. Out CANDIDATE 208 i) t u y (kickBodies (candidatesAt s bodies) (generalizedsAt t GENERALIZED bodies))
-      second = record {
+  apply-stops q w = does-eq w (does-stop _ (λ i x. omega (arith, x .0)) (does-eq (sym q) pushed))
+
+  pub apply-then : x ≡ go (sharesIn t (table .bodies)) → {u : List Float} {y : Result (List MomentumBody)}
+      → Does (λ i. Out CANDIDATE STATES i) t u y (kickBodies (candidatesAt t (table .bodies)) (sharesIn t (table .bodies))) → Does Correcting s u y reaction
+  unfolding reactionOf
+  apply-then q {u} {y} e =
+      does-then _ (λ i x. omega (arith, x .0)) (λ i x. x .1) (does-eq (sym q) pushed)
+      (record {
         kept = e .kept;
-        is =
-            e .is ∙ ap (λ (l : List MomentumBody). kickBodies l (generalizedsAt t GENERALIZED bodies))
-            (kept-candidates (d .kept) bodies (λ i p q. omega (arith, pre .bodies)) (λ i p q. omega (arith, pre .bodies)));
-      }
+        is = e .is ∙ ap (λ (l : List MomentumBody). kickBodies l (sharesIn t (table .bodies)))
+            (kept-candidates (d .kept) (table .bodies) (λ i p q. omega (arith, pre .bodies)) (λ i p q. omega (arith, pre .bodies)));
+      })
 
--- correct_velocities
-module _ {s : List Float} {ia ib : List ℕ} {n bodies : ℕ} (pre : Rows s ia ib ROWS n bodies) (cyclic : Bool) {t : List Float} (r : Ended)
-    (d : Solves s t n r (linearSolve cyclic (rowsOn ia ib s ROWS n) (massesAt s MASSES bodies) (vecAt s RHS n))) where
-  abbrev Corrects : List Float → Turn (Took (List MomentumBody)) (Took (Result (List MomentumBody))) → Type 0
-  Corrects u x =
-      (Does Correcting s u x (velocitiesBy cyclic (rowsOn ia ib s ROWS n) (massesAt s MASSES bodies) (candidatesAt s bodies) (vecAt s RHS n))) ×
-      (r .passes ≤ 448)
+-- correct_velocities and velocity_pass: what the velocity loop reads beside the candidates stays
+module _ {P : ℕ → Type 0} {s t : List Float} (kept : Kept P s t) {ia ib : List ℕ} (table : Table)
+    (pre : Rows s ia ib (table .place) (table .rows) (table .bodies)) where
+  pub same-system : ((i : ℕ) → Correcting i → P i) → systemOn ia ib t table ≡ systemOn ia ib s table
+  same-system w = system-kept ia ib table (λ i a b. w i (omega arith)) (pre .table) (pre .most) (pre .bodies) kept
 
-  abbrev react : List Float → Result (List MomentumBody)
-  react = reactionOf (rowsOn ia ib s ROWS n) (candidatesAt s bodies)
+  pub same-candidates : ((i : ℕ) → (Out RHS (IMPULSES - RHS) i) → P i) → candidatesAt t (table .bodies) ≡ candidatesAt s (table .bodies)
+  same-candidates w = kept-candidates kept (table .bodies) (λ i a b. w i (omega (arith, pre .bodies))) (λ i a b. w i (omega (arith, pre .bodies)))
 
-  solving : Kept Correcting s t
-  solving = kept-more (d .0 .kept) (λ i x. omega (arith, x .0))
+-- the pass of a table
+abbrev pub passOver : Bool → List ℕ → List ℕ → Table → List Float → List MomentumBody → Counting (Turn (List MomentumBody) (List MomentumBody))
+passOver cyclic ia ib table s = velocityPass cyclic (systemOn ia ib s table)
 
-  few : r .passes ≤ 448
-  few = omega (arith, d .1, pre .most)
-
-  pub solve-nonconvergent : r .end ≡ Solved.NonConvergent → Corrects t (stop (record { answer = stop nonConvergent; passes = r .passes }))
-  unfolding velocitiesBy
-  solve-nonconvergent h = (record { kept = solving; is = turn-nonconvergent r n (d .0) react h }, few)
-
-  pub solve-overflow : r .end ≡ Solved.ArithmeticOverflow → Corrects t (stop (record { answer = stop arithmeticOverflow; passes = r .passes }))
-  unfolding velocitiesBy
-  solve-overflow h = (record { kept = solving; is = turn-overflow r n (d .0) react h }, few)
-
-  pub solve-declined : {A : Type 0} → r .end ≡ Solved.Declined → A
-  solve-declined h = not-declined r n (d .0) h
-
-  -- solved: the reaction ends the turn
-  module _ (h : r .end ≡ Solved.Solved) {u : List Float} (f : Finish)
-      (e : Does Correcting t u (finishAs f (candidatesAt u bodies)) (reactionOf (rowsOn ia ib t ROWS n) (candidatesAt t bodies) (vecAt t SOLUTION n))) where
-    reacted : {q : Finish} → f ≡ q → finishAs q (candidatesAt u bodies) ≡ react (vecAt t SOLUTION n)
-    reacted g = finish-case (candidatesAt u bodies) f (e .is ∙ same) g
-      where
-        same : reactionOf (rowsOn ia ib t ROWS n) (candidatesAt t bodies) (vecAt t SOLUTION n) ≡ react (vecAt t SOLUTION n)
-        same =
-            λ j. reactionOf (kept-rows (d .0 .kept) ia ib ROWS n (λ i a b. omega (arith, pre .most)) j)
-            (kept-candidates (d .0 .kept) bodies (λ i a b. omega (arith, pre .bodies)) (λ i a b. omega (arith, pre .bodies)) j) (vecAt t SOLUTION n)
-
-    reacting : Kept Correcting s u
-    reacting = kept-then solving (e .kept) (λ i x. x)
-
-    pub reacted-next : f ≡ Ends.Done → Corrects u (go (record { answer = candidatesAt u bodies; passes = r .passes }))
-    unfolding velocitiesBy
-    reacted-next g = (record { kept = reacting; is = turn-next r n (d .0) react h (reacted g) }, few)
-
-    pub reacted-nonconvergent : f ≡ Ends.NonConvergent → Corrects u (stop (record { answer = stop nonConvergent; passes = r .passes }))
-    unfolding velocitiesBy
-    reacted-nonconvergent g = (record { kept = reacting; is = turn-stops r n (d .0) react h (reacted g) }, few)
-
-    pub reacted-overflow : f ≡ Ends.ArithmeticOverflow → Corrects u (stop (record { answer = stop arithmeticOverflow; passes = r .passes }))
-    unfolding velocitiesBy
-    reacted-overflow g = (record { kept = reacting; is = turn-stops r n (d .0) react h (reacted g) }, few)
-
--- velocity_pass
-module _ {s : List Float} {ia ib : List ℕ} {n bodies : ℕ} (pre : Rows s ia ib ROWS n bodies) (cyclic : Bool) {t : List Float} (r : Outcome)
-    (d : Does (Out RHS 96) s t (ranAs r (vecAt t RHS n)) (velocityRhs (rowsOn ia ib s ROWS n) (candidatesAt s bodies))) where
-  abbrev Pass : Turn (Took (List MomentumBody)) (Took (Result (List MomentumBody)))
-  Pass = velocityPass cyclic (rowsOn ia ib s ROWS n) (massesAt s MASSES bodies) (candidatesAt s bodies)
+module _ (cyclic : Bool) {s : List Float} {ia ib : List ℕ} (table : Table) (pre : Rows s ia ib (table .place) (table .rows) (table .bodies))
+    {t : List Float} (r : End) (d : Does (Beside RHS) s t (ranAs r (vecAt t RHS (table .rows)))
+    (velocityRhs (rowsOn ia ib s (table .place) (table .rows)) (candidatesAt s (table .bodies)))) {b : Bool} (eb : b ≡ isDone r) where
+  abbrev turn : Counting (Turn (List MomentumBody) (List MomentumBody))
+  turn = passOver cyclic ia ib table s (candidatesAt s (table .bodies))
 
   within : Kept Correcting s t
   within = kept-more (d .kept) (λ i x. omega (arith, x .0))
 
-  candidates : candidatesAt t bodies ≡ candidatesAt s bodies
-  candidates = kept-candidates (d .kept) bodies (λ i a b. omega (arith, pre .bodies)) (λ i a b. omega (arith, pre .bodies))
-
-  pub pass-1 : r ≡ Outcomes.ArithmeticOverflow → Does Correcting s t (stop (record { answer = stop arithmeticOverflow; passes = 0 })) Pass
+  -- the rates fail
+  pub rates-fail : not b ≡ true → Does Correcting s t (ran (over (ranAs r (candidatesAt t (table .bodies)))) 0 0) turn
   unfolding velocityPass
-  pass-1 h = record { kept = within; is = then-stop _ (ap (taking {B = List MomentumBody} 0) (ran-over _ d h)) }
+  rates-fail h = record {
+    kept = within;
+    is = ap (λ (t : Result (Turn (List MomentumBody) (List MomentumBody))). ran t 0 0) (fails-over (candidatesAt t (table .bodies)) r eb h)
+        ∙ try-stop _ (failed (vecAt t RHS (table .rows)) r eb d h .is);
+  }
 
-  module _ (h : r ≡ Outcomes.Done) {b : Bool} (e : b ≡ compatibleOf (vecAt t RHS n)) where
-    pub pass-2 : b ≡ true → Does Correcting s t (stop (record { answer = go (candidatesAt t bodies); passes = 0 })) Pass
+  module _ (h : not b ≡ false) {c : Bool} (ec : c ≡ compatibleOf (vecAt t RHS (table .rows))) where
+    rated : go (vecAt t RHS (table .rows)) ≡ velocityRhs (rowsOn ia ib s (table .place) (table .rows)) (candidatesAt s (table .bodies))
+    rated = went (vecAt t RHS (table .rows)) r eb d h .is
+
+    pub at-rest : c ≡ true → Does Correcting s t (ran (go (stop (candidatesAt t (table .bodies)))) 0 0) turn
     unfolding velocityPass
-    pass-2 g = record {
+    at-rest g = record {
       kept = within;
-      is =
-          ap (λ (l : List MomentumBody). stop (record { answer = go l; passes = 0 })) candidates ∙ then-stop _ (returns-if _ (sym e ∙ g)) ∙ then-go _
-          (ap (taking {B = List MomentumBody} 0) (ran-done _ d h));
+      is = ap (λ (l : List MomentumBody). leave l) (same-candidates (d .kept) table pre (λ i x. omega (arith, x)))
+          ∙ leave-yes _ _ (sym ec ∙ g) ∙ try-go _ rated;
     }
 
-    pub pass-3 : b ≡ false → {u : List Float} {y : Turn (Took (List MomentumBody)) (Took (Result (List MomentumBody)))} {passes : ℕ}
-        → (Does Correcting t u y (velocitiesBy cyclic (rowsOn ia ib t ROWS n) (massesAt t MASSES bodies) (candidatesAt t bodies) (vecAt t RHS n))) ×
-        (passes ≤ 448)
-        → (Does Correcting s u y Pass) × (passes ≤ 448)
+    pub kicked-on : c ≡ false → {u : List Float} {y : Counting (Turn (List MomentumBody) (List MomentumBody))}
+        → Does Correcting t u y (correction (linearSolve cyclic (systemOn ia ib t table) (vecAt t RHS (table .rows)))
+        (reactionOf (systemOn ia ib t table .rows) (candidatesAt t (table .bodies)))) → Does Correcting s u y turn
     unfolding velocityPass
-    pass-3 g {u} {y} q = (
-      record {
-        kept = kept-then within (q .0 .kept) (λ i x. x);
-        is = q .0 .is ∙ moved ∙ then-go _ (goes-on _ (sym e ∙ g)) ∙ then-go _ (ap (taking {B = List MomentumBody} 0) (ran-done _ d h));
-      },
-      q .1,
-    )
+    kicked-on g {u} {y} e = record {
+      kept = kept-then within (e .kept) (λ i x. x);
+      is = e .is ∙ moved ∙ leave-no _ _ (sym ec ∙ g) ∙ try-go _ rated;
+    }
       where
-        moved : velocitiesBy cyclic (rowsOn ia ib t ROWS n) (massesAt t MASSES bodies) (candidatesAt t bodies) (vecAt t RHS n) ≡ velocitiesBy cyclic (rowsOn ia ib s ROWS n) (massesAt s MASSES bodies) (candidatesAt s bodies) (vecAt t RHS n)
-        moved =
-            let x : rowsOn ia ib t ROWS n ≡ rowsOn ia ib s ROWS n = kept-rows (d .kept) ia ib ROWS n (λ i a b. omega (arith, pre .most)) in
-            let z : massesAt t MASSES bodies ≡ massesAt s MASSES bodies = kept-masses (d .kept) MASSES bodies (λ i a b. omega (arith, pre .bodies)) in
-            let w : candidatesAt t bodies ≡ candidatesAt s bodies = candidates in
-            cc
+        moved : correction (linearSolve cyclic (systemOn ia ib t table) (vecAt t RHS (table .rows)))
+            (reactionOf (systemOn ia ib t table .rows) (candidatesAt t (table .bodies)))
+            ≡ correction {B = List MomentumBody} (linearSolve cyclic (systemOn ia ib s table) (vecAt t RHS (table .rows)))
+            (reactionOf (systemOn ia ib s table .rows) (candidatesAt s (table .bodies)))
+        moved = λ j. correction (linearSolve cyclic (same-system (d .kept) table pre (λ i x. omega (arith, x .0)) j) (vecAt t RHS (table .rows)))
+            (reactionOf (same-system (d .kept) table pre (λ i x. omega (arith, x .0)) j .rows) (same-candidates (d .kept) table pre (λ i x. omega (arith, x)) j))
 
--- velocity_loop
--- what stands before turn k
-pub record Looping (pass : List MomentumBody → Turn (Took (List MomentumBody)) (Took (Result (List MomentumBody)))) (s₀ s : List Float)
-    (bodies k passes : ℕ) : Type 0 where
-  pub kept : Kept Correcting s₀ s
-  pub reached : Reached pass (candidatesAt s₀ bodies) k (candidatesAt s bodies) passes
+-- velocity_loop: the pass is over the same system, however far the loop has come
+pub same-pass : (cyclic : Bool) {s : List Float} {ia ib : List ℕ} (table : Table) → Rows s ia ib (table .place) (table .rows) (table .bodies)
+    → (t : List Float) → Kept Correcting s t → passOver cyclic ia ib table t ≡ passOver cyclic ia ib table s
+same-pass cyclic table pre t kept = ap (velocityPass cyclic) (same-system kept table pre (λ i x. x))
 
-module _ {s₀ : List Float} {ia ib : List ℕ} {n bodies : ℕ} (pre : Rows s₀ ia ib ROWS n bodies) (cyclic : Bool) where
-  abbrev P : List MomentumBody → Turn (Took (List MomentumBody)) (Took (Result (List MomentumBody)))
-  P = velocityPass cyclic (rowsOn ia ib s₀ ROWS n) (massesAt s₀ MASSES bodies)
+pub rests : (cyclic : Bool) (ia ib : List ℕ) (table : Table) {P : ℕ → Type 0} {s t : List Float} {x : Counting (List MomentumBody)}
+    → Does P s t x (upTo 3 nonConvergent (passOver cyclic ia ib table s) (candidatesAt s (table .bodies)))
+    → Does P s t x (velocityLoop cyclic (systemOn ia ib s table) (candidatesAt s (table .bodies)))
+unfolding velocityLoop
+rests cyclic ia ib table d = d
 
-  pub loop-none : Looping P s₀ s₀ bodies 0 0
-  loop-none = record { kept = kept-refl _ s₀; reached = reached-none P (candidatesAt s₀ bodies) }
+-- correct_velocities
+module _ (cyclic : Bool) {s s₁ : List Float} {ia ib : List ℕ} (table : Table) (pre : Rows s ia ib (table .place) (table .rows) (table .bodies)) (r : Ended)
+    (d : Does Work s s₁ (endedAs r (vecAt s₁ SOLUTION (table .rows))) (linearSolve cyclic (systemOn ia ib s table) (vecAt s RHS (table .rows))))
+    {b : Bool} (eb : b ≡ isDone (r .end)) where
+  abbrev react : List Float → Result (List MomentumBody)
+  react = reactionOf (systemOn ia ib s table .rows) (candidatesAt s (table .bodies))
 
-  module _ {k : ℕ} {s t : List Float} {before : ℕ} (inv : Looping P s₀ s bodies k before) (r : Passed)
-      (d : (Does Correcting s t (passAs r (candidatesAt t bodies) (candidatesAt t bodies)) (velocityPass cyclic (rowsOn ia ib s ROWS n) (massesAt s MASSES bodies) (candidatesAt s bodies))) × (r .passes ≤ 448)) where
-    keeps : Kept Correcting s₀ t
-    keeps = kept-then (inv .kept) (d .0 .kept) (λ i x. x)
+  abbrev Corrects : List Float → Counting (Turn (List MomentumBody) (List MomentumBody)) → Type 0
+  Corrects u x = Does Correcting s u x (correction (linearSolve cyclic (systemOn ia ib s table) (vecAt s RHS (table .rows))) react)
 
-    turn : passAs r (candidatesAt t bodies) (candidatesAt t bodies) ≡ P (candidatesAt s bodies)
-    turn =
-        let x : rowsOn ia ib s ROWS n ≡ rowsOn ia ib s₀ ROWS n = kept-rows (inv .kept) ia ib ROWS n (λ i a b. omega (arith, pre .most)) in
-        let z : massesAt s MASSES bodies ≡ massesAt s₀ MASSES bodies = kept-masses (inv .kept) MASSES bodies (λ i a b. omega (arith, pre .bodies)) in
-        d .0 .is ∙ (cc)
+  solving : Kept Correcting s s₁
+  solving = kept-more (d .kept) (λ i x. omega (arith, x .0))
 
-    pub loop-next : r .end ≡ Passes.Next → Looping P s₀ t bodies (k + 1) (before + r .passes)
-    loop-next h =
-        record { kept = keeps; reached = reached-next P (candidatesAt s₀ bodies) k (inv .reached) r (candidatesAt t bodies) (candidatesAt t bodies) turn h }
+  pub rest-unsolved : not b ≡ true → Corrects s₁ (ran (over (ranAs (r .end) (candidatesAt s₁ (table .bodies)))) 0 (r .linear))
+  rest-unsolved h = record { kept = solving; is = unsolved react r (vecAt s₁ SOLUTION (table .rows)) (d .is) (candidatesAt s₁ (table .bodies)) eb h }
 
-    module _ (l : k < 3) where
-      abbrev Leaves : Finish → Type 0
-      Leaves finish =
-          Does Correcting s₀ t (loopedAs (record { finish = finish; begun = k + 1; passes = before + r .passes }) (candidatesAt t bodies))
-          (velocityLoop cyclic (rowsOn ia ib s₀ ROWS n) (massesAt s₀ MASSES bodies) (candidatesAt s₀ bodies))
+  module _ (h : not b ≡ false) {s₂ : List Float} (q : End)
+      (e : Does Correcting s₁ s₂ (ranAs q (candidatesAt s₂ (table .bodies)))
+      (reactionOf (systemOn ia ib s₁ table .rows) (candidatesAt s₁ (table .bodies)) (vecAt s₁ SOLUTION (table .rows))))
+      {c : Bool} (ec : c ≡ isDone q) where
+    reacting : Kept Correcting s s₂
+    reacting = kept-then solving (e .kept) (λ i x. x)
 
-      pub loop-met : r .end ≡ Passes.Met → Leaves Ends.Done
-      unfolding velocityLoop
-      loop-met h =
-          record { kept = keeps; is = left-met P (candidatesAt s₀ bodies) k (inv .reached) r (candidatesAt t bodies) (candidatesAt t bodies) turn 3 l h }
+    reacted : ranAs q (candidatesAt s₂ (table .bodies)) ≡ react (vecAt s₁ SOLUTION (table .rows))
+    reacted = e .is ∙ λ j. reactionOf (same-system (d .kept) table pre (λ i x. omega (arith, x .0)) j .rows)
+        (same-candidates (d .kept) table pre (λ i x. omega (arith, x)) j) (vecAt s₁ SOLUTION (table .rows))
 
-      pub loop-nonconvergent : r .end ≡ Passes.NonConvergent → Leaves Ends.NonConvergent
-      unfolding velocityLoop
-      loop-nonconvergent h =
-          record { kept = keeps; is = left-nonconvergent P (candidatesAt s₀ bodies) k (inv .reached) r (candidatesAt t bodies) (candidatesAt t bodies) turn 3 l h }
+    pub rest-kicked : not c ≡ false → Corrects s₂ (ran (go (go (candidatesAt s₂ (table .bodies)))) 0 (r .linear))
+    rest-kicked k = record {
+      kept = reacting;
+      is = corrected react r (vecAt s₁ SOLUTION (table .rows)) (d .is) (candidatesAt s₂ (table .bodies)) eb h
+          (sym (ran-done (candidatesAt s₂ (table .bodies)) q (sym ec ∙ not-no c k)) ∙ reacted);
+    }
 
-      pub loop-overflow : r .end ≡ Passes.ArithmeticOverflow → Leaves Ends.ArithmeticOverflow
-      unfolding velocityLoop
-      loop-overflow h =
-          record { kept = keeps; is = left-overflow P (candidatesAt s₀ bodies) k (inv .reached) r (candidatesAt t bodies) (candidatesAt t bodies) turn 3 l h }
-
-  pub loop-spent : {k : ℕ} {s : List Float} {passes : ℕ} → Looping P s₀ s bodies k passes → k ≤ 3 → 3 ≤ k
-      → Does Correcting s₀ s (loopedAs (record {
-        finish =
-            Ends.NonConvergent;
-        begun = 3;
-        passes = passes;
-      }) (candidatesAt s bodies)) (velocityLoop cyclic (rowsOn ia ib s₀ ROWS n) (massesAt s₀ MASSES bodies) (candidatesAt s₀ bodies))
-  unfolding velocityLoop
-  loop-spent {k} {s} inv a b = record { kept = inv .kept; is = left-spent P (candidatesAt s₀ bodies) 3 k (candidatesAt s bodies) (inv .reached) a b }
+    pub rest-not-kicked : not c ≡ true → Corrects s₂ (ran (over (ranAs q (candidatesAt s₂ (table .bodies)))) 0 (r .linear))
+    rest-not-kicked k = record {
+      kept = reacting;
+      is = not-made react r (vecAt s₁ SOLUTION (table .rows)) (d .is) (candidatesAt s₂ (table .bodies)) eb h (candidatesAt s₂ (table .bodies)) q ec k reacted;
+    }

@@ -1,4 +1,4 @@
--- What a step says: its answer is the definition's, and the joints of an accepted step are met by the records that it hands back. Document 01, demands 2 and 3.
+-- What a step says: its answer is the definition's, and the joints of an accepted step are met by the records that it hands back. SPECIFICATION §0, demands 1, 2 and 3.
 use Prim.Native.Nat.{ℕ, _≤_, _<_}
 use mathlib.Core.Path.{_≡_}
 use mathlib.Core.List.{List}
@@ -10,13 +10,14 @@ use Rattle.rows.specs.Fault.{Fault, number}
 use Rattle.rows.specs.ExactGeometry.{Place, recordPlace, Met, Stands, Proper}
 use Rattle.step.specs.declared.Outcome.the-variants.{Accepted}
 use Rattle.step.specs.declared.Report.{Report}
-use Rattle.step.specs.Records.{recordAt, bodyCount, recordsOf}
+use Rattle.step.specs.Layout.{SCRATCH}
+use Rattle.step.specs.Records.{recordAt, bodyCount}
 use Rattle.step.specs.Checks.{numberOf, jointIn, refusalOf}
-use Rattle.step.specs.Step.{Counted, runOf, cleared, solveOf}
+use Rattle.step.specs.Step.{stepped, runFor, cleared, solveOf}
 
 -- the first 6,144 doubles are +0, the others as they were
 abbrev pub Zeroed : List Float → List Float → Type 0
-Zeroed scratch left = (6144 ≤ length scratch) × (left ≡ cleared scratch)
+Zeroed scratch left = (SCRATCH ≤ length scratch) × (left ≡ cleared scratch)
 
 -- what is said of a joint and the places of the two records that it joins
 abbrev pub AtEnds : (Joint → Place → Place → Type 0) → List Float → Joint → Type 0
@@ -24,7 +25,7 @@ AtEnds Says bodies joint = Says joint (recordPlace (recordAt bodies (joint .«bo
 
 pub record Answered (bodies after : List Float) (joints : List Joint) (count : ℕ) (dt : Float) (scratch left : List Float) (r : Report) : Type 0 where
   -- demand 2: answer, counts, bodies and scratch are those of the definition, for every input
-  pub is : record { outcome = r .outcome; nonlinear = r .nonlinear; linear = r .linear; bodies = after; scratch = left } ≡ solveOf bodies joints count dt scratch
+  pub is : stepped (r .outcome) (r .nonlinear) (r .linear) after left ≡ solveOf bodies joints count dt scratch
   -- demand 3, of an accepted step; these fields stand by themselves, whatever the definition says
   -- there are at most sixteen joints, all of them in the table
   pub few : r .outcome ≡ Accepted → (count ≤ 16) × (count ≤ length joints)
@@ -38,8 +39,8 @@ pub record Answered (bodies after : List Float) (joints : List Joint) (count : �
   -- it is met by the records that it joins
   pub meets : r .outcome ≡ Accepted → (k : ℕ) → k < count → AtEnds Met after (jointIn joints k)
   -- where the run ends by a fault, the answer has the fault's number
-  pub faulted : refusalOf bodies joints count dt (length scratch) ≡ Accepted → (s : Counted Fault)
-      → runOf (recordsOf bodies) joints count dt ≡ stop s → numberOf (r .outcome) ≡ number (s .answer)
+  pub faulted : refusalOf bodies joints count dt (length scratch) ≡ Accepted → (fault : Fault)
+      → runFor bodies joints count dt .ends ≡ stop fault → numberOf (r .outcome) ≡ number fault
   -- a refusal leaves the bodies
   pub refused : 1 ≤ numberOf (r .outcome) → after ≡ bodies
   -- 1 to 9 leave the scratch too, and report both counts 0

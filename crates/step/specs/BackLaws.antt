@@ -15,11 +15,12 @@ use Rattle.arith.specs.FlowLaws.{cond-yes, cond-no}
 use Rattle.rows.specs.declared.body.BodyState.{BodyState}
 use Rattle.rows.specs.View.{at}
 use Rattle.rows.specs.Region.{tab-length, tab-at}
-use Rattle.solves.specs.View.{CANDIDATE}
+use Rattle.step.specs.Layout.{CANDIDATE}
 use Rattle.step.specs.Records.{bodyCount, stateAt}
 use Rattle.step.specs.View.{statesAt, Handed}
 use Rattle.step.specs.ViewLaws.{state-at, handed-new, handed-old}
-use Rattle.step.specs.Step.{noState, stateIn, stateDoubles, handBack}
+use Rattle.step.specs.Bodies.{noState, stateIn}
+use Rattle.step.specs.Step.{stateDoubles, handBack}
 
 -- the 13 doubles of the state at i are those at i, and a state is known by its 13
 doubles-at : (s : List Float) (i j : ℕ) → j < 13 → at (stateDoubles (stateAt s i)) j ≡ at s (i + j)

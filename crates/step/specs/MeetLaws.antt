@@ -9,7 +9,7 @@ use lib.Dec.{T}
 use lib.ListN.{length}
 use lib.Ieee.{Float}
 use Rattle.arith.specs.Real.{ratio}
-use Rattle.arith.specs.Flow.{Turn, go, stop}
+use Rattle.arith.specs.Flow.{go, stop}
 use Rattle.arith.specs.FlowLaws.{every-at}
 use Rattle.vectors.specs.declared.vector.Vec3.{Vec3}
 use Rattle.vectors.specs.Quaternion.{isNormalizedOf}
@@ -20,7 +20,7 @@ use Rattle.rows.specs.declared.geometry.Joint.{Joint}
 use Rattle.rows.specs.declared.geometry.Motions.{Motions}
 use Rattle.rows.specs.declared.geometry.Motions.the-variants.{Rod, Frame}
 use Rattle.rows.specs.Motions.{motionsOf}
-use Rattle.rows.specs.Fault.{Fault, nonConvergent, arithmeticOverflow, number}
+use Rattle.rows.specs.Fault.{Fault, nonConvergent, arithmeticOverflow, number, Result}
 use Rattle.rows.specs.Body.{stateWith, stateOf}
 use Rattle.rows.specs.Region.{tab-length, tab-at}
 use Rattle.rows.specs.ExactGeometry.{statePlace, Met, Stands, Proper}
@@ -35,8 +35,8 @@ use Rattle.step.specs.Records.{recordAt, bodyCount, recordsOf, stateAt}
 use Rattle.step.specs.Checks.{numberOf, withinOf, massInRange, bodyInRange, frameOk, motionsOk, jointIn, refusalOf, isAccepted}
 use Rattle.step.specs.CheckLaws.{Ready, number-zero, refused-number, accepted}
 use Rattle.step.specs.NumberLaws.{motions-finite, within-table}
-use Rattle.step.specs.Step.{faultOutcome, noState, noRecord, bodyIn, recordIn, stateIn, jointRows, writeRows, rowsMet, statesOf}
-use Rattle.step.specs.Step.{Counted, runOf, Stepped, grounded, handBack, cleared, settled, solveOf}
+use Rattle.step.specs.Bodies.{noState, noRecord, bodyIn, recordIn, stateIn, jointRows, writeRows, rowsMet, statesOf}
+use Rattle.step.specs.Step.{Stepped, stepped, faultOutcome, grounded, handBack, cleared, settledAs, settled, jobOf, runFor, solveOf}
 use Rattle.step.specs.BackLaws.{back-length, back-state}
 use Rattle.step.specs.TurnLaws.{each-at}
 use Rattle.step.specs.RunLaws.{Ran, ran}
@@ -167,17 +167,17 @@ module _ (bodies : List Float) (joints : List Joint) (count : ℕ) (dt : Float) 
 
   -- the field `faulted` of a step's answer
   abbrev Faulted : Stepped → Type 0
-  Faulted t = refusalOf bodies joints count dt (length scratch) ≡ Accepted → (s : Counted Fault)
-      → runOf (recordsOf bodies) joints count dt ≡ stop s → numberOf (t .outcome) ≡ number (s .answer)
+  Faulted t = refusalOf bodies joints count dt (length scratch) ≡ Accepted → (fault : Fault)
+      → runFor bodies joints count dt .ends ≡ stop fault → numberOf (t .outcome) ≡ number fault
 
   fault-answered : Faulted (solveOf bodies joints count dt scratch)
   unfolding solveOf
-  fault-answered p s q =
+  fault-answered p fault q =
       let left = cleared scratch in
-      let run = runOf (recordsOf bodies) joints count dt in
+      let run = runFor bodies joints count dt in
       ap (λ (o : Outcome). numberOf (cond (isAccepted o) (settled bodies left run) (checked o) .outcome)) p
-      ∙ ap (λ (t : Turn (Counted (List BodyState)) (Counted Fault)). numberOf (settled bodies left t .outcome)) q
-      ∙ fault-number (s .answer)
+      ∙ ap (λ (t : Result (List BodyState)). numberOf (settledAs bodies left (run .nonlinear) (run .linear) t .outcome)) q
+      ∙ fault-number fault
 
   as-faulted : {t : Stepped} → Solved t → Faulted t
   as-faulted is = subst Faulted (sym is) fault-answered
@@ -218,18 +218,18 @@ module _ (bodies : List Float) (joints : List Joint) (count : ℕ) (dt : Float) 
     }
 
     -- accepted
-    abbrev moved : Counted (List BodyState) → Stepped
-    moved c = record { outcome = Accepted; nonlinear = c .nonlinear; linear = c .linear; bodies = handBack bodies (c .answer); scratch = cleared scratch }
+    abbrev moved : ℕ → ℕ → List BodyState → Stepped
+    moved n l states = stepped Accepted n l (handBack bodies states) (cleared scratch)
 
-    says-moved : (c : Counted (List BodyState)) → runOf (recordsOf bodies) joints count dt ≡ go c → grounded (c .answer) ≡ true
-        → Solved (moved c) → Says (moved c)
-    says-moved c e g is = record {
+    says-moved : (n l : ℕ) (states : List BodyState) → runFor bodies joints count dt .ends ≡ go states → grounded states ≡ true
+        → Solved (moved n l states) → Says (moved n l states)
+    says-moved n l states e g is = record {
       is = is;
       few = λ h. (ready .few, within-table joints count (ready .numbers));
       joins = λ h k l. (same (ready .a-there k l), same (ready .b-there k l));
-      proper = λ h k l. proper-records bodies joints count dt (length scratch) ready (c .answer) end g k l;
-      meets = λ h k l. met-records bodies joints count dt (length scratch) ready (c .answer) end g k l;
-      stands = λ h k l. stood bodies joints count dt (length scratch) ready (c .answer) end g k (as-many l);
+      proper = λ h k l. proper-records bodies joints count dt (length scratch) ready states end g k l;
+      meets = λ h k l. met-records bodies joints count dt (length scratch) ready states end g k l;
+      stands = λ h k l. stood bodies joints count dt (length scratch) ready states end g k (as-many l);
       faulted = as-faulted is;
       refused = λ h. absurd (omega arith);
       early = λ h. absurd (omega arith);
@@ -237,42 +237,39 @@ module _ (bodies : List Float) (joints : List Joint) (count : ℕ) (dt : Float) 
       late = λ h. absurd (omega arith);
     }
       where
-        end : Ran (recordsOf bodies) joints count (c .answer)
-        end = ran (recordsOf bodies) joints count dt c e
+        end : Ran (recordsOf bodies) joints count states
+        end = ran (jobOf bodies joints count dt) (recordsOf bodies) states e
 
-        as-many : {k : ℕ} → k < bodyCount (handBack bodies (c .answer)) → k < bodyCount bodies
-        as-many {k} h = subst (λ (n : ℕ). k < n / 26) (back-length bodies (c .answer)) h
+        as-many : {k : ℕ} → k < bodyCount (handBack bodies states) → k < bodyCount bodies
+        as-many {k} h = subst (λ (n : ℕ). k < n / 26) (back-length bodies states) h
 
-        same : {k : ℕ} → k < bodyCount bodies → k < bodyCount (handBack bodies (c .answer))
-        same {k} h = subst (λ (n : ℕ). k < n / 26) (sym (back-length bodies (c .answer))) h
+        same : {k : ℕ} → k < bodyCount bodies → k < bodyCount (handBack bodies states)
+        same {k} h = subst (λ (n : ℕ). k < n / 26) (sym (back-length bodies states)) h
 
     -- however the run ends
-    abbrev left : Turn (Counted (List BodyState)) (Counted Fault) → Stepped
-    left t = settled bodies (cleared scratch) t
-
-    says-run : (t : Turn (Counted (List BodyState)) (Counted Fault)) → runOf (recordsOf bodies) joints count dt ≡ t → Solved (left t) → Says (left t)
-    says-run (stop c) e is =
-        says-failed (faultOutcome (c .answer)) (c .nonlinear) (c .linear)
-        (subst (λ (n : ℕ). 10 ≤ n) (sym (fault-number (c .answer))) (fault-late (c .answer))) is
-    says-run (go c) e is = by-ground (grounded (c .answer)) refl is
+    says-run : (n l : ℕ) (t : Result (List BodyState)) → runFor bodies joints count dt .ends ≡ t
+        → Solved (settledAs bodies (cleared scratch) n l t) → Says (settledAs bodies (cleared scratch) n l t)
+    says-run n l (stop fault) e is = says-failed (faultOutcome fault) n l (subst (λ (m : ℕ). 10 ≤ m) (sym (fault-number fault)) (fault-late fault)) is
+    says-run n l (go states) e is = by-ground (grounded states) refl is
       where
         ended : Bool → Stepped
-        ended g = cond g (moved c) (failed Ground (c .nonlinear) (c .linear))
+        ended g = cond g (moved n l states) (failed Ground n l)
 
-        by-ground : (g : Bool) → grounded (c .answer) ≡ g → Solved (ended g) → Says (ended g)
-        by-ground true g is = says-moved c e g is
-        by-ground false g is = says-failed Ground (c .nonlinear) (c .linear) (omega arith) is
+        by-ground : (g : Bool) → grounded states ≡ g → Solved (ended g) → Says (ended g)
+        by-ground true g is = says-moved n l states e g is
+        by-ground false g is = says-failed Ground n l (omega arith) is
 
   abbrev tested : Outcome
   tested = refusalOf bodies joints count dt (length scratch)
 
   abbrev answer : Bool → Stepped
-  answer b = cond b (settled bodies (cleared scratch) (runOf (recordsOf bodies) joints count dt)) (checked tested)
+  answer b = cond b (settled bodies (cleared scratch) (runFor bodies joints count dt)) (checked tested)
 
   says : (b : Bool) → isAccepted tested ≡ b → Solved (answer b) → Says (answer b)
   says true e is =
+      let run = runFor bodies joints count dt in
       let ready = accepted bodies joints count dt (length scratch) (number-zero _ (eqb-true _ _ e)) in
-      says-run ready (runOf (recordsOf bodies) joints count dt) refl is
+      says-run ready (run .nonlinear) (run .linear) (run .ends) refl is
   says false e is =
       let n = refused-number bodies joints count dt (length scratch) (λ q. eqb-false _ _ e (ap numberOf q)) in
       says-checked tested (n .0) (n .1) is
@@ -283,6 +280,6 @@ module _ (bodies : List Float) (joints : List Joint) (count : ℕ) (dt : Float) 
 
 -- the step's contract, from its first line
 pub answered : (bodies after : List Float) (joints : List Joint) (count : ℕ) (dt : Float) (scratch left : List Float) (r : Report)
-    → record { outcome = r .outcome; nonlinear = r .nonlinear; linear = r .linear; bodies = after; scratch = left } ≡ solveOf bodies joints count dt scratch
+    → stepped (r .outcome) (r .nonlinear) (r .linear) after left ≡ solveOf bodies joints count dt scratch
     → Answered bodies after joints count dt scratch left r
 answered bodies after joints count dt scratch left r is = subst (Says bodies joints count dt scratch) (sym is) (solve-says bodies joints count dt scratch)

@@ -4,6 +4,7 @@ use mathlib.Core.Path.{_≡_}
 use lib.ListN.{getD}
 use mathlib.Core.List.{List}
 use Rattle.rows.specs.declared.geometry.Joint.{Joint}
+use Rattle.step.specs.Layout.{SCRATCH}
 use Rattle.step.specs.Checks.{jointIn}
 
 -- at most 16 joints, on at most 16 bodies
@@ -17,7 +18,7 @@ pub record Joined (joints : List Joint) (count size : ℕ) : Type 0 where
 pub record Sizes (doubles count scratch : ℕ) : Type 0 where
   pub small : doubles / 26 ≤ 16
   pub few : count ≤ 16
-  pub room : 6144 ≤ scratch
+  pub room : SCRATCH ≤ scratch
 
 -- the bodies of n rows, as many for each joint as its kind has
 pub record RowBodies (joints : List Joint) (count n : ℕ) (ia ib : List ℕ) : Type 0 where

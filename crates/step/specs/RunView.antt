@@ -1,45 +1,59 @@
--- What of the scratch a run's values are, what its functions leave alone, and how the code's answers are read.
-use Prim.Native.Nat.{ℕ, _+_, _-_, _<_}
+-- What of the scratch a run's values are, what its functions ask for and leave alone, and how the code's answers are read.
+use Prim.Native.Nat.{ℕ, _+_, _-_, _≤_, _<_}
 use mathlib.Core.Path.{_≡_}
 use mathlib.Core.Bool.{Bool, cond}
 use mathlib.Core.List.{List}
-use lib.ListN.{getD}
+use lib.ListN.{length, getD}
 use lib.Ieee.{Float}
 use Rattle.arith.specs.Flow.{Turn, go, stop, turns}
+use Rattle.arith.specs.Run.{ran, try, again, _>>=_}
 use Rattle.vectors.specs.Vector.{divOf}
-use Rattle.rows.specs.declared.body.Finish.{Finish}
-use Rattle.rows.specs.declared.body.Finish.the-variants as Ends
-use Rattle.rows.specs.declared.body.BodyState.{BodyState}
 use Rattle.rows.specs.declared.body.MomentumBody.{MomentumBody}
 use Rattle.rows.specs.declared.geometry.Joint.{Joint}
-use Rattle.rows.specs.Fault.{Fault, nonConvergent, arithmeticOverflow, Result, vectorOr}
+use Rattle.rows.specs.Fault.{arithmeticOverflow, Result, vectorOr}
 use Rattle.rows.specs.Body.{omegaOf}
 use Rattle.rows.specs.Geometry.{rowCount}
 use Rattle.rows.specs.View.{Out}
-use Rattle.rows.specs.Answer.{finishAs}
+use Rattle.solves.specs.declared.Table.{Table}
 use Rattle.solves.specs.declared.places.MassResponse.{MassResponse}
-use Rattle.solves.specs.View.{START-ROWS, ROWS, MASSES, IMPULSES, RHS, START, CANDIDATE, END, rowsOn, massesAt}
+use Rattle.solves.specs.Layout.{ROW-TABLE}
+use Rattle.solves.specs.Lent.{Slice}
+use Rattle.solves.specs.Region.{vecAt}
+use Rattle.solves.specs.System.{Counting}
+use Rattle.solves.specs.Answer.{ranAs, passAs}
+use Rattle.solves.specs.View.{ROWS, RHS, rowsOn, systemOn, Ready}
 use Rattle.step.specs.declared.integrator.MassAnswer.{MassAnswer}
-use Rattle.step.specs.declared.integrator.Progress.{Progress}
+use Rattle.step.specs.declared.integrator.Task.{Task}
 use Rattle.step.specs.declared.velocity.Motion.{Motion}
-use Rattle.step.specs.declared.passes.PassEnd.{PassEnd}
-use Rattle.step.specs.declared.passes.PassEnd.the-variants as Passes
 use Rattle.step.specs.declared.passes.Passed.{Passed}
-use Rattle.step.specs.declared.passes.Looped.{Looped}
+use Rattle.step.specs.declared.passes.Ran.{Ran}
 use Rattle.step.specs.Checks.{jointIn}
+use Rattle.step.specs.Layout.{IMPULSES, START, CANDIDATE, STATES, USED}
 use Rattle.step.specs.View.{candidateAt, startBodiesAt, candidatesAt}
-use Rattle.step.specs.Step.{Started, Took, Left, Found, Counted}
+use Rattle.step.specs.Bodies.{Job, Started, Found}
+use Rattle.step.specs.Ready.{Joined}
 
 -- ---- views
 -- the candidates where bodies were moved, else those of the start
 abbrev pub bodiesAt : Bool → List Float → ℕ → List MomentumBody
 bodiesAt moved s n = cond moved (candidatesAt s n) (startBodiesAt s n)
 
-abbrev pub startedAt : List ℕ → List ℕ → List Float → ℕ → ℕ → Started
-startedAt ia ib s n size = record { start = startBodiesAt s size; rows = rowsOn ia ib s START-ROWS n; masses = massesAt s MASSES size }
+abbrev pub impulsesAt : List Float → Table → List Float
+impulsesAt s t = vecAt s IMPULSES (t .rows)
 
-abbrev pub foundAt : List ℕ → List ℕ → List Float → ℕ → ℕ → Found
-foundAt ia ib s n size = record { candidate = candidatesAt s size; rows = rowsOn ia ib s ROWS n }
+-- what stands before the first pass, with the starting rows in table t, and what a pass found
+abbrev pub startedAt : List ℕ → List ℕ → List Float → Table → Started
+startedAt ia ib s t = record { bodies = startBodiesAt s (t .bodies); system = systemOn ia ib s t }
+
+abbrev pub foundAt : List ℕ → List ℕ → List Float → Table → Found
+foundAt ia ib s t = record { candidate = candidatesAt s (t .bodies); rows = rowsOn ia ib s ROWS (t .rows) }
+
+-- the same rows of the candidates, for the velocity loop
+abbrev pub candidateTable : Table → Table
+candidateTable t = record { place = ROWS; rows = t .rows; bodies = t .bodies }
+
+abbrev pub jobFor : List Joint → Task → Job
+jobFor joints task = record { joints = joints; count = task .count; dt = task .dt; cyclic = task .cyclic }
 
 -- how many rows the joints before k have
 abbrev pub rowsBefore : List Joint → ℕ → ℕ
@@ -64,39 +78,44 @@ pub record MotionAt (s : List Float) (k : ℕ) (motion : Motion) : Type 0 where
 pub record Remembers (s : List Float) (motion : Motion) : Type 0 where
   pub moves : motion .body < 16 → Moves (candidateAt s (motion .body)) motion
 
+-- ---- what a run asks for
+-- rows in a table, and a scratch of a step
+abbrev pub Ours : Slice Float → Slice ℕ → Slice ℕ → Table → Type 0
+Ours s ia ib t = (Ready s ia ib t) × (USED ≤ length (s .now))
+
+-- the table is that of the starting rows: apart from the rows that a pass writes
+abbrev pub Starting : Slice Float → Slice ℕ → Slice ℕ → Table → Type 0
+Starting s ia ib t = (Ours s ia ib t) × (t .place + ROW-TABLE ≤ ROWS)
+
+-- the rows of the table are those of the joints
+pub record Joins (joints : List Joint) (count : ℕ) (ia ib : Slice ℕ) (t : Table) : Type 0 where
+  pub joined : Joined joints count (t .bodies)
+  pub sides : Sides joints count (ia .now) (ib .now)
+  pub rows-are : t .rows ≡ rowsBefore joints count
+
 -- ---- outside of what is written
--- Inside of it stands what the contract's views say; all else there is free: only the crate itself calls these functions, and the step zeroes the scratch before it answers.
+-- Inside of it stands what the contract's views say; all else there is free: only the crate itself calls these functions, and the step zeroes
+-- the scratch before it answers.
 -- by the nonlinear passes: not the starting bodies, the starting rows, the masses
 abbrev pub Trying : ℕ → Type 0
-Trying i = (Out ROWS (MASSES - ROWS) i) × (Out IMPULSES (START - IMPULSES) i) × (Out CANDIDATE (END - CANDIDATE) i)
+Trying i = (Out ROWS ROW-TABLE i) × (Out RHS (START - RHS) i) × (Out CANDIDATE STATES i)
 
--- by the velocity loop: not the starting bodies, the rows, the masses
+-- by the velocity loop: not the starting bodies, the rows, the masses, the impulses
 abbrev pub Correcting : ℕ → Type 0
-Correcting i = (Out RHS (START - RHS) i) × (Out CANDIDATE (END - CANDIDATE) i)
+Correcting i = (Out RHS (IMPULSES - RHS) i) × (Out CANDIDATE STATES i)
 
 -- ---- answers
 abbrev pub massAs : MassAnswer → Result MassResponse
 massAs r = cond (r .some) (go (r .mass)) (stop arithmeticOverflow)
 
--- a turn that left a for the next, or b
-abbrev pub endAs : {A B : Type 0} → PassEnd → ℕ → A → B → Turn (Took A) (Took (Result B))
-endAs Passes.Next passes a b = go (record { answer = a; passes = passes })
-endAs Passes.Met passes a b = stop (record { answer = go b; passes = passes })
-endAs Passes.NonConvergent passes a b = stop (record { answer = stop nonConvergent; passes = passes })
-endAs Passes.ArithmeticOverflow passes a b = stop (record { answer = stop arithmeticOverflow; passes = passes })
+-- a pass that counted n nonlinear ones, and left a for the next, or b
+abbrev pub passedAs : {A B : Type 0} → ℕ → Passed → A → B → Counting (Turn A B)
+passedAs n r a b = ran (passAs (r .pass) a b) n (r .linear)
 
-abbrev pub passAs : {A B : Type 0} → Passed → A → B → Turn (Took A) (Took (Result B))
-passAs r a b = endAs (r .end) (r .passes) a b
+-- a loop or a run that left x
+abbrev pub leftAs : {A : Type 0} → Ran → A → Counting A
+leftAs r x = ran (ranAs (r .end) x) (r .nonlinear) (r .linear)
 
--- a loop that left b
-abbrev pub loopedAs : {B : Type 0} → Looped → B → Left B
-loopedAs r b = record { answer = finishAs (r .finish) b; begun = r .begun; passes = r .passes }
-
--- a run that left the states
-abbrev pub endedAs : Finish → ℕ → ℕ → List BodyState → Turn (Counted (List BodyState)) (Counted Fault)
-endedAs Ends.Done nonlinear linear states = go (record { answer = states; nonlinear = nonlinear; linear = linear })
-endedAs Ends.NonConvergent nonlinear linear states = stop (record { answer = nonConvergent; nonlinear = nonlinear; linear = linear })
-endedAs Ends.ArithmeticOverflow nonlinear linear states = stop (record { answer = arithmeticOverflow; nonlinear = nonlinear; linear = linear })
-
-abbrev pub progressAs : Progress → List BodyState → Turn (Counted (List BodyState)) (Counted Fault)
-progressAs r states = endedAs (r .finish) (r .nonlinear) (r .linear) states
+-- the second half of both passes: a solve, and what is made of its solution
+abbrev pub correction : {A B : Type 0} → Counting (List Float) → (List Float → Result A) → Counting (Turn A B)
+correction solve make = solve >>= λ solution. try (make solution) >>= λ next. again next

@@ -11,7 +11,7 @@ use Rattle.vectors.specs.Matrix.{fromCols, columnOf}
 use Rattle.rows.specs.declared.body.BodyState.{BodyState}
 use Rattle.rows.specs.declared.body.MomentumBody.{MomentumBody}
 use Rattle.rows.specs.View.{at, vec3At, Out, Kept}
-use Rattle.solves.specs.View.{START, CANDIDATE}
+use Rattle.step.specs.Layout.{START, CANDIDATE}
 use Rattle.step.specs.Records.{quatAt, matAt, stateAt}
 
 -- what moves of a body, and what does not

@@ -16,7 +16,7 @@ use Rattle.rows.specs.declared.body.BodyState.{BodyState}
 use Rattle.rows.specs.declared.body.MomentumBody.{MomentumBody}
 use Rattle.rows.specs.View.{at, Out, Kept}
 use Rattle.rows.specs.Region.{Over, kept-vec3, tab-ext}
-use Rattle.solves.specs.View.{START, CANDIDATE}
+use Rattle.step.specs.Layout.{START, CANDIDATE}
 use Rattle.step.specs.Records.{quatAt, matAt, stateAt}
 use Rattle.step.specs.View.{colsOf, bodyFrom, startBodyAt, candidateAt, startBodiesAt, candidatesAt, heldOf, movedTo, Handed}
 

@@ -1,11 +1,12 @@
 // Records of bodies in the caller's slice, and bodies in motion in the scratch.
 use crate::RECORD;
 use crate::checks::within;
+use crate::layout::CANDIDATE;
+use crate::layout::MOVING;
+use crate::layout::START;
 use rows::body::BodyState;
 use rows::body::MomentumBody;
 use rows::body::RigidBody;
-use solves::layout::CANDIDATE;
-use solves::layout::START;
 use solves::places::load3;
 use solves::places::store3;
 use vectors::matrix::Mat3;
@@ -17,17 +18,15 @@ ghost use lib.ListN.{length};
 ghost use Rattle.arith.specs.Real.{ratio};
 ghost use Rattle.arith.specs.Flow.{every};
 ghost use Rattle.rows.specs.View.{vec3At, Out, Kept};
-ghost use Rattle.solves.specs.View.{START, CANDIDATE, END};
+ghost use Rattle.solves.specs.Lent.{came, left};
+ghost use Rattle.step.specs.Layout.{START, CANDIDATE, USED};
 ghost use Rattle.step.specs.Records.{quatAt, matAt, recordAt, stateAt};
 ghost use Rattle.step.specs.Checks.{withinOf};
 ghost use Rattle.step.specs.View.{colsOf, fixedAt, fixedOf, movingAt, movingOf, bodyFrom, startBodyAt, candidateAt, heldOf, movedTo, Handed};
 
-// What moves of a body in a step: centre, rotation, momentum and spin.
-pub(crate) const MOVING: usize = 13;
-
 fn load4(s: &[f64], i: usize) -> Quat
     requires { ⌜ i + 4 ≤ length (now s) ⌝ }
-    ensures { λ r. ⌜ r ≡ quatAt (now (s .entry)) i ⌝ }
+    ensures { λ r. ⌜ r ≡ quatAt (came s) i ⌝ }
 {
     Quat {
         x: s[i],
@@ -39,7 +38,7 @@ fn load4(s: &[f64], i: usize) -> Quat
 
 fn store4(s: &mut [f64], i: usize, q: Quat)
     requires { ⌜ i + 4 ≤ length (now s) ⌝ }
-    ensures { λ _. ⌜ (Kept (λ j. Out i 4 j) (now (s .entry)) (now (s .exit))) × (quatAt (now (s .exit)) i ≡ q) ⌝ }
+    ensures { λ _. ⌜ (Kept (λ j. Out i 4 j) (came s) (left s)) × (quatAt (left s) i ≡ q) ⌝ }
 {
     s[i] = q.x;
     s[i + 1] = q.y;
@@ -49,7 +48,7 @@ fn store4(s: &mut [f64], i: usize, q: Quat)
 
 fn load_mat3(s: &[f64], i: usize) -> Mat3
     requires { ⌜ i + 9 ≤ length (now s) ⌝ }
-    ensures { λ r. ⌜ r ≡ matAt (now (s .entry)) i ⌝ }
+    ensures { λ r. ⌜ r ≡ matAt (came s) i ⌝ }
 {
     let x = load3(s, i);
     let y = load3(s, i + 3);
@@ -59,7 +58,7 @@ fn load_mat3(s: &[f64], i: usize) -> Mat3
 
 fn store_mat3(s: &mut [f64], i: usize, m: Mat3)
     requires { ⌜ i + 9 ≤ length (now s) ⌝ }
-    ensures { λ _. ⌜ (Kept (λ j. Out i 9 j) (now (s .entry)) (now (s .exit))) × (matAt (now (s .exit)) i ≡ colsOf m) ⌝ }
+    ensures { λ _. ⌜ (Kept (λ j. Out i 9 j) (came s) (left s)) × (matAt (left s) i ≡ colsOf m) ⌝ }
 {
     let c = m.to_columns();
     store3(s, i, Vec3::new(c[0][0], c[0][1], c[0][2]));
@@ -70,7 +69,7 @@ fn store_mat3(s: &mut [f64], i: usize, m: Mat3)
 // Record k of a body slice.
 pub(crate) fn load_record(bodies: &[f64], k: usize) -> RigidBody
     requires { ⌜ 26 * k + 26 ≤ length (now bodies) ⌝ }
-    ensures { λ r. ⌜ r ≡ recordAt (now (bodies .entry)) k ⌝ }
+    ensures { λ r. ⌜ r ≡ recordAt (came bodies) k ⌝ }
 {
     let i = RECORD * k;
     RigidBody {
@@ -87,7 +86,7 @@ pub(crate) fn load_record(bodies: &[f64], k: usize) -> RigidBody
 // The 13 numbers at i as a state.
 pub(crate) fn load_state(s: &[f64], i: usize) -> BodyState
     requires { ⌜ i + 13 ≤ length (now s) ⌝ }
-    ensures { λ r. ⌜ r ≡ stateAt (now (s .entry)) i ⌝ }
+    ensures { λ r. ⌜ r ≡ stateAt (came s) i ⌝ }
 {
     BodyState {
         origin: load3(s, i),
@@ -99,7 +98,7 @@ pub(crate) fn load_state(s: &[f64], i: usize) -> BodyState
 
 pub(crate) fn store_state(s: &mut [f64], i: usize, state: BodyState)
     requires { ⌜ i + 13 ≤ length (now s) ⌝ }
-    ensures { λ _. ⌜ (Kept (λ j. Out i 13 j) (now (s .entry)) (now (s .exit))) × (stateAt (now (s .exit)) i ≡ state) ⌝ }
+    ensures { λ _. ⌜ (Kept (λ j. Out i 13 j) (came s) (left s)) × (stateAt (left s) i ≡ state) ⌝ }
 {
     store3(s, i, state.origin);
     store4(s, i + 3, state.rotation);
@@ -109,7 +108,7 @@ pub(crate) fn store_state(s: &mut [f64], i: usize, state: BodyState)
 
 fn store_moving(s: &mut [f64], i: usize, body: MomentumBody)
     requires { ⌜ i + 13 ≤ length (now s) ⌝ }
-    ensures { λ _. ⌜ (Kept (λ j. Out i 13 j) (now (s .entry)) (now (s .exit))) × (movingAt (now (s .exit)) i ≡ movingOf body) ⌝ }
+    ensures { λ _. ⌜ (Kept (λ j. Out i 13 j) (came s) (left s)) × (movingAt (left s) i ≡ movingOf body) ⌝ }
 {
     store3(s, i, body.center);
     store4(s, i + 3, body.rotation);
@@ -120,7 +119,7 @@ fn store_moving(s: &mut [f64], i: usize, body: MomentumBody)
 // What does not move: mass, local centre and inverse inertia.
 fn store_fixed(s: &mut [f64], i: usize, body: MomentumBody)
     requires { ⌜ i + 13 ≤ length (now s) ⌝ }
-    ensures { λ _. ⌜ (Kept (λ j. Out i 13 j) (now (s .entry)) (now (s .exit))) × (fixedAt (now (s .exit)) i ≡ fixedOf body) ⌝ }
+    ensures { λ _. ⌜ (Kept (λ j. Out i 13 j) (came s) (left s)) × (fixedAt (left s) i ≡ fixedOf body) ⌝ }
 {
     store3(s, i + 1, body.center_of_mass);
     store_mat3(s, i + 4, body.inverse_inertia);
@@ -128,8 +127,8 @@ fn store_fixed(s: &mut [f64], i: usize, body: MomentumBody)
 }
 
 pub(crate) fn store_start(s: &mut [f64], k: usize, body: MomentumBody)
-    requires { ⌜ (END ≤ length (now s)) × (k < 16) ⌝ }
-    ensures { λ _. ⌜ (Kept (λ j. Out (START + 26 * k) 26 j) (now (s .entry)) (now (s .exit))) × (startBodyAt (now (s .exit)) k ≡ heldOf body) ⌝ }
+    requires { ⌜ (USED ≤ length (now s)) × (k < 16) ⌝ }
+    ensures { λ _. ⌜ (Kept (λ j. Out (START + 26 * k) 26 j) (came s) (left s)) × (startBodyAt (left s) k ≡ heldOf body) ⌝ }
 {
     let i = START + RECORD * k;
     store_moving(s, i, body);
@@ -137,16 +136,16 @@ pub(crate) fn store_start(s: &mut [f64], k: usize, body: MomentumBody)
 }
 
 pub(crate) fn store_candidate(s: &mut [f64], k: usize, body: MomentumBody)
-    requires { ⌜ (END ≤ length (now s)) × (k < 16) ⌝ }
-    ensures { λ _. ⌜ (Kept (λ j. Out (CANDIDATE + 13 * k) 13 j) (now (s .entry)) (now (s .exit))) × (candidateAt (now (s .exit)) k ≡ movedTo body (startBodyAt (now (s .entry)) k)) ⌝ }
+    requires { ⌜ (USED ≤ length (now s)) × (k < 16) ⌝ }
+    ensures { λ _. ⌜ (Kept (λ j. Out (CANDIDATE + 13 * k) 13 j) (came s) (left s)) × (candidateAt (left s) k ≡ movedTo body (startBodyAt (came s) k)) ⌝ }
 {
     store_moving(s, CANDIDATE + MOVING * k, body);
 }
 
 // The body whose moving numbers stand at i; mass and inertia are those of the start.
 fn load_body(s: &[f64], i: usize, k: usize) -> MomentumBody
-    requires { ⌜ (i + 13 ≤ length (now s)) × (END ≤ length (now s)) × (k < 16) ⌝ }
-    ensures { λ r. ⌜ r ≡ bodyFrom (now (s .entry)) i (START + 26 * k) ⌝ }
+    requires { ⌜ (i + 13 ≤ length (now s)) × (USED ≤ length (now s)) × (k < 16) ⌝ }
+    ensures { λ r. ⌜ r ≡ bodyFrom (came s) i (START + 26 * k) ⌝ }
 {
     let j = START + RECORD * k;
     MomentumBody {
@@ -161,23 +160,23 @@ fn load_body(s: &[f64], i: usize, k: usize) -> MomentumBody
 }
 
 pub(crate) fn load_start(s: &[f64], k: usize) -> MomentumBody
-    requires { ⌜ (END ≤ length (now s)) × (k < 16) ⌝ }
-    ensures { λ r. ⌜ r ≡ startBodyAt (now (s .entry)) k ⌝ }
+    requires { ⌜ (USED ≤ length (now s)) × (k < 16) ⌝ }
+    ensures { λ r. ⌜ r ≡ startBodyAt (came s) k ⌝ }
 {
     load_body(s, START + RECORD * k, k)
 }
 
 pub(crate) fn load_candidate(s: &[f64], k: usize) -> MomentumBody
-    requires { ⌜ (END ≤ length (now s)) × (k < 16) ⌝ }
-    ensures { λ r. ⌜ r ≡ candidateAt (now (s .entry)) k ⌝ }
+    requires { ⌜ (USED ≤ length (now s)) × (k < 16) ⌝ }
+    ensures { λ r. ⌜ r ≡ candidateAt (came s) k ⌝ }
 {
     load_body(s, CANDIDATE + MOVING * k, k)
 }
 
 // Whether every resulting origin is on the plan's ground. The states stand where the candidates were.
 pub(crate) fn in_ground(s: &[f64], n: usize) -> bool
-    requires { ⌜ (END ≤ length (now s)) × (n ≤ 16) ⌝ }
-    ensures { λ r. ⌜ r ≡ every n (λ k. withinOf (vec3At (now (s .entry)) (CANDIDATE + 13 * k)) (ratio 8192 1)) ⌝ }
+    requires { ⌜ (USED ≤ length (now s)) × (n ≤ 16) ⌝ }
+    ensures { λ r. ⌜ r ≡ every n (λ k. withinOf (vec3At (came s) (CANDIDATE + 13 * k)) (ratio 8192 1)) ⌝ }
 {
     for k in 0..n {
         if !within(load3(s, CANDIDATE + MOVING * k), 8192.0) {
@@ -189,8 +188,8 @@ pub(crate) fn in_ground(s: &[f64], n: usize) -> bool
 
 // Hands the states back: the first 13 numbers of each record.
 pub(crate) fn write_states(bodies: &mut [f64], s: &[f64], n: usize)
-    requires { ⌜ (26 * n ≤ length (now bodies)) × (END ≤ length (now s)) × (n ≤ 16) ⌝ }
-    ensures { λ _. ⌜ Handed n (now (s .entry)) (now (bodies .entry)) (now (bodies .exit)) ⌝ }
+    requires { ⌜ (26 * n ≤ length (now bodies)) × (USED ≤ length (now s)) × (n ≤ 16) ⌝ }
+    ensures { λ _. ⌜ Handed n (came s) (came bodies) (left bodies) ⌝ }
 {
     for k in 0..n {
         store_state(bodies, RECORD * k, load_state(s, CANDIDATE + MOVING * k));

@@ -1,6 +1,5 @@
 // The nonlinear loop of `solve` in solver.rs, and the run as a whole.
 use crate::RECORD;
-use crate::bodies::MOVING;
 use crate::bodies::load_candidate;
 use crate::bodies::load_record;
 use crate::bodies::load_start;
@@ -8,11 +7,14 @@ use crate::bodies::load_state;
 use crate::bodies::store_candidate;
 use crate::bodies::store_start;
 use crate::bodies::store_state;
-use crate::passes::Looped;
-use crate::passes::PassEnd;
+use crate::layout::CANDIDATE;
+use crate::layout::IMPULSES;
+use crate::layout::MOVING;
 use crate::passes::Passed;
-use crate::passes::loop_left;
+use crate::passes::Ran;
+use crate::passes::loop_ended;
 use crate::passes::pass_ended;
+use crate::passes::run_ended;
 use crate::velocity::velocity_loop;
 use arith::number::abs;
 use arith::number::is_finite;
@@ -26,10 +28,11 @@ use rows::geometry::Written;
 use rows::geometry::row_count;
 use rows::geometry::write_equality_rows;
 use solves::End;
-use solves::Outcome;
-use solves::layout::CANDIDATE;
+use solves::Ended;
+use solves::Pass;
+use solves::Table;
+use solves::done;
 use solves::layout::GENERALIZED;
-use solves::layout::IMPULSES;
 use solves::layout::MASSES;
 use solves::layout::RHS;
 use solves::layout::ROWS;
@@ -44,28 +47,32 @@ use solves::values::clear;
 use vectors::matrix::inverse_spd;
 use vectors::vector::Vec3;
 ghost use mathlib.Core.Path.{_≡_};
-ghost use Prim.Native.Nat.{ℕ, _+_, _*_, _-_, _≤_, _<_};
+ghost use Prim.Native.Nat.{ℕ, _+_, _*_, _≤_, _<_};
 ghost use lib.ListN.{length};
 ghost use mathlib.Core.Bool.{cond, _&&_};
 ghost use mathlib.Core.List.{List};
-ghost use lib.Dec.{leb};
 ghost use Rattle.arith.specs.Flow.{tab};
 ghost use Rattle.rows.specs.View.{Out};
-ghost use Rattle.rows.specs.Answer.{finishAs, bodyAs};
+ghost use Rattle.rows.specs.Answer.{bodyAs};
+ghost use Rattle.solves.specs.Lent.{came, left};
 ghost use Rattle.solves.specs.Region.{vecAt, Does};
 ghost use Rattle.solves.specs.Answer.{ranAs};
-ghost use Rattle.solves.specs.View.{START-ROWS, ROWS, MASSES, IMPULSES, RHS, SOLUTION, GENERALIZED, START, CANDIDATE, END, Rows, rowsOn, massAt, massesAt, generalizedsAt};
+ghost use Rattle.solves.specs.Search.{linearSolve};
+ghost use Rattle.solves.specs.View.{ROWS, MASSES, RHS, SOLUTION, GENERALIZED, rowsOn, massAt, massesAt, generalizedsAt};
+ghost use Rattle.step.specs.Layout.{IMPULSES, START, CANDIDATE, USED};
 ghost use Rattle.step.specs.Records.{bodyCount, recordAt, recordsOf};
-ghost use Rattle.step.specs.Step.{startBodies, writeRows, massResponse, prepareMasses, startOf, kickAndDrift, moveBodies, rowsMet, rhsOf, addImpulses, candidateOf, correctedBy, nonlinearPass, nonlinearLoop, statesOf, finishOf, runOf};
+ghost use Rattle.step.specs.Bodies.{startBodies, writeRows, massResponse, prepareMasses, kickAndDrift, moveBodies, rowsMet, rhsOf, addImpulses, candidateOf, statesOf};
+ghost use Rattle.step.specs.Step.{nonlinearPass, nonlinearLoop, finishOf, runFor};
 ghost use Rattle.step.specs.View.{startBodyAt, candidateAt, startBodiesAt, candidatesAt, statesAt};
-ghost use Rattle.step.specs.RunView.{bodiesAt, startedAt, foundAt, rowsBefore, Sides, Trying, massAs, passAs, loopedAs, progressAs};
+ghost use Rattle.step.specs.RunView.{bodiesAt, impulsesAt, candidateTable, jobFor, rowsBefore, Sides, Ours, Starting, Joins, massAs, leftAs, correction};
+ghost use Rattle.step.specs.Says.{Impels, Finds, Tries, Meets, Finishes, Starts};
 ghost use Rattle.step.specs.Ready.{Joined, RowBodies, Spread};
 
-// How the run ended, with both counts.
-pub(crate) struct Progress {
-    pub finish: Finish,
-    pub nonlinear: usize,
-    pub linear: usize,
+// What a run is about, beside its joints: how many there are, the time step, and whether there are at least as many as bodies.
+pub(crate) struct Task {
+    pub count: usize,
+    pub dt: f64,
+    pub cyclic: bool,
 }
 
 // A mass response, if it is finite.
@@ -74,9 +81,9 @@ pub(crate) struct MassAnswer {
     pub mass: MassResponse,
 }
 
-fn start_bodies(s: &mut [f64], bodies: &[f64], n: usize) -> Finish
-    requires { ⌜ (END ≤ length (now s)) × (26 * n ≤ length (now bodies)) × (n ≤ 16) ⌝ }
-    ensures { λ r. ⌜ Does (Out START 416) (now (s .entry)) (now (s .exit)) (finishAs r (startBodiesAt (now (s .exit)) n)) (startBodies (tab n (recordAt (now (bodies .entry))))) ⌝ }
+fn start_bodies(s: &mut [f64], bodies: &[f64], n: usize) -> End
+    requires { ⌜ (USED ≤ length (now s)) × (26 * n ≤ length (now bodies)) × (n ≤ 16) ⌝ }
+    ensures { λ r. ⌜ Does (Out START 416) (came s) (left s) (ranAs r (startBodiesAt (left s) n)) (startBodies (tab n (recordAt (came bodies)))) ⌝ }
 {
     for k in 0..n {
         let record = load_record(bodies, k);
@@ -87,19 +94,19 @@ fn start_bodies(s: &mut [f64], bodies: &[f64], n: usize) -> Finish
         match outcome {
             Finish::Done => store_start(s, k, made.body),
             Finish::NonConvergent => {
-                return Finish::NonConvergent;
+                return End::NonConvergent;
             }
             Finish::ArithmeticOverflow => {
-                return Finish::ArithmeticOverflow;
+                return End::ArithmeticOverflow;
             }
         }
     }
-    Finish::Done
+    End::Done
 }
 
 fn fill(index: &mut [usize], from: usize, n: usize, body: usize)
     requires { ⌜ from + n ≤ length (now index) ⌝ }
-    ensures { λ _. ⌜ Spread from n body (now (index .entry)) (now (index .exit)) ⌝ }
+    ensures { λ _. ⌜ Spread from n body (came index) (left index) ⌝ }
 {
     for k in from..from + n {
         index[k] = body;
@@ -109,7 +116,7 @@ fn fill(index: &mut [usize], from: usize, n: usize, body: usize)
 // The bodies of every row, and how many rows there are.
 fn row_bodies(ia: &mut [usize], ib: &mut [usize], joints: [Joint; 16], count: usize) -> usize
     requires { ⌜ (count ≤ 16) × (length (now ia) ≡ 96) × (length (now ib) ≡ 96) ⌝ }
-    ensures { λ r. ⌜ (RowBodies joints count r (now (ia .exit)) (now (ib .exit))) × (Sides joints count (now (ia .exit)) (now (ib .exit))) × (r ≡ rowsBefore joints count) ⌝ }
+    ensures { λ r. ⌜ (RowBodies joints count r (left ia) (left ib)) × (Sides joints count (left ia) (left ib)) × (r ≡ rowsBefore joints count) ⌝ }
 {
     let mut n = 0;
     for k in 0..count {
@@ -124,8 +131,8 @@ fn row_bodies(ia: &mut [usize], ib: &mut [usize], joints: [Joint; 16], count: us
 }
 
 fn load_moved(s: &[f64], k: usize, moved: bool) -> MomentumBody
-    requires { ⌜ (END ≤ length (now s)) × (k < 16) ⌝ }
-    ensures { λ r. ⌜ r ≡ cond moved (candidateAt (now (s .entry)) k) (startBodyAt (now (s .entry)) k) ⌝ }
+    requires { ⌜ (USED ≤ length (now s)) × (k < 16) ⌝ }
+    ensures { λ r. ⌜ r ≡ cond moved (candidateAt (came s) k) (startBodyAt (came s) k) ⌝ }
 {
     if moved {
         return load_candidate(s, k);
@@ -134,9 +141,9 @@ fn load_moved(s: &[f64], k: usize, moved: bool) -> MomentumBody
 }
 
 // The rows of all joints, of the bodies at the start or of the candidates.
-fn write_rows(s: &mut [f64], joints: [Joint; 16], count: usize, rows: usize, moved: bool) -> Finish
-    requires { ⌜ (END ≤ length (now s)) × (rows ≤ ROWS) × (Joined joints count 16) ⌝ }
-    ensures { λ r. ⌜ ((size : ℕ) → Joined joints count size → (ia ib : List ℕ) → Sides joints count ia ib → Does (Out rows 1344) (now (s .entry)) (now (s .exit)) (finishAs r (rowsOn ia ib (now (s .exit)) rows (rowsBefore joints count))) (writeRows joints count (bodiesAt moved (now (s .entry)) size))) ⌝ }
+fn write_rows(s: &mut [f64], joints: [Joint; 16], count: usize, rows: usize, moved: bool) -> End
+    requires { ⌜ (USED ≤ length (now s)) × (rows ≤ ROWS) × (Joined joints count 16) ⌝ }
+    ensures { λ r. ⌜ ((size : ℕ) → Joined joints count size → (ia ib : List ℕ) → Sides joints count ia ib → Does (Out rows 1344) (came s) (left s) (ranAs r (rowsOn ia ib (left s) rows (rowsBefore joints count))) (writeRows joints count (bodiesAt moved (came s) size))) ⌝ }
 {
     let mut n = 0;
     for k in 0..count {
@@ -148,14 +155,14 @@ fn write_rows(s: &mut [f64], joints: [Joint; 16], count: usize, rows: usize, mov
                 n += m;
             }
             Written::NonConvergent => {
-                return Finish::NonConvergent;
+                return End::NonConvergent;
             }
             Written::ArithmeticOverflow => {
-                return Finish::ArithmeticOverflow;
+                return End::ArithmeticOverflow;
             }
         }
     }
-    Finish::Done
+    End::Done
 }
 
 // The mass response of a body at its rotation.
@@ -184,13 +191,13 @@ fn all_three(a: bool, b: bool, c: bool) -> bool
     false
 }
 
-fn prepare_mass(s: &mut [f64], k: usize, body: MomentumBody) -> Outcome
-    requires { ⌜ (END ≤ length (now s)) × (k < 16) ⌝ }
-    ensures { λ r. ⌜ Does (Out (MASSES + 10 * k) 10) (now (s .entry)) (now (s .exit)) (ranAs r (massAt (now (s .exit)) MASSES k)) (massResponse body) ⌝ }
+fn prepare_mass(s: &mut [f64], k: usize, body: MomentumBody) -> End
+    requires { ⌜ (USED ≤ length (now s)) × (k < 16) ⌝ }
+    ensures { λ r. ⌜ Does (Out (MASSES + 10 * k) 10) (came s) (left s) (ranAs r (massAt (left s) MASSES k)) (massResponse body) ⌝ }
 {
     let answer = mass_response(body);
     if !answer.some {
-        return Outcome::ArithmeticOverflow;
+        return End::ArithmeticOverflow;
     }
     let mass = answer.mass;
     let angular = mass.angular;
@@ -198,20 +205,21 @@ fn prepare_mass(s: &mut [f64], k: usize, body: MomentumBody) -> Outcome
     let y = angular.column(1);
     let z = angular.column(2);
     store_mass(s, MASSES, k, mass.linear, x, y, z);
-    Outcome::Done
+    End::Done
 }
 
-fn prepare_masses(s: &mut [f64], n: usize, moved: bool) -> Outcome
-    requires { ⌜ (END ≤ length (now s)) × (n ≤ 16) ⌝ }
-    ensures { λ r. ⌜ Does (Out MASSES 160) (now (s .entry)) (now (s .exit)) (ranAs r (massesAt (now (s .exit)) MASSES n)) (prepareMasses (bodiesAt moved (now (s .entry)) n)) ⌝ }
+fn prepare_masses(s: &mut [f64], n: usize, moved: bool) -> End
+    requires { ⌜ (USED ≤ length (now s)) × (n ≤ 16) ⌝ }
+    ensures { λ r. ⌜ Does (Out MASSES 160) (came s) (left s) (ranAs r (massesAt (left s) MASSES n)) (prepareMasses (bodiesAt moved (came s) n)) ⌝ }
 {
     for k in 0..n {
         let body = load_moved(s, k, moved);
-        if let Outcome::ArithmeticOverflow = prepare_mass(s, k, body) {
-            return Outcome::ArithmeticOverflow;
+        let end = prepare_mass(s, k, body);
+        if !done(end) {
+            return end;
         }
     }
-    Outcome::Done
+    End::Done
 }
 
 // A body kicked by its share, and drifted.
@@ -228,9 +236,9 @@ fn kick_and_drift(body: MomentumBody, linear: Vec3, angular: Vec3, dt: f64) -> B
 }
 
 // The candidates: each pass restarts from the starting bodies with the summed impulses.
-fn move_bodies(s: &mut [f64], n: usize, dt: f64) -> Finish
-    requires { ⌜ (END ≤ length (now s)) × (n ≤ 16) ⌝ }
-    ensures { λ r. ⌜ Does (Out CANDIDATE 208) (now (s .entry)) (now (s .exit)) (finishAs r (candidatesAt (now (s .exit)) n)) (moveBodies dt (startBodiesAt (now (s .entry)) n) (generalizedsAt (now (s .entry)) GENERALIZED n)) ⌝ }
+fn move_bodies(s: &mut [f64], n: usize, dt: f64) -> End
+    requires { ⌜ (USED ≤ length (now s)) × (n ≤ 16) ⌝ }
+    ensures { λ r. ⌜ Does (Out CANDIDATE 208) (came s) (left s) (ranAs r (candidatesAt (left s) n)) (moveBodies dt (startBodiesAt (came s) n) (generalizedsAt (came s) GENERALIZED n)) ⌝ }
 {
     for k in 0..n {
         let share = load_generalized(s, GENERALIZED, k);
@@ -239,19 +247,19 @@ fn move_bodies(s: &mut [f64], n: usize, dt: f64) -> Finish
         match outcome {
             Finish::Done => store_candidate(s, k, moved.body),
             Finish::NonConvergent => {
-                return Finish::NonConvergent;
+                return End::NonConvergent;
             }
             Finish::ArithmeticOverflow => {
-                return Finish::ArithmeticOverflow;
+                return End::ArithmeticOverflow;
             }
         }
     }
-    Finish::Done
+    End::Done
 }
 
 fn rows_met(s: &[f64], n: usize) -> bool
-    requires { ⌜ (END ≤ length (now s)) × (n ≤ 96) ⌝ }
-    ensures { λ r. ⌜ ((ia ib : List ℕ) → r ≡ rowsMet (rowsOn ia ib (now (s .entry)) ROWS n)) ⌝ }
+    requires { ⌜ (USED ≤ length (now s)) × (n ≤ 96) ⌝ }
+    ensures { λ r. ⌜ ((ia ib : List ℕ) → r ≡ rowsMet (rowsOn ia ib (came s) ROWS n)) ⌝ }
 {
     for k in 0..n {
         let value = s[ROWS + ROW * k + 12];
@@ -263,57 +271,44 @@ fn rows_met(s: &[f64], n: usize) -> bool
 }
 
 fn fill_rhs(s: &mut [f64], dt: f64, n: usize)
-    requires { ⌜ (END ≤ length (now s)) × (n ≤ 96) ⌝ }
-    ensures { λ _. ⌜ ((ia ib : List ℕ) → Does (Out RHS 96) (now (s .entry)) (now (s .exit)) (vecAt (now (s .exit)) RHS n) (rhsOf dt (rowsOn ia ib (now (s .entry)) ROWS n))) ⌝ }
+    requires { ⌜ (USED ≤ length (now s)) × (n ≤ 96) ⌝ }
+    ensures { λ _. ⌜ ((ia ib : List ℕ) → Does (Out RHS 96) (came s) (left s) (vecAt (left s) RHS n) (rhsOf dt (rowsOn ia ib (came s) ROWS n))) ⌝ }
 {
     for k in 0..n {
         s[RHS + k] = -s[ROWS + ROW * k + 12] / dt;
     }
 }
 
-fn add_impulses(s: &mut [f64], n: usize) -> Outcome
-    requires { ⌜ (END ≤ length (now s)) × (n ≤ 96) ⌝ }
-    ensures { λ r. ⌜ Does (Out IMPULSES 96) (now (s .entry)) (now (s .exit)) (ranAs r (vecAt (now (s .exit)) IMPULSES n)) (addImpulses (vecAt (now (s .entry)) IMPULSES n) (vecAt (now (s .entry)) SOLUTION n)) ⌝ }
+fn add_impulses(s: &mut [f64], n: usize) -> End
+    requires { ⌜ (USED ≤ length (now s)) × (n ≤ 96) ⌝ }
+    ensures { λ r. ⌜ Does (Out IMPULSES 96) (came s) (left s) (ranAs r (vecAt (left s) IMPULSES n)) (addImpulses (vecAt (came s) IMPULSES n) (vecAt (came s) SOLUTION n)) ⌝ }
 {
     for k in 0..n {
         let sum = s[IMPULSES + k] + s[SOLUTION + k];
         s[IMPULSES + k] = sum;
         if !is_finite(sum) {
-            return Outcome::ArithmeticOverflow;
+            return End::ArithmeticOverflow;
         }
     }
-    Outcome::Done
+    End::Done
 }
 
 // The second half of a pass: the impulses that the rows' values ask for, along the starting rows.
-fn correct(
-    s: &mut [f64],
-    ia: &[usize; 96],
-    ib: &[usize; 96],
-    n: usize,
-    bodies: usize,
-    dt: f64,
-    cyclic: bool,
-) -> Passed
-    requires { ⌜ (Rows (now s) (now ia) (now ib) START-ROWS n bodies) ⌝ }
-    ensures { λ r. ⌜ (Does Trying (now (s .entry)) (now (s .exit)) (passAs r (vecAt (now (s .exit)) IMPULSES n) (foundAt (now (ia .entry)) (now (ib .entry)) (now (s .exit)) n bodies)) (correctedBy dt cyclic (startedAt (now (ia .entry)) (now (ib .entry)) (now (s .entry)) n bodies) (vecAt (now (s .entry)) IMPULSES n) (rowsOn (now (ia .entry)) (now (ib .entry)) (now (s .entry)) ROWS n))) × (r .passes ≤ 448) ⌝ }
+fn correct(s: &mut [f64], ia: &[usize; 96], ib: &[usize; 96], t: Table, task: Task) -> Passed
+    requires { ⌜ Starting s ia ib t ⌝ }
+    ensures { λ r. ⌜ Impels s ia ib t r (λ start rows. correction (linearSolve (task .cyclic) (start .system) (rhsOf (task .dt) rows)) (addImpulses (impulsesAt (came s) t))) ⌝ }
 {
-    fill_rhs(s, dt, n);
-    let ended = linear_solve(s, ia, ib, START_ROWS, n, bodies, cyclic);
-    let passes = ended.passes;
-    let end = ended.end;
-    match end {
-        End::Solved => {
-            if let Outcome::ArithmeticOverflow = add_impulses(s, n) {
-                return pass_ended(PassEnd::ArithmeticOverflow, passes);
-            }
-            pass_ended(PassEnd::Next, passes)
-        }
-        End::ArithmeticOverflow => pass_ended(PassEnd::ArithmeticOverflow, passes),
-        End::NonConvergent => pass_ended(PassEnd::NonConvergent, passes),
-        // Only the path declines, inside of the solve.
-        End::Declined => pass_ended(PassEnd::NonConvergent, passes),
+    fill_rhs(s, task.dt, t.rows);
+    let solved = linear_solve(s, ia, ib, t, task.cyclic);
+    let end = solved.end;
+    if !done(end) {
+        return pass_ended(Pass::Over(end), solved.linear);
     }
+    let added = add_impulses(s, t.rows);
+    if !done(added) {
+        return pass_ended(Pass::Over(added), solved.linear);
+    }
+    pass_ended(Pass::Again, solved.linear)
 }
 
 // The first half: the candidates and their rows.
@@ -321,57 +316,43 @@ fn candidate(
     s: &mut [f64],
     ia: &[usize; 96],
     ib: &[usize; 96],
+    t: Table,
     joints: [Joint; 16],
-    count: usize,
-    n: usize,
-    bodies: usize,
-    dt: f64,
-) -> Finish
-    requires { ⌜ (Rows (now s) (now ia) (now ib) START-ROWS n bodies) × (Joined joints count bodies) × (Sides joints count (now ia) (now ib)) × (n ≡ rowsBefore joints count) ⌝ }
-    ensures { λ r. ⌜ Does Trying (now (s .entry)) (now (s .exit)) (finishAs r (foundAt (now (ia .entry)) (now (ib .entry)) (now (s .exit)) n bodies)) (candidateOf joints count dt (startedAt (now (ia .entry)) (now (ib .entry)) (now (s .entry)) n bodies) (vecAt (now (s .entry)) IMPULSES n)) × (vecAt (now (s .exit)) IMPULSES n ≡ vecAt (now (s .entry)) IMPULSES n) ⌝ }
+    task: Task,
+) -> End
+    requires { ⌜ (Starting s ia ib t) × (Joins joints (task .count) ia ib t) ⌝ }
+    ensures { λ r. ⌜ Finds s ia ib t r (candidateOf (jobFor joints task)) × (impulsesAt (left s) t ≡ impulsesAt (came s) t) ⌝ }
 {
-    if let Outcome::ArithmeticOverflow = transpose(s, ia, ib, START_ROWS, IMPULSES, n, bodies) {
-        return Finish::ArithmeticOverflow;
+    let pushed = transpose(s, ia, ib, t, IMPULSES);
+    if !done(pushed) {
+        return pushed;
     }
-    match move_bodies(s, bodies, dt) {
-        Finish::Done => write_rows(s, joints, count, ROWS, true),
-        Finish::NonConvergent => Finish::NonConvergent,
-        Finish::ArithmeticOverflow => Finish::ArithmeticOverflow,
+    let moved = move_bodies(s, t.bodies, task.dt);
+    if !done(moved) {
+        return moved;
     }
+    write_rows(s, joints, task.count, ROWS, true)
 }
 
 fn nonlinear_pass(
     s: &mut [f64],
     ia: &[usize; 96],
     ib: &[usize; 96],
+    t: Table,
     joints: [Joint; 16],
-    count: usize,
-    n: usize,
-    bodies: usize,
-    dt: f64,
+    task: Task,
 ) -> Passed
-    requires { ⌜ (Rows (now s) (now ia) (now ib) START-ROWS n bodies) × (Joined joints count bodies) × (Sides joints count (now ia) (now ib)) × (n ≡ rowsBefore joints count) ⌝ }
-    ensures { λ r. ⌜ (Does Trying (now (s .entry)) (now (s .exit)) (passAs r (vecAt (now (s .exit)) IMPULSES n) (foundAt (now (ia .entry)) (now (ib .entry)) (now (s .exit)) n bodies)) (nonlinearPass joints count dt (leb bodies count) (startedAt (now (ia .entry)) (now (ib .entry)) (now (s .entry)) n bodies) (vecAt (now (s .entry)) IMPULSES n))) × (r .passes ≤ 448) ⌝ }
+    requires { ⌜ (Starting s ia ib t) × (Joins joints (task .count) ia ib t) ⌝ }
+    ensures { λ r. ⌜ Tries s ia ib t r (nonlinearPass (jobFor joints task)) ⌝ }
 {
-    match candidate(s, ia, ib, joints, count, n, bodies, dt) {
-        Finish::Done => {
-            if rows_met(s, n) {
-                return Passed {
-                    end: PassEnd::Met,
-                    passes: 0,
-                };
-            }
-            correct(s, ia, ib, n, bodies, dt, bodies <= count)
-        }
-        Finish::NonConvergent => Passed {
-            end: PassEnd::NonConvergent,
-            passes: 0,
-        },
-        Finish::ArithmeticOverflow => Passed {
-            end: PassEnd::ArithmeticOverflow,
-            passes: 0,
-        },
+    let found = candidate(s, ia, ib, t, joints, task);
+    if !done(found) {
+        return pass_ended(Pass::Over(found), 0);
     }
+    if rows_met(s, t.rows) {
+        return pass_ended(Pass::Over(End::Done), 0);
+    }
+    correct(s, ia, ib, t, task)
 }
 
 // From no impulse, at most 32 passes, each counted when begun.
@@ -379,153 +360,119 @@ fn nonlinear_loop(
     s: &mut [f64],
     ia: &[usize; 96],
     ib: &[usize; 96],
+    t: Table,
     joints: [Joint; 16],
-    count: usize,
-    n: usize,
-    bodies: usize,
-    dt: f64,
-) -> Looped
-    requires { ⌜ (Rows (now s) (now ia) (now ib) START-ROWS n bodies) × (Joined joints count bodies) × (Sides joints count (now ia) (now ib)) × (n ≡ rowsBefore joints count) ⌝ }
-    ensures { λ r. ⌜ (Does Trying (now (s .entry)) (now (s .exit)) (loopedAs r (foundAt (now (ia .entry)) (now (ib .entry)) (now (s .exit)) n bodies)) (nonlinearLoop joints count dt (leb bodies count) (startedAt (now (ia .entry)) (now (ib .entry)) (now (s .entry)) n bodies))) × (r .begun ≤ 32) × (r .passes ≤ 448 * 32) ⌝ }
+    task: Task,
+) -> Ran
+    requires { ⌜ (Starting s ia ib t) × (Joins joints (task .count) ia ib t) ⌝ }
+    ensures { λ r. ⌜ Meets s ia ib t r (nonlinearLoop (jobFor joints task)) ⌝ }
 {
-    clear(s, IMPULSES, n);
-    let mut passes = 0;
+    clear(s, IMPULSES, t.rows);
+    let mut linear = 0;
     for k in 0..32usize {
-        let passed = nonlinear_pass(s, ia, ib, joints, count, n, bodies, dt);
-        passes += passed.passes;
-        let end = passed.end;
-        match end {
-            PassEnd::Next => {}
-            PassEnd::Met => {
-                return loop_left(Finish::Done, k + 1, passes);
-            }
-            PassEnd::NonConvergent => {
-                return loop_left(Finish::NonConvergent, k + 1, passes);
-            }
-            PassEnd::ArithmeticOverflow => {
-                return loop_left(Finish::ArithmeticOverflow, k + 1, passes);
-            }
+        let passed = nonlinear_pass(s, ia, ib, t, joints, task);
+        linear += passed.linear;
+        let pass = passed.pass;
+        if let Pass::Over(end) = pass {
+            return run_ended(end, k + 1, linear);
         }
     }
-    loop_left(Finish::NonConvergent, 32, passes)
+    run_ended(End::NonConvergent, 32, linear)
 }
 
 // The states of the candidates, in their places.
-fn make_states(s: &mut [f64], bodies: &[f64], n: usize) -> Finish
-    requires { ⌜ (END ≤ length (now s)) × (n ≤ bodyCount (now bodies)) × (n ≤ 16) ⌝ }
-    ensures { λ r. ⌜ Does (Out CANDIDATE 208) (now (s .entry)) (now (s .exit)) (finishAs r (statesAt (now (s .exit)) n)) (statesOf (recordsOf (now (bodies .entry))) (candidatesAt (now (s .entry)) n)) ⌝ }
+fn make_states(s: &mut [f64], bodies: &[f64], n: usize) -> End
+    requires { ⌜ (USED ≤ length (now s)) × (n ≤ bodyCount (now bodies)) × (n ≤ 16) ⌝ }
+    ensures { λ r. ⌜ Does (Out CANDIDATE 208) (came s) (left s) (ranAs r (statesAt (left s) n)) (statesOf (recordsOf (came bodies)) (candidatesAt (came s) n)) ⌝ }
 {
     for k in 0..n {
         let body = load_candidate(s, k);
         match body.state(load_state(bodies, RECORD * k)) {
             StateAnswer::Value(state) => store_state(s, CANDIDATE + MOVING * k, state),
             StateAnswer::ArithmeticOverflow => {
-                return Finish::ArithmeticOverflow;
+                return End::ArithmeticOverflow;
             }
         }
     }
-    Finish::Done
+    End::Done
 }
 
-fn run_ended(finish: Finish, nonlinear: usize, linear: usize) -> Progress
-    ensures { λ r. ⌜ r ≡ record { finish = finish; nonlinear = nonlinear; linear = linear } ⌝ }
-{
-    Progress {
-        finish,
-        nonlinear,
-        linear,
-    }
-}
-
-// The velocity loop and the states, after the nonlinear loop met its rows.
+// The velocity loop over the candidates' rows and the states, after the nonlinear loop met its rows.
 fn finish_run(
     s: &mut [f64],
     ia: &[usize; 96],
     ib: &[usize; 96],
+    t: Table,
     bodies: &[f64],
-    count: usize,
-    n: usize,
-    met: Looped,
-) -> Progress
-    requires { ⌜ (Rows (now s) (now ia) (now ib) ROWS n (bodyCount (now bodies))) × (met .passes ≤ 448 * 32) ⌝ }
-    ensures { λ r. ⌜ (Does (Out MASSES (END - MASSES)) (now (s .entry)) (now (s .exit)) (progressAs r (statesAt (now (s .exit)) (bodyCount (now (bodies .entry))))) (finishOf (recordsOf (now (bodies .entry))) (leb (bodyCount (now (bodies .entry))) count) (met .begun) (met .passes) (foundAt (now (ia .entry)) (now (ib .entry)) (now (s .entry)) n (bodyCount (now (bodies .entry)))))) ⌝ }
+    cyclic: bool,
+) -> Ended
+    requires { ⌜ (Ours s ia ib (candidateTable t)) × (t .bodies ≤ bodyCount (now bodies)) ⌝ }
+    ensures { λ r. ⌜ Finishes s ia ib t r (finishOf cyclic (recordsOf (came bodies))) ⌝ }
 {
-    let size = bodies.len() / RECORD;
-    if let Outcome::ArithmeticOverflow = prepare_masses(s, size, true) {
-        return run_ended(Finish::ArithmeticOverflow, met.begun, met.passes);
+    let weighed = prepare_masses(s, t.bodies, true);
+    if !done(weighed) {
+        return loop_ended(weighed, 0);
     }
-    let corrected = velocity_loop(s, ia, ib, n, size, size <= count);
-    let linear = met.passes + corrected.passes;
-    let finish = corrected.finish;
-    match finish {
-        Finish::Done => {
-            let made = make_states(s, bodies, size);
-            run_ended(made, met.begun, linear)
-        }
-        Finish::NonConvergent => run_ended(Finish::NonConvergent, met.begun, linear),
-        Finish::ArithmeticOverflow => run_ended(Finish::ArithmeticOverflow, met.begun, linear),
+    let rows = Table {
+        place: ROWS,
+        rows: t.rows,
+        bodies: t.bodies,
+    };
+    let corrected = velocity_loop(s, ia, ib, rows, cyclic);
+    let end = corrected.end;
+    if !done(end) {
+        return corrected;
     }
+    let made = make_states(s, bodies, t.bodies);
+    loop_ended(made, corrected.linear)
 }
 
 // What stands before the first pass: starting bodies, rows and masses.
-fn start(s: &mut [f64], bodies: &[f64], joints: [Joint; 16], count: usize) -> Finish
-    requires { ⌜ (END ≤ length (now s)) × (Joined joints count (bodyCount (now bodies))) ⌝ }
-    ensures { λ r. ⌜ ((ia ib : List ℕ) → Sides joints count ia ib → Does (Out 0 END) (now (s .entry)) (now (s .exit)) (finishAs r (startedAt ia ib (now (s .exit)) (rowsBefore joints count) (bodyCount (now (bodies .entry))))) (startOf (recordsOf (now (bodies .entry))) joints count)) ⌝ }
+fn start(s: &mut [f64], bodies: &[f64], joints: [Joint; 16], task: Task) -> End
+    requires { ⌜ (USED ≤ length (now s)) × (Joined joints (task .count) (bodyCount (now bodies))) ⌝ }
+    ensures { λ r. ⌜ Starts s bodies joints task r ⌝ }
 {
     let size = bodies.len() / RECORD;
-    match start_bodies(s, bodies, size) {
-        Finish::Done => {}
-        Finish::NonConvergent => {
-            return Finish::NonConvergent;
-        }
-        Finish::ArithmeticOverflow => {
-            return Finish::ArithmeticOverflow;
-        }
+    let made = start_bodies(s, bodies, size);
+    if !done(made) {
+        return made;
     }
-    match write_rows(s, joints, count, START_ROWS, false) {
-        Finish::Done => {}
-        Finish::NonConvergent => {
-            return Finish::NonConvergent;
-        }
-        Finish::ArithmeticOverflow => {
-            return Finish::ArithmeticOverflow;
-        }
+    let written = write_rows(s, joints, task.count, START_ROWS, false);
+    if !done(written) {
+        return written;
     }
-    match prepare_masses(s, size, false) {
-        Outcome::Done => Finish::Done,
-        Outcome::ArithmeticOverflow => Finish::ArithmeticOverflow,
-    }
+    prepare_masses(s, size, false)
 }
 
 // From the starting bodies to the states.
-pub(crate) fn run(
-    bodies: &[f64],
-    joints: [Joint; 16],
-    count: usize,
-    dt: f64,
-    s: &mut [f64],
-) -> Progress
-    requires { ⌜ (END ≤ length (now s)) × (Joined joints count (bodyCount (now bodies))) ⌝ }
-    ensures { λ r. ⌜ Does (Out 0 END) (now (s .entry)) (now (s .exit)) (progressAs r (statesAt (now (s .exit)) (bodyCount (now (bodies .entry))))) (runOf (recordsOf (now (bodies .entry))) joints count dt) ⌝ }
+pub(crate) fn run(bodies: &[f64], joints: [Joint; 16], count: usize, dt: f64, s: &mut [f64]) -> Ran
+    requires { ⌜ (USED ≤ length (now s)) × (Joined joints count (bodyCount (now bodies))) ⌝ }
+    ensures { λ r. ⌜ Does (Out 0 USED) (came s) (left s) (leftAs r (statesAt (left s) (bodyCount (came bodies)))) (runFor (came bodies) joints count dt) ⌝ }
 {
     let size = bodies.len() / RECORD;
+    let task = Task {
+        count,
+        dt,
+        cyclic: size <= count,
+    };
     let mut ia = [0usize; 96];
     let mut ib = [0usize; 96];
-    let n = row_bodies(&mut ia, &mut ib, joints, count);
-    match start(s, bodies, joints, count) {
-        Finish::Done => {}
-        Finish::NonConvergent => {
-            return run_ended(Finish::NonConvergent, 0, 0);
-        }
-        Finish::ArithmeticOverflow => {
-            return run_ended(Finish::ArithmeticOverflow, 0, 0);
-        }
+    let rows = row_bodies(&mut ia, &mut ib, joints, count);
+    let started = start(s, bodies, joints, task);
+    if !done(started) {
+        return run_ended(started, 0, 0);
     }
-    let met = nonlinear_loop(s, &ia, &ib, joints, count, n, size, dt);
-    let finish = met.finish;
-    match finish {
-        Finish::Done => finish_run(s, &ia, &ib, bodies, count, n, met),
-        Finish::NonConvergent => run_ended(Finish::NonConvergent, met.begun, met.passes),
-        Finish::ArithmeticOverflow => run_ended(Finish::ArithmeticOverflow, met.begun, met.passes),
+    let t = Table {
+        place: START_ROWS,
+        rows,
+        bodies: size,
+    };
+    let met = nonlinear_loop(s, &ia, &ib, t, joints, task);
+    let end = met.end;
+    if !done(end) {
+        return met;
     }
+    let last = finish_run(s, &ia, &ib, t, bodies, task.cyclic);
+    let end = last.end;
+    run_ended(end, met.nonlinear, met.linear + last.linear)
 }

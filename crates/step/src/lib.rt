@@ -1,7 +1,8 @@
-// One step of the constrained integrator: `ConstrainedIntegrator::solve` with document 01's refusals.
+// One step of the constrained integrator: `ConstrainedIntegrator::solve` with the refusals of SPECIFICATION §7.
 mod bodies;
 mod checks;
 mod integrator;
+mod layout;
 mod passes;
 mod velocity;
 
@@ -10,22 +11,22 @@ use crate::bodies::write_states;
 use crate::checks::accepted;
 use crate::checks::refusal;
 use crate::integrator::run;
-use rows::body::Finish;
 use rows::geometry::Joint;
+use solves::End;
 use solves::values::clear;
 ghost use mathlib.Core.Path.{_≡_};
-ghost use Prim.Native.Nat.{ℕ, _%_, _≤_};
-ghost use mathlib.Core.List.{List};
+ghost use Prim.Native.Nat.{_%_, _≤_};
 ghost use lib.ListN.{length, replicate};
-ghost use lib.Ieee.{Float};
 ghost use Rattle.arith.specs.Real.{ratio};
-ghost use Rattle.solves.specs.View.{END};
-ghost use Rattle.step.specs.Records.{bodyCount, recordsOf};
+ghost use Rattle.solves.specs.Lent.{came, left};
+ghost use Rattle.solves.specs.Answer.{ranAs};
+ghost use Rattle.step.specs.Layout.{RECORD, SCRATCH, USED};
+ghost use Rattle.step.specs.Records.{bodyCount};
 ghost use Rattle.step.specs.Checks.{numberOf};
 ghost use Rattle.step.specs.Ready.{Joined};
 ghost use Rattle.step.specs.View.{statesAt};
-ghost use Rattle.step.specs.Step.{settled, runOf};
-ghost use Rattle.step.specs.RunView.{endedAs};
+ghost use Rattle.step.specs.Step.{settled, runFor};
+ghost use Rattle.step.specs.SettleView.{Settles, Reports};
 ghost use Rattle.step.specs.Answered.{Answered};
 
 // The doubles of scratch that a step asks for.
@@ -33,7 +34,7 @@ pub const SCRATCH: usize = 6144;
 // The doubles of a body's record.
 pub const RECORD: usize = 26;
 
-// Accepted, or the refusal of document 01, in its order.
+// Accepted, or the refusal of SPECIFICATION §7, in its order.
 pub enum Outcome {
     Accepted,
     TimeStep,
@@ -57,7 +58,7 @@ pub struct Report {
     pub linear: usize,
 }
 
-// Document 01's number of a refusal, and 0 for an accepted step.
+// SPECIFICATION's number of a refusal, and 0 for an accepted step.
 pub fn number(outcome: Outcome) -> usize
     ensures { λ r. ⌜ r ≡ numberOf outcome ⌝ }
 {
@@ -79,24 +80,24 @@ pub fn number(outcome: Outcome) -> usize
 }
 
 // What the run's end is to the caller: its states are written where all stand on the plan's ground.
-fn settle(bodies: &mut [f64], work: &[f64], n: usize, finish: Finish) -> Outcome
-    requires { ⌜ (length (now bodies) % 26 ≡ 0) × (n ≡ bodyCount (now bodies)) × (END ≤ length (now work)) × (n ≤ 16) ⌝ }
-    ensures { λ r. ⌜ ((nonlinear linear : ℕ) (scratch : List Float) → record { outcome = r; nonlinear = nonlinear; linear = linear; bodies = now (bodies .exit); scratch = scratch } ≡ settled (now (bodies .entry)) scratch (endedAs finish nonlinear linear (statesAt (now (work .entry)) n))) ⌝ }
+fn settle(bodies: &mut [f64], work: &[f64], n: usize, end: End) -> Outcome
+    requires { ⌜ (length (now bodies) % RECORD ≡ 0) × (n ≡ bodyCount (now bodies)) × (USED ≤ length (now work)) × (n ≤ 16) ⌝ }
+    ensures { λ r. ⌜ Settles bodies r (ranAs end (statesAt (came work) n)) ⌝ }
 {
-    match finish {
-        Finish::Done => {
+    match end {
+        End::Done => {
             if in_ground(work, n) {
                 write_states(bodies, work, n);
                 return Outcome::Accepted;
             }
             Outcome::Ground
         }
-        Finish::NonConvergent => Outcome::NonConvergent,
-        Finish::ArithmeticOverflow => Outcome::ArithmeticOverflow,
+        End::NonConvergent => Outcome::NonConvergent,
+        End::ArithmeticOverflow => Outcome::ArithmeticOverflow,
     }
 }
 
-// The run on the first 6,144 doubles of scratch, which are zero afterwards.
+// The run on the doubles of scratch that a step asks for, which are zero afterwards.
 fn solve_in(
     bodies: &mut [f64],
     joints: [Joint; 16],
@@ -104,13 +105,13 @@ fn solve_in(
     dt: f64,
     work: &mut [f64],
 ) -> Report
-    requires { ⌜ (length (now work) ≡ 6144) × (length (now bodies) % 26 ≡ 0) × (Joined joints count (bodyCount (now bodies))) ⌝ }
-    ensures { λ r. ⌜ record { outcome = r .outcome; nonlinear = r .nonlinear; linear = r .linear; bodies = now (bodies .exit); scratch = now (work .exit) } ≡ settled (now (bodies .entry)) (replicate 6144 (ratio 0 1)) (runOf (recordsOf (now (bodies .entry))) joints count dt) ⌝ }
+    requires { ⌜ (length (now work) ≡ SCRATCH) × (length (now bodies) % RECORD ≡ 0) × (Joined joints count (bodyCount (now bodies))) ⌝ }
+    ensures { λ r. ⌜ Reports bodies work r (settled (came bodies) (replicate SCRATCH (ratio 0 1)) (runFor (came bodies) joints count dt)) ⌝ }
 {
     let n = bodies.len() / RECORD;
     let ran = run(bodies, joints, count, dt, work);
-    let finish = ran.finish;
-    let outcome = settle(bodies, work, n, finish);
+    let end = ran.end;
+    let outcome = settle(bodies, work, n, end);
     clear(work, 0, SCRATCH);
     Report {
         outcome,
@@ -126,7 +127,7 @@ pub fn solve(
     dt: f64,
     scratch: &mut [f64],
 ) -> Report
-    ensures { λ r. ⌜ Answered (now (bodies .entry)) (now (bodies .exit)) joints count dt (now (scratch .entry)) (now (scratch .exit)) r ⌝ }
+    ensures { λ r. ⌜ Answered (came bodies) (left bodies) joints count dt (came scratch) (left scratch) r ⌝ }
 {
     let outcome = refusal(bodies, joints, count, dt, scratch.len());
     if !accepted(outcome) {

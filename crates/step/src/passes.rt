@@ -1,40 +1,40 @@
-// How the turns of the step's two loops end, and the loops: each turn takes at most one linear solve.
-use rows::body::Finish;
+// How a pass of the step's two loops ends, and how a loop or the run: with the passes that were counted.
+use solves::End;
+use solves::Ended;
+use solves::Pass;
 ghost use mathlib.Core.Path.{_≡_};
 
-// Met: the loop is left with what it was after.
-pub(crate) enum PassEnd {
-    Next,
-    Met,
-    NonConvergent,
-    ArithmeticOverflow,
-}
-
-// The end of a turn, with the linear passes of its solve.
+// The end of a pass, with the linear passes of its solve.
 pub(crate) struct Passed {
-    pub end: PassEnd,
-    pub passes: usize,
+    pub pass: Pass,
+    pub linear: usize,
 }
 
-// The end of a loop, with the turns begun and the linear passes of all of them.
-pub(crate) struct Looped {
-    pub finish: Finish,
-    pub begun: usize,
-    pub passes: usize,
+// The end of the nonlinear loop or of the run, with both counts.
+pub(crate) struct Ran {
+    pub end: End,
+    pub nonlinear: usize,
+    pub linear: usize,
 }
 
-pub(crate) fn pass_ended(end: PassEnd, passes: usize) -> Passed
-    ensures { λ r. ⌜ r ≡ record { end = end; passes = passes } ⌝ }
+pub(crate) fn pass_ended(pass: Pass, linear: usize) -> Passed
+    ensures { λ r. ⌜ r ≡ record { pass = pass; linear = linear } ⌝ }
 {
-    Passed { end, passes }
+    Passed { pass, linear }
 }
 
-pub(crate) fn loop_left(finish: Finish, begun: usize, passes: usize) -> Looped
-    ensures { λ r. ⌜ r ≡ record { finish = finish; begun = begun; passes = passes } ⌝ }
+pub(crate) fn loop_ended(end: End, linear: usize) -> Ended
+    ensures { λ r. ⌜ r ≡ record { end = end; linear = linear } ⌝ }
 {
-    Looped {
-        finish,
-        begun,
-        passes,
+    Ended { end, linear }
+}
+
+pub(crate) fn run_ended(end: End, nonlinear: usize, linear: usize) -> Ran
+    ensures { λ r. ⌜ r ≡ record { end = end; nonlinear = nonlinear; linear = linear } ⌝ }
+{
+    Ran {
+        end,
+        nonlinear,
+        linear,
     }
 }

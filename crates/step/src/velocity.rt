@@ -1,10 +1,8 @@
 // The velocity loop of `solve` in solver.rs: tested before each of at most 3 corrections; a third one is never accepted.
 use crate::bodies::load_candidate;
 use crate::bodies::store_candidate;
-use crate::passes::Looped;
-use crate::passes::PassEnd;
 use crate::passes::Passed;
-use crate::passes::loop_left;
+use crate::passes::loop_ended;
 use crate::passes::pass_ended;
 use arith::number::abs;
 use arith::number::is_finite;
@@ -12,11 +10,13 @@ use rows::body::Finish;
 use rows::body::MomentumBody;
 use rows::geometry::EqualityRow;
 use solves::End;
-use solves::Outcome;
+use solves::Ended;
+use solves::Pass;
 use solves::Sum;
+use solves::Table;
+use solves::done;
 use solves::layout::GENERALIZED;
 use solves::layout::RHS;
-use solves::layout::ROWS;
 use solves::layout::SOLUTION;
 use solves::operator::transpose;
 use solves::places::load_generalized;
@@ -25,16 +25,20 @@ use solves::solver::linear_solve;
 use vectors::vector::OptionVec3;
 use vectors::vector::Vec3;
 ghost use mathlib.Core.Path.{_≡_};
-ghost use Prim.Native.Nat.{_+_, _*_, _≤_, _<_};
+ghost use Prim.Native.Nat.{_≤_, _<_};
 ghost use lib.ListN.{length};
 ghost use Rattle.rows.specs.View.{Out};
-ghost use Rattle.rows.specs.Answer.{finishAs};
+ghost use Rattle.solves.specs.Lent.{came, left};
 ghost use Rattle.solves.specs.Region.{vecAt, Does};
 ghost use Rattle.solves.specs.Answer.{sumAs, ranAs};
-ghost use Rattle.solves.specs.View.{ROWS, MASSES, RHS, SOLUTION, GENERALIZED, CANDIDATE, END, Rows, rowsOn, massesAt, generalizedsAt};
+ghost use Rattle.solves.specs.Search.{linearSolve};
+ghost use Rattle.solves.specs.View.{RHS, GENERALIZED, Beside, generalizedsAt, systemIn, rhsOn, solutionOn};
+ghost use Rattle.step.specs.Layout.{CANDIDATE, USED};
+ghost use Rattle.step.specs.Bodies.{velocityOf, velocityRhs, compatibleOf, kickBodies, reactionOf};
+ghost use Rattle.step.specs.Step.{velocityPass, velocityLoop};
 ghost use Rattle.step.specs.View.{candidatesAt};
-ghost use Rattle.step.specs.RunView.{Moves, MotionAt, Remembers, Correcting, passAs, loopedAs};
-ghost use Rattle.step.specs.Step.{velocityOf, velocityRhs, compatibleOf, kickBodies, reactionOf, velocitiesBy, velocityPass, velocityLoop};
+ghost use Rattle.step.specs.RunView.{Moves, MotionAt, Remembers, Ours, Correcting, correction};
+ghost use Rattle.step.specs.Says.{Kicks, Rests};
 
 // The number of no body: there are at most 16.
 const NO_BODY: usize = 16;
@@ -57,8 +61,8 @@ fn no_motion() -> Motion
 }
 
 fn motion_of(s: &[f64], k: usize) -> Motion
-    requires { ⌜ (END ≤ length (now s)) × (k < 16) ⌝ }
-    ensures { λ r. ⌜ MotionAt (now (s .entry)) k r ⌝ }
+    requires { ⌜ (USED ≤ length (now s)) × (k < 16) ⌝ }
+    ensures { λ r. ⌜ MotionAt (came s) k r ⌝ }
 {
     let body = load_candidate(s, k);
     Motion {
@@ -70,8 +74,8 @@ fn motion_of(s: &[f64], k: usize) -> Motion
 
 // The motion of candidate k: the one kept from the row before, where that row has the same body.
 fn motion_again(s: &[f64], k: usize, last: Motion) -> Motion
-    requires { ⌜ (END ≤ length (now s)) × (k < 16) × Remembers (now s) last ⌝ }
-    ensures { λ r. ⌜ MotionAt (now (s .entry)) k r ⌝ }
+    requires { ⌜ (USED ≤ length (now s)) × (k < 16) × Remembers (now s) last ⌝ }
+    ensures { λ r. ⌜ MotionAt (came s) k r ⌝ }
 {
     if last.body == k {
         return last;
@@ -101,33 +105,28 @@ fn velocity(row: EqualityRow, a: Motion, b: Motion) -> Sum
     Sum::ArithmeticOverflow
 }
 
-fn velocity_rhs(
-    s: &mut [f64],
-    ia: &[usize; 96],
-    ib: &[usize; 96],
-    n: usize,
-    bodies: usize,
-) -> Outcome
-    requires { ⌜ Rows (now s) (now ia) (now ib) ROWS n bodies ⌝ }
-    ensures { λ r. ⌜ Does (Out RHS 96) (now (s .entry)) (now (s .exit)) (ranAs r (vecAt (now (s .exit)) RHS n)) (velocityRhs (rowsOn (now (ia .entry)) (now (ib .entry)) (now (s .entry)) ROWS n) (candidatesAt (now (s .entry)) bodies)) ⌝ }
+fn velocity_rhs(s: &mut [f64], ia: &[usize; 96], ib: &[usize; 96], t: Table) -> End
+    requires { ⌜ Ours s ia ib t ⌝ }
+    ensures { λ r. ⌜ Does (Beside RHS) (came s) (left s) (ranAs r (vecAt (left s) RHS (t .rows))) (velocityRhs (systemIn s ia ib t .rows) (candidatesAt (came s) (t .bodies))) ⌝ }
 {
+    let n = t.rows;
     let mut a = no_motion();
     let mut b = no_motion();
     for k in 0..n {
-        let row = load_row(s, ia, ib, ROWS, k);
+        let row = load_row(s, ia, ib, t.place, k);
         a = motion_again(s, row.a, a);
         b = motion_again(s, row.b, b);
         let Sum::Value(value) = velocity(row, a, b) else {
-            return Outcome::ArithmeticOverflow;
+            return End::ArithmeticOverflow;
         };
         s[RHS + k] = -value;
     }
-    Outcome::Done
+    End::Done
 }
 
 fn compatible(s: &[f64], n: usize) -> bool
-    requires { ⌜ (END ≤ length (now s)) × (n ≤ 96) ⌝ }
-    ensures { λ r. ⌜ r ≡ compatibleOf (vecAt (now (s .entry)) RHS n) ⌝ }
+    requires { ⌜ (USED ≤ length (now s)) × (n ≤ 96) ⌝ }
+    ensures { λ r. ⌜ r ≡ compatibleOf (vecAt (came s) RHS n) ⌝ }
 {
     for k in 0..n {
         if abs(s[RHS + k]) <= 1.0e-12 {} else {
@@ -137,9 +136,9 @@ fn compatible(s: &[f64], n: usize) -> bool
     true
 }
 
-fn kick_candidates(s: &mut [f64], bodies: usize) -> Finish
-    requires { ⌜ (END ≤ length (now s)) × (bodies ≤ 16) ⌝ }
-    ensures { λ r. ⌜ Does (Out CANDIDATE 208) (now (s .entry)) (now (s .exit)) (finishAs r (candidatesAt (now (s .exit)) bodies)) (kickBodies (candidatesAt (now (s .entry)) bodies) (generalizedsAt (now (s .entry)) GENERALIZED bodies)) ⌝ }
+fn kick_candidates(s: &mut [f64], bodies: usize) -> End
+    requires { ⌜ (USED ≤ length (now s)) × (bodies ≤ 16) ⌝ }
+    ensures { λ r. ⌜ Does (Out CANDIDATE 208) (came s) (left s) (ranAs r (candidatesAt (left s) bodies)) (kickBodies (candidatesAt (came s) bodies) (generalizedsAt (came s) GENERALIZED bodies)) ⌝ }
 {
     for k in 0..bodies {
         let share = load_generalized(s, GENERALIZED, k);
@@ -148,108 +147,88 @@ fn kick_candidates(s: &mut [f64], bodies: usize) -> Finish
         match outcome {
             Finish::Done => store_candidate(s, k, kicked.body),
             Finish::NonConvergent => {
-                return Finish::NonConvergent;
+                return End::NonConvergent;
             }
             Finish::ArithmeticOverflow => {
-                return Finish::ArithmeticOverflow;
+                return End::ArithmeticOverflow;
             }
         }
     }
-    Finish::Done
+    End::Done
 }
 
 // A solve's reaction on the candidates.
-fn apply(s: &mut [f64], ia: &[usize; 96], ib: &[usize; 96], n: usize, bodies: usize) -> Finish
-    requires { ⌜ Rows (now s) (now ia) (now ib) ROWS n bodies ⌝ }
-    ensures { λ r. ⌜ Does Correcting (now (s .entry)) (now (s .exit)) (finishAs r (candidatesAt (now (s .exit)) bodies)) (reactionOf (rowsOn (now (ia .entry)) (now (ib .entry)) (now (s .entry)) ROWS n) (candidatesAt (now (s .entry)) bodies) (vecAt (now (s .entry)) SOLUTION n)) ⌝ }
+fn apply(s: &mut [f64], ia: &[usize; 96], ib: &[usize; 96], t: Table) -> End
+    requires { ⌜ Ours s ia ib t ⌝ }
+    ensures { λ r. ⌜ Does Correcting (came s) (left s) (ranAs r (candidatesAt (left s) (t .bodies))) (reactionOf (systemIn s ia ib t .rows) (candidatesAt (came s) (t .bodies)) (solutionOn s t)) ⌝ }
 {
-    if let Outcome::ArithmeticOverflow = transpose(s, ia, ib, ROWS, SOLUTION, n, bodies) {
-        return Finish::ArithmeticOverflow;
+    let pushed = transpose(s, ia, ib, t, SOLUTION);
+    if !done(pushed) {
+        return pushed;
     }
-    kick_candidates(s, bodies)
+    kick_candidates(s, t.bodies)
 }
 
 fn correct_velocities(
     s: &mut [f64],
     ia: &[usize; 96],
     ib: &[usize; 96],
-    n: usize,
-    bodies: usize,
+    t: Table,
     cyclic: bool,
 ) -> Passed
-    requires { ⌜ Rows (now s) (now ia) (now ib) ROWS n bodies ⌝ }
-    ensures { λ r. ⌜ (Does Correcting (now (s .entry)) (now (s .exit)) (passAs r (candidatesAt (now (s .exit)) bodies) (candidatesAt (now (s .exit)) bodies)) (velocitiesBy cyclic (rowsOn (now (ia .entry)) (now (ib .entry)) (now (s .entry)) ROWS n) (massesAt (now (s .entry)) MASSES bodies) (candidatesAt (now (s .entry)) bodies) (vecAt (now (s .entry)) RHS n))) × (r .passes ≤ 448) ⌝ }
+    requires { ⌜ Ours s ia ib t ⌝ }
+    ensures { λ r. ⌜ Kicks s ia ib t r (λ system candidate. correction (linearSolve cyclic system (rhsOn s t)) (reactionOf (system .rows) candidate)) ⌝ }
 {
-    let ended = linear_solve(s, ia, ib, ROWS, n, bodies, cyclic);
-    let passes = ended.passes;
-    let end = ended.end;
-    match end {
-        End::Solved => match apply(s, ia, ib, n, bodies) {
-            Finish::Done => pass_ended(PassEnd::Next, passes),
-            Finish::NonConvergent => pass_ended(PassEnd::NonConvergent, passes),
-            Finish::ArithmeticOverflow => pass_ended(PassEnd::ArithmeticOverflow, passes),
-        },
-        End::ArithmeticOverflow => pass_ended(PassEnd::ArithmeticOverflow, passes),
-        End::NonConvergent => pass_ended(PassEnd::NonConvergent, passes),
-        // never: `linear_solve` goes on where the path declines
-        End::Declined => pass_ended(PassEnd::NonConvergent, passes),
+    let solved = linear_solve(s, ia, ib, t, cyclic);
+    let end = solved.end;
+    if !done(end) {
+        return pass_ended(Pass::Over(end), solved.linear);
     }
+    let applied = apply(s, ia, ib, t);
+    if !done(applied) {
+        return pass_ended(Pass::Over(applied), solved.linear);
+    }
+    pass_ended(Pass::Again, solved.linear)
 }
 
 fn velocity_pass(
     s: &mut [f64],
     ia: &[usize; 96],
     ib: &[usize; 96],
-    n: usize,
-    bodies: usize,
+    t: Table,
     cyclic: bool,
 ) -> Passed
-    requires { ⌜ Rows (now s) (now ia) (now ib) ROWS n bodies ⌝ }
-    ensures { λ r. ⌜ (Does Correcting (now (s .entry)) (now (s .exit)) (passAs r (candidatesAt (now (s .exit)) bodies) (candidatesAt (now (s .exit)) bodies)) (velocityPass cyclic (rowsOn (now (ia .entry)) (now (ib .entry)) (now (s .entry)) ROWS n) (massesAt (now (s .entry)) MASSES bodies) (candidatesAt (now (s .entry)) bodies))) × (r .passes ≤ 448) ⌝ }
+    requires { ⌜ Ours s ia ib t ⌝ }
+    ensures { λ r. ⌜ Kicks s ia ib t r (velocityPass cyclic) ⌝ }
 {
-    if let Outcome::ArithmeticOverflow = velocity_rhs(s, ia, ib, n, bodies) {
-        return Passed {
-            end: PassEnd::ArithmeticOverflow,
-            passes: 0,
-        };
+    let rated = velocity_rhs(s, ia, ib, t);
+    if !done(rated) {
+        return pass_ended(Pass::Over(rated), 0);
     }
-    if compatible(s, n) {
-        return Passed {
-            end: PassEnd::Met,
-            passes: 0,
-        };
+    if compatible(s, t.rows) {
+        return pass_ended(Pass::Over(End::Done), 0);
     }
-    correct_velocities(s, ia, ib, n, bodies, cyclic)
+    correct_velocities(s, ia, ib, t, cyclic)
 }
 
 pub(crate) fn velocity_loop(
     s: &mut [f64],
     ia: &[usize; 96],
     ib: &[usize; 96],
-    n: usize,
-    bodies: usize,
+    t: Table,
     cyclic: bool,
-) -> Looped
-    requires { ⌜ Rows (now s) (now ia) (now ib) ROWS n bodies ⌝ }
-    ensures { λ r. ⌜ (Does Correcting (now (s .entry)) (now (s .exit)) (loopedAs r (candidatesAt (now (s .exit)) bodies)) (velocityLoop cyclic (rowsOn (now (ia .entry)) (now (ib .entry)) (now (s .entry)) ROWS n) (massesAt (now (s .entry)) MASSES bodies) (candidatesAt (now (s .entry)) bodies))) × (r .passes ≤ 448 * 3) ⌝ }
+) -> Ended
+    requires { ⌜ Ours s ia ib t ⌝ }
+    ensures { λ r. ⌜ Rests s ia ib t r (velocityLoop cyclic) ⌝ }
 {
-    let mut passes = 0;
+    let mut linear = 0;
     for k in 0..3usize {
-        let done = velocity_pass(s, ia, ib, n, bodies, cyclic);
-        passes += done.passes;
-        let end = done.end;
-        match end {
-            PassEnd::Next => {}
-            PassEnd::Met => {
-                return loop_left(Finish::Done, k + 1, passes);
-            }
-            PassEnd::NonConvergent => {
-                return loop_left(Finish::NonConvergent, k + 1, passes);
-            }
-            PassEnd::ArithmeticOverflow => {
-                return loop_left(Finish::ArithmeticOverflow, k + 1, passes);
-            }
+        let passed = velocity_pass(s, ia, ib, t, cyclic);
+        linear += passed.linear;
+        let pass = passed.pass;
+        if let Pass::Over(end) = pass {
+            return loop_ended(end, linear);
         }
     }
-    loop_left(Finish::NonConvergent, 3, passes)
+    loop_ended(End::NonConvergent, linear)
 }

@@ -1,12 +1,9 @@
--- `settle` is `settled` for each end of the run: the states are written where all stand on the ground.
-use Rattle.step.specs.View.{statesAt}
-use native.Mathlib.Omega.{arith}
-use mathlib.Core.Path.{refl}
-use Prim.Native.Nat.{_-_}
-use lib.ListN.{length}
-use denote.Ref.{now}
-use Rattle.step.proofs.FinishLaws.{settle-as, settle-accepts, settle-grounds}
+-- `settle` is `settledAs` for each end of the run: the states are written where all stand on the ground (FinishLaws).
 use borrow.Author.Needs.{needs}
+use native.Mathlib.Omega.{arith}
+use denote.Ref.{now}
+use Rattle.step.specs.View.{statesAt}
+use Rattle.step.proofs.FinishLaws.{settle-accepts, settle-grounds, settle-fails}
 use Rattle.step.proofs.settle.Statement.{statement}
 use Rattle.step.proofs.settle.Tie as tie
 
@@ -30,10 +27,9 @@ returns : tie.Need-returns
 returns c =
     let at-if1 = c .before .before .before .before in let at-in-ground = at-if1 .before in let at-enum-told = at-in-ground .before in
     let at-entry = at-enum-told .before .before .before .before in
-    λ nonlinear linear scratch. settle-as (now (at-entry .args .bodies)) scratch (statesAt (now (at-entry .args .work)) (at-entry .args .n))
-    (at-entry .args .finish) (at-enum-told .enum-told .given .1) nonlinear linear
-    (settle-accepts (at-entry .args .n) (now (at-entry .args .work)) (now (at-entry .args .bodies)) (at-in-ground .in-ground .ensures) nonlinear
-    linear scratch (at-if1 .if1 .taken) (at-entry .pre .1) (at-entry .pre .0) (c .before .before .write-states .ensures))
+    λ nonlinear linear scratch. settle-accepts (at-entry .args .n) (now (at-entry .args .work)) (now (at-entry .args .bodies))
+    (at-in-ground .in-ground .ensures) (at-enum-told .enum-told .given .1) nonlinear linear scratch (at-if1 .if1 .taken) (at-entry .pre .1)
+    (at-entry .pre .0) (c .before .before .write-states .ensures)
 
 enum-told-2 : tie.Need-enum-told-2
 enum-told-2 c = search needs
@@ -44,22 +40,20 @@ enum-told-3 c = search needs
 returns-2 : tie.Need-returns-2
 returns-2 c =
     let at-entry = c .before .before .before .before .before .before in
-    λ nonlinear linear scratch. settle-as (now (at-entry .args .bodies)) scratch (statesAt (now (at-entry .args .work)) (at-entry .args .n))
-    (at-entry .args .finish) (c .before .before .enum-told .given .1) nonlinear linear
-    (settle-grounds (at-entry .args .n) (now (at-entry .args .work)) (now (at-entry .args .bodies)) (c .before .in-ground .ensures) nonlinear linear
-    scratch (c .if1 .left))
+    λ nonlinear linear scratch. settle-grounds (at-entry .args .n) (now (at-entry .args .work)) (now (at-entry .args .bodies))
+    (c .before .in-ground .ensures) (c .before .before .enum-told .given .1) nonlinear linear scratch (c .if1 .left)
 
 returns-3 : tie.Need-returns-3
 returns-3 c =
     let at-entry = c .before .before .before .before in
-    λ nonlinear linear scratch. settle-as (now (at-entry .args .bodies)) scratch (statesAt (now (at-entry .args .work)) (at-entry .args .n))
-    (at-entry .args .finish) (c .enum-told2 .given .1) nonlinear linear refl
+    λ nonlinear linear scratch. settle-fails (now (at-entry .args .bodies)) scratch (statesAt (now (at-entry .args .work)) (at-entry .args .n))
+    (c .enum-told2 .given .1) nonlinear linear
 
 returns-4 : tie.Need-returns-4
 returns-4 c =
     let at-entry = c .before .before .before .before in
-    λ nonlinear linear scratch. settle-as (now (at-entry .args .bodies)) scratch (statesAt (now (at-entry .args .work)) (at-entry .args .n))
-    (at-entry .args .finish) (c .enum-told3 .given .1) nonlinear linear refl
+    λ nonlinear linear scratch. settle-fails (now (at-entry .args .bodies)) scratch (statesAt (now (at-entry .args .work)) (at-entry .args .n))
+    (c .enum-told3 .given .1) nonlinear linear
 
 pub settle-spec : {M : Type 1} → statement M
 settle-spec =

@@ -1,6 +1,5 @@
 -- `solve` meets `Answered`: an early refusal by the checks' contract, else by `solve_in` and the laws of the definition (AnsweredLaws).
-use Rattle.step.specs.Records.{recordsOf}
-use Rattle.step.specs.Step.{runOf}
+use Rattle.step.specs.Step.{runFor}
 use lib.ListN.{length}
 use denote.Ref.{now}
 use Rattle.step.specs.CheckLaws.{ready-joined}
@@ -70,7 +69,7 @@ returns-2 c =
     answered-run (now (at-entry .args .bodies)) (at-entry .args .joints) (at-entry .args .count) (at-entry .args .dt)
     (now (at-entry .args .scratch)) (at-refusal .refusal .ensures) (at-accepted .accepted .ensures) _ _ _ (at-if1 .if1 .left)
     (solved-scratch (now (at-entry .args .bodies)) (now (at-entry .args .scratch))
-    (runOf (recordsOf (now (at-entry .args .bodies))) (at-entry .args .joints) (at-entry .args .count) (at-entry .args .dt))
+    (runFor (now (at-entry .args .bodies)) (at-entry .args .joints) (at-entry .args .count) (at-entry .args .dt))
     (at-solve-in .solve-in .ensures))
 
 pub solve-spec : {M : Type 1} → statement M

@@ -1,11 +1,10 @@
--- `solve_in` is the run, settled, with the scratch cleared.
+-- `solve_in` is the run, settled, with the scratch cleared (FinishLaws).
+use borrow.Author.Needs.{needs}
 use native.Mathlib.Omega.{arith}
 use mathlib.Core.Path.{refl, _∙_}
-use Prim.Native.Nat.{_-_}
-use lib.ListN.{length}
 use denote.Ref.{now}
+use Rattle.step.specs.Step.{runFor}
 use Rattle.step.proofs.FinishLaws.{all-zero, solved-in}
-use borrow.Author.Needs.{needs}
 use Rattle.step.proofs.solve_in.Statement.{statement}
 use Rattle.step.proofs.solve_in.Tie as tie
 
@@ -32,11 +31,18 @@ returns : tie.Need-returns
 returns c =
     let at-settle = c .before .before .before .before .before .before in let at-run = at-settle .before .before .before .before .before in
     let at-entry = at-run .before .before .before .before .before in
-    solved-in (now (at-entry .args .bodies)) (at-entry .args .joints) (at-entry .args .count) (at-entry .args .dt) _ _ _ _ (at-run .run .result)
+    solved-in (now (at-entry .args .bodies))
+    (runFor (now (at-entry .args .bodies)) (at-entry .args .joints) (at-entry .args .count) (at-entry .args .dt)) (at-run .run .result) _
     (at-run .run .ensures) (at-settle .settle .ensures)
     (all-zero (at-run .run .ensures .kept .size ∙ at-entry .pre .0) (c .before .before .clear .ensures))
 
 pub solve-in-spec : {M : Type 1} → statement M
 solve-in-spec =
     tie.close
-    (tie.spec run-requires settle-requires clear-requires same-length same-length-2 returns)
+    (tie.spec
+    run-requires
+    settle-requires
+    clear-requires
+    same-length
+    same-length-2
+    returns)

@@ -9,7 +9,7 @@ use Rattle.arith.specs.Real.{ratio}
 use Rattle.arith.specs.Flow.{every}
 use Rattle.arith.specs.FlowLaws.{not-yes, not-no, every-none, every-more, every-fail, every-end}
 use Rattle.rows.specs.View.{vec3At}
-use Rattle.solves.specs.View.{CANDIDATE}
+use Rattle.step.specs.Layout.{CANDIDATE}
 use Rattle.step.specs.Checks.{withinOf}
 use Rattle.step.proofs.bodies.in_ground.Statement.{statement}
 use Rattle.step.proofs.bodies.in_ground.Tie as tie

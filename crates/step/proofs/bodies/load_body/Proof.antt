@@ -2,7 +2,7 @@
 use Rattle.step.proofs.BodyLaws.{body-loaded}
 use Prim.Native.Nat.{_+_, _*_}
 use denote.Ref.{now}
-use Rattle.solves.specs.View.{START}
+use Rattle.step.specs.Layout.{START}
 use borrow.Author.Needs.{needs}
 use Rattle.step.proofs.bodies.load_body.Statement.{statement}
 use Rattle.step.proofs.bodies.load_body.Tie as tie

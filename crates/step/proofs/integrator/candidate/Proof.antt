@@ -1,116 +1,99 @@
 -- `candidate` is `candidateOf`: shares, candidates and rows, each by its function's contract (LoopLaws).
-use native.Mathlib.Omega.{arith}
-use Prim.Native.Nat.{_-_}
-use lib.ListN.{length}
-use denote.Ref.{now}
-use Rattle.step.proofs.StepLaws.{joined-sixteen}
-use Rattle.step.proofs.LoopLaws.{candidate-1, candidate-2, candidate-2-case, candidate-3}
 use borrow.Author.Needs.{needs}
+use native.Mathlib.Omega.{arith}
+use mathlib.Core.Path.{_∙_}
+use denote.Ref.{now}
+use Rattle.solves.specs.DoesLaws.{went}
+use Rattle.step.specs.RunView.{jobFor}
+use Rattle.step.proofs.StepLaws.{joined-sixteen}
+use Rattle.step.proofs.LoopLaws.{not-pushed, not-moved, all-tried}
 use Rattle.step.proofs.integrator.candidate.Statement.{statement}
 use Rattle.step.proofs.integrator.candidate.Tie as tie
 
 transpose-requires : tie.Need-transpose-requires
-transpose-requires c κs = (c .before .before .pre .0, record { low = omega arith; high = omega arith })
+transpose-requires c κs =
+    let at-entry = c .before .before in
+    (at-entry .pre .0 .0 .0, record { low = omega arith; apart = omega arith; there = omega (arith, at-entry .pre .0 .0 .1) })
 
-enum-told : tie.Need-enum-told
-enum-told c = search needs
+done-requires : tie.Need-done-requires
+done-requires c κs = search needs
 
 same-length : tie.Need-same-length
-same-length c = search needs
+same-length c =
+    let at-transpose = c .before .before .before .before in
+    at-transpose .transpose .ensures .kept .size
 
 returns : tie.Need-returns
 returns c =
     let at-transpose = c .before .before .before .before in let at-entry = at-transpose .before .before .before in
-    candidate-1 (at-entry .args .joints) (at-entry .args .count) (at-entry .args .dt) (now (at-entry .args .ia)) (now (at-entry .args .ib))
-    (at-entry .args .n) (at-entry .args .bodies) (at-entry .pre .0 .most) (at-entry .pre .0 .bodies) _ _ (at-transpose .transpose .result)
-    (at-transpose .transpose .ensures .0) (c .enum-told .given .1)
-
-enum-told-2 : tie.Need-enum-told-2
-enum-told-2 c = search needs
+    not-pushed (jobFor (at-entry .args .joints) (at-entry .args .task)) (now (at-entry .args .ia)) (now (at-entry .args .ib)) (at-entry .args .t)
+    (at-entry .pre .0 .0 .0 .most) (at-entry .pre .0 .0 .0 .bodies) _ _ (at-transpose .transpose .result) (c .before .done .ensures) (c .if1 .taken)
+    (at-transpose .transpose .ensures) _
 
 move-bodies-requires : tie.Need-move-bodies-requires
 move-bodies-requires c κs =
-    let at-transpose-arg = c .before .before .before .before .before .before in let at-entry = at-transpose-arg .before .before in
-    (omega arith, at-entry .pre .0 .bodies)
+    let at-transpose = c .before .before .before .before .before in let at-entry = at-transpose .before .before .before in
+    (omega (arith, at-entry .pre .0 .0 .1, at-transpose .transpose .ensures .kept .size), at-entry .pre .0 .0 .0 .bodies)
 
-enum-told-3 : tie.Need-enum-told-3
-enum-told-3 c = search needs
-
-write-rows-requires : tie.Need-write-rows-requires
-write-rows-requires c κs =
-    let at-move-bodies-arg = c .before .before .before .before .before .before in
-    let at-transpose-arg = at-move-bodies-arg .before .before .before .before .before .before in let at-entry = at-transpose-arg .before .before in
-    (omega arith, omega arith, joined-sixteen (at-entry .pre .1))
-
-enum-told-4 : tie.Need-enum-told-4
-enum-told-4 c = search needs
-
-enum-told-5 : tie.Need-enum-told-5
-enum-told-5 c = search needs
+done-requires-2 : tie.Need-done-requires-2
+done-requires-2 c κs = search needs
 
 same-length-2 : tie.Need-same-length-2
-same-length-2 c = search needs
+same-length-2 c =
+    let at-move-bodies = c .before .before .before .before in let at-transpose = at-move-bodies .before .before .before .before .before .before in
+    at-move-bodies .move-bodies .ensures .kept .size ∙ at-transpose .transpose .ensures .kept .size
 
 returns-2 : tie.Need-returns-2
 returns-2 c =
-    let at-write-rows = c .before .before in let at-enum-told3 = at-write-rows .before .before in
-    let at-move-bodies = at-enum-told3 .before .before .before .before in let at-enum-told2 = at-move-bodies .before .before in
-    let at-transpose = at-enum-told2 .before .before .before .before in let at-entry = at-transpose .before .before .before in
-    candidate-3 (at-entry .args .joints) (at-entry .args .count) (at-entry .args .dt) (now (at-entry .args .ia)) (now (at-entry .args .ib))
-    (at-entry .args .n) (at-entry .args .bodies) (at-entry .pre .0 .most) (at-entry .pre .0 .bodies) _ _ (at-transpose .transpose .result)
-    (at-transpose .transpose .ensures .0) (at-enum-told2 .enum-told2 .given .1) _ (at-move-bodies .move-bodies .result)
-    (at-move-bodies .move-bodies .ensures) (at-enum-told3 .enum-told3 .given .1) _ (at-entry .pre .3) _ (at-write-rows .write-rows .result)
-    (at-write-rows .write-rows .ensures _ (at-entry .pre .1) _ _ (at-entry .pre .2))
+    let at-move-bodies = c .before .before .before .before in let at-if1 = at-move-bodies .before .before in let at-done = at-if1 .before in
+    let at-transpose = at-done .before .before .before in let at-entry = at-transpose .before .before .before in
+    not-moved (jobFor (at-entry .args .joints) (at-entry .args .task)) (now (at-entry .args .ia)) (now (at-entry .args .ib)) (at-entry .args .t)
+    (at-entry .pre .0 .0 .0 .most) (at-entry .pre .0 .0 .0 .bodies) _ _
+    (went _ (at-transpose .transpose .result) (at-done .done .ensures) (at-transpose .transpose .ensures) (at-if1 .if1 .left)) _
+    (at-move-bodies .move-bodies .result) (c .before .done2 .ensures) (c .if2 .taken) (at-move-bodies .move-bodies .ensures) _
+
+write-rows-requires : tie.Need-write-rows-requires
+write-rows-requires c κs =
+    let at-move-bodies = c .before .before .before .before .before in
+    let at-transpose = at-move-bodies .before .before .before .before .before .before in let at-entry = at-transpose .before .before .before in (
+      omega (arith, at-entry .pre .0 .0 .1, at-move-bodies .move-bodies .ensures .kept .size, at-transpose .transpose .ensures .kept .size),
+      omega arith,
+      joined-sixteen (at-entry .pre .1 .joined),
+    )
 
 same-length-3 : tie.Need-same-length-3
-same-length-3 c = search needs
+same-length-3 c =
+    let at-slice-known3 = c .before .before .before .before .before .before in let at-move-bodies = at-slice-known3 .before .before in
+    let at-transpose = at-move-bodies .before .before .before .before .before .before in let at-entry = at-transpose .before .before .before in
+    c .before .before .write-rows .ensures (at-entry .args .t .bodies) (at-entry .pre .1 .joined) (now (at-entry .args .ia))
+    (now (at-entry .args .ib)) (at-entry .pre .1 .sides) .kept .size ∙ at-move-bodies .move-bodies .ensures .kept .size ∙
+    at-transpose .transpose .ensures .kept .size
 
 returns-3 : tie.Need-returns-3
 returns-3 c =
-    let at-move-bodies = c .before .before .before .before in let at-enum-told2 = at-move-bodies .before .before in
-    let at-transpose = at-enum-told2 .before .before .before .before in let at-entry = at-transpose .before .before .before in
-    candidate-2 (at-entry .args .joints) (at-entry .args .count) (at-entry .args .dt) (now (at-entry .args .ia)) (now (at-entry .args .ib))
-    (at-entry .args .n) (at-entry .args .bodies) (at-entry .pre .0 .most) (at-entry .pre .0 .bodies) _ _ (at-transpose .transpose .result)
-    (at-transpose .transpose .ensures .0) (at-enum-told2 .enum-told2 .given .1) _ (at-move-bodies .move-bodies .result)
-    (at-move-bodies .move-bodies .ensures)
-    (candidate-2-case (at-entry .args .joints) (at-entry .args .count) (at-entry .args .dt) (now (at-entry .args .ia)) (now (at-entry .args .ib))
-    (at-entry .args .n) (at-entry .args .bodies) (at-entry .pre .0 .most) (at-entry .pre .0 .bodies) _ _ (at-transpose .transpose .result)
-    (at-transpose .transpose .ensures .0) (at-enum-told2 .enum-told2 .given .1) _ (at-move-bodies .move-bodies .result)
-    (at-move-bodies .move-bodies .ensures) (c .enum-told4 .given .1))
-
-same-length-4 : tie.Need-same-length-4
-same-length-4 c = search needs
-
-returns-4 : tie.Need-returns-4
-returns-4 c =
-    let at-move-bodies = c .before .before .before .before in let at-enum-told2 = at-move-bodies .before .before in
-    let at-transpose = at-enum-told2 .before .before .before .before in let at-entry = at-transpose .before .before .before in
-    candidate-2 (at-entry .args .joints) (at-entry .args .count) (at-entry .args .dt) (now (at-entry .args .ia)) (now (at-entry .args .ib))
-    (at-entry .args .n) (at-entry .args .bodies) (at-entry .pre .0 .most) (at-entry .pre .0 .bodies) _ _ (at-transpose .transpose .result)
-    (at-transpose .transpose .ensures .0) (at-enum-told2 .enum-told2 .given .1) _ (at-move-bodies .move-bodies .result)
-    (at-move-bodies .move-bodies .ensures)
-    (candidate-2-case (at-entry .args .joints) (at-entry .args .count) (at-entry .args .dt) (now (at-entry .args .ia)) (now (at-entry .args .ib))
-    (at-entry .args .n) (at-entry .args .bodies) (at-entry .pre .0 .most) (at-entry .pre .0 .bodies) _ _ (at-transpose .transpose .result)
-    (at-transpose .transpose .ensures .0) (at-enum-told2 .enum-told2 .given .1) _ (at-move-bodies .move-bodies .result)
-    (at-move-bodies .move-bodies .ensures) (c .enum-told5 .given .1))
+    let at-write-rows = c .before .before in let at-if2 = at-write-rows .before .before in let at-done2 = at-if2 .before in
+    let at-move-bodies = at-done2 .before .before .before in let at-if1 = at-move-bodies .before .before in let at-done = at-if1 .before in
+    let at-transpose = at-done .before .before .before in let at-entry = at-transpose .before .before .before in
+    all-tried (jobFor (at-entry .args .joints) (at-entry .args .task)) (now (at-entry .args .ia)) (now (at-entry .args .ib)) (at-entry .args .t)
+    (at-entry .pre .0 .0 .0 .most) (at-entry .pre .0 .0 .0 .bodies) _ _
+    (went _ (at-transpose .transpose .result) (at-done .done .ensures) (at-transpose .transpose .ensures) (at-if1 .if1 .left)) _
+    (went _ (at-move-bodies .move-bodies .result) (at-done2 .done2 .ensures) (at-move-bodies .move-bodies .ensures) (at-if2 .if2 .left))
+    (at-entry .pre .1 .rows-are) (at-write-rows .write-rows .result)
+    (at-write-rows .write-rows .ensures (at-entry .args .t .bodies) (at-entry .pre .1 .joined) (now (at-entry .args .ia)) (now (at-entry .args .ib))
+    (at-entry .pre .1 .sides))
 
 pub candidate-spec : {M : Type 1} → statement M
 candidate-spec =
     tie.close
     (tie.spec
     transpose-requires
-    enum-told
+    done-requires
     same-length
     returns
-    enum-told-2
     move-bodies-requires
-    enum-told-3
-    write-rows-requires
-    enum-told-4
-    enum-told-5
+    done-requires-2
     same-length-2
     returns-2
+    write-rows-requires
     same-length-3
-    returns-3
-    same-length-4
-    returns-4)
+    returns-3)

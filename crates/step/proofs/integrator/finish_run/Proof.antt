@@ -1,102 +1,112 @@
-use native.Mathlib.Omega.{arith}
-use Prim.Native.Nat.{_-_}
-use lib.ListN.{length}
-use denote.Ref.{now}
-use lib.Dec.{leb}
-use Rattle.step.specs.Records.{bodyCount, recordsOf}
-use Rattle.step.proofs.StepLaws.{rows-same}
-use Rattle.step.proofs.FinishLaws.{finish-1, finish-2, finish-3, finish-4}
-use Rattle.step.proofs.PassLaws.{progress-is}
-use Rattle.step.specs.View.{statesAt}
+-- `finish_run` is `finishOf`: masses, the velocity loop and the states, one after the other (FinishLaws).
 use borrow.Author.Needs.{needs}
+use native.Mathlib.Omega.{arith}
+use mathlib.Core.Path.{_∙_}
+use denote.Ref.{now}
+use Rattle.step.specs.Records.{recordsOf}
+use Rattle.step.specs.View.{statesAt}
+use Rattle.step.proofs.StepLaws.{rows-at}
+use Rattle.step.proofs.PassLaws.{ended-is}
+use Rattle.step.proofs.FinishLaws.{not-weighed, not-rested, all-finished}
 use Rattle.step.proofs.integrator.finish_run.Statement.{statement}
 use Rattle.step.proofs.integrator.finish_run.Tie as tie
 
 prepare-masses-requires : tie.Need-prepare-masses-requires
-prepare-masses-requires c κs = (c .before .before .before .pre .0 .whole, c .before .before .before .pre .0 .bodies)
+prepare-masses-requires c κs =
+    let at-entry = c .before .before .before in
+    (at-entry .pre .0 .1, at-entry .pre .0 .0 .bodies)
 
-enum-told : tie.Need-enum-told
-enum-told c = search needs
+done-requires : tie.Need-done-requires
+done-requires c κs = search needs
 
-run-ended-requires : tie.Need-run-ended-requires
-run-ended-requires c κs = search needs
+loop-ended-requires : tie.Need-loop-ended-requires
+loop-ended-requires c κs = search needs
 
 same-length : tie.Need-same-length
-same-length c = search needs
+same-length c =
+    let at-prepare-masses = c .before .before .before .before .before in
+    at-prepare-masses .prepare-masses .ensures .kept .size
 
 returns : tie.Need-returns
-returns c = progress-is (λ t. statesAt t (bodyCount (now (c .before .before .before .before .before .before .before .before .before .args .bodies)))) (c .run-ended .ensures) (finish-1 (recordsOf (now (c .before .before .before .before .before .before .before .before .before .args .bodies))) (leb (bodyCount (now (c .before .before .before .before .before .before .before .before .before .args .bodies))) (c .before .before .before .before .before .before .before .before .before .args .count)) (c .before .before .before .before .before .before .before .before .before .args .met .begun) (c .before .before .before .before .before .before .before .before .before .args .met .passes) (now (c .before .before .before .before .before .before .before .before .before .args .ia)) (now (c .before .before .before .before .before .before .before .before .before .args .ib)) (c .before .before .before .before .before .before .before .before .before .args .n) (bodyCount (now (c .before .before .before .before .before .before .before .before .before .args .bodies))) (c .before .before .before .before .before .before .before .before .before .pre .0 .most) (c .before .before .before .before .before .before .before .before .before .pre .0 .bodies) _ _ (c .before .before .before .before .before .prepare-masses .result) (c .before .before .before .before .before .prepare-masses .ensures) (c .before .enum-told .given .1))
-
-enum-told-2 : tie.Need-enum-told-2
-enum-told-2 c = search needs
+returns c =
+    let at-prepare-masses = c .before .before .before .before .before in let at-entry = at-prepare-masses .before .before .before .before in
+    ended-is (λ x. statesAt x (at-entry .args .t .bodies)) (c .loop-ended .ensures)
+    (not-weighed (at-entry .args .cyclic) (recordsOf (now (at-entry .args .bodies))) (now (at-entry .args .ia)) (now (at-entry .args .ib))
+    (at-entry .args .t) (at-entry .pre .0 .0 .most) (at-entry .pre .0 .0 .bodies) (at-prepare-masses .prepare-masses .result)
+    (at-prepare-masses .prepare-masses .ensures) (c .before .before .done .ensures) (c .before .if1 .taken))
 
 velocity-loop-requires : tie.Need-velocity-loop-requires
-velocity-loop-requires c κs = rows-same (c .before .before .before .before .before .before .before .before .before .pre .0) (c .before .before .before .before .before .prepare-masses .ensures .kept .size)
+velocity-loop-requires c κs =
+    let at-prepare-masses = c .before .before .before .before .before in let at-entry = at-prepare-masses .before .before .before .before in (
+      rows-at (at-entry .pre .0 .0) (at-prepare-masses .prepare-masses .ensures .kept .size),
+      omega (arith, at-entry .pre .0 .1, at-prepare-masses .prepare-masses .ensures .kept .size),
+    )
 
-add-linear : tie.Need-add-linear
-add-linear c = omega (arith, c .before .before .before .before .velocity-loop .ensures .1, c .before .before .before .before .before .before .before .before .before .before .before .before .before .before .pre .1)
-
-enum-told-3 : tie.Need-enum-told-3
-enum-told-3 c = search needs
-
-make-states-requires : tie.Need-make-states-requires
-make-states-requires c κs = (omega (arith, c .before .before .before .before .before .before .before .velocity-loop .ensures .0 .kept .size, c .before .before .before .before .before .before .before .before .before .before .before .before .before .prepare-masses .ensures .kept .size, c .before .before .before .before .before .before .before .before .before .before .before .before .before .before .before .before .before .pre .0 .whole), omega arith, c .before .before .before .before .before .before .before .before .before .before .before .before .before .before .before .before .before .pre .0 .bodies)
-
-run-ended-requires-2 : tie.Need-run-ended-requires-2
-run-ended-requires-2 c κs = search needs
-
-enum-told-4 : tie.Need-enum-told-4
-enum-told-4 c = search needs
-
-run-ended-requires-3 : tie.Need-run-ended-requires-3
-run-ended-requires-3 c κs = search needs
-
-enum-told-5 : tie.Need-enum-told-5
-enum-told-5 c = search needs
-
-run-ended-requires-4 : tie.Need-run-ended-requires-4
-run-ended-requires-4 c κs = search needs
+done-requires-2 : tie.Need-done-requires-2
+done-requires-2 c κs = search needs
 
 same-length-2 : tie.Need-same-length-2
-same-length-2 c = search needs
+same-length-2 c =
+    let at-velocity-loop = c .before .before .before .before in
+    let at-prepare-masses = at-velocity-loop .before .before .before .before .before .before in
+    at-velocity-loop .velocity-loop .ensures .kept .size ∙ at-prepare-masses .prepare-masses .ensures .kept .size
 
 returns-2 : tie.Need-returns-2
-returns-2 c = progress-is (λ t. statesAt t (bodyCount (now (c .before .before .before .before .before .before .before .before .before .before .before .before .before .before .before .before .before .before .before .before .before .args .bodies)))) (c .run-ended2 .ensures) (finish-4 (recordsOf (now (c .before .before .before .before .before .before .before .before .before .before .before .before .before .before .before .before .before .before .before .before .before .args .bodies))) (leb (bodyCount (now (c .before .before .before .before .before .before .before .before .before .before .before .before .before .before .before .before .before .before .before .before .before .args .bodies))) (c .before .before .before .before .before .before .before .before .before .before .before .before .before .before .before .before .before .before .before .before .before .args .count)) (c .before .before .before .before .before .before .before .before .before .before .before .before .before .before .before .before .before .before .before .before .before .args .met .begun) (c .before .before .before .before .before .before .before .before .before .before .before .before .before .before .before .before .before .before .before .before .before .args .met .passes) (now (c .before .before .before .before .before .before .before .before .before .before .before .before .before .before .before .before .before .before .before .before .before .args .ia)) (now (c .before .before .before .before .before .before .before .before .before .before .before .before .before .before .before .before .before .before .before .before .before .args .ib)) (c .before .before .before .before .before .before .before .before .before .before .before .before .before .before .before .before .before .before .before .before .before .args .n) (bodyCount (now (c .before .before .before .before .before .before .before .before .before .before .before .before .before .before .before .before .before .before .before .before .before .args .bodies))) (c .before .before .before .before .before .before .before .before .before .before .before .before .before .before .before .before .before .before .before .before .before .pre .0 .most) (c .before .before .before .before .before .before .before .before .before .before .before .before .before .before .before .before .before .before .before .before .before .pre .0 .bodies) _ _ (c .before .before .before .before .before .before .before .before .before .before .before .before .before .before .before .before .before .prepare-masses .result) (c .before .before .before .before .before .before .before .before .before .before .before .before .before .before .before .before .before .prepare-masses .ensures) (c .before .before .before .before .before .before .before .before .before .before .before .before .before .enum-told2 .given .1) _ (c .before .before .before .before .before .before .before .before .before .before .before .velocity-loop .result) (c .before .before .before .before .before .before .before .before .before .before .before .velocity-loop .ensures .0) (c .before .before .before .before .before .enum-told3 .given .1) _ (c .before .before .before .make-states .result) (c .before .before .before .make-states .ensures))
+returns-2 c =
+    let at-velocity-loop = c .before .before .before .before in let at-if1 = at-velocity-loop .before .before in let at-done = at-if1 .before in
+    let at-prepare-masses = at-done .before .before .before in let at-entry = at-prepare-masses .before .before .before .before in
+    not-rested (at-entry .args .cyclic) (recordsOf (now (at-entry .args .bodies))) (now (at-entry .args .ia)) (now (at-entry .args .ib))
+    (at-entry .args .t) (at-entry .pre .0 .0 .most) (at-entry .pre .0 .0 .bodies) (at-prepare-masses .prepare-masses .result)
+    (at-prepare-masses .prepare-masses .ensures) (at-done .done .ensures) (at-if1 .if1 .left) (at-velocity-loop .velocity-loop .result)
+    (at-velocity-loop .velocity-loop .ensures) (c .before .done2 .ensures) (c .if2 .taken)
+
+make-states-requires : tie.Need-make-states-requires
+make-states-requires c κs =
+    let at-velocity-loop = c .before .before .before .before .before in
+    let at-prepare-masses = at-velocity-loop .before .before .before .before .before .before in
+    let at-entry = at-prepare-masses .before .before .before .before in (
+      omega
+          (arith, at-entry .pre .0 .1, at-velocity-loop .velocity-loop .ensures .kept .size, at-prepare-masses .prepare-masses .ensures .kept .size),
+      at-entry .pre .1,
+      at-entry .pre .0 .0 .bodies,
+    )
+
+loop-ended-requires-2 : tie.Need-loop-ended-requires-2
+loop-ended-requires-2 c κs = search needs
 
 same-length-3 : tie.Need-same-length-3
-same-length-3 c = search needs
+same-length-3 c =
+    let at-make-states = c .before .before .before in let at-velocity-loop = at-make-states .before .before .before .before .before .before in
+    let at-prepare-masses = at-velocity-loop .before .before .before .before .before .before in
+    at-make-states .make-states .ensures .kept .size ∙ at-velocity-loop .velocity-loop .ensures .kept .size ∙
+    at-prepare-masses .prepare-masses .ensures .kept .size
 
 returns-3 : tie.Need-returns-3
-returns-3 c = progress-is (λ t. statesAt t (bodyCount (now (c .before .before .before .before .before .before .before .before .before .before .before .before .before .before .before .before .before .args .bodies)))) (c .run-ended3 .ensures) (finish-2 (recordsOf (now (c .before .before .before .before .before .before .before .before .before .before .before .before .before .before .before .before .before .args .bodies))) (leb (bodyCount (now (c .before .before .before .before .before .before .before .before .before .before .before .before .before .before .before .before .before .args .bodies))) (c .before .before .before .before .before .before .before .before .before .before .before .before .before .before .before .before .before .args .count)) (c .before .before .before .before .before .before .before .before .before .before .before .before .before .before .before .before .before .args .met .begun) (c .before .before .before .before .before .before .before .before .before .before .before .before .before .before .before .before .before .args .met .passes) (now (c .before .before .before .before .before .before .before .before .before .before .before .before .before .before .before .before .before .args .ia)) (now (c .before .before .before .before .before .before .before .before .before .before .before .before .before .before .before .before .before .args .ib)) (c .before .before .before .before .before .before .before .before .before .before .before .before .before .before .before .before .before .args .n) (bodyCount (now (c .before .before .before .before .before .before .before .before .before .before .before .before .before .before .before .before .before .args .bodies))) (c .before .before .before .before .before .before .before .before .before .before .before .before .before .before .before .before .before .pre .0 .most) (c .before .before .before .before .before .before .before .before .before .before .before .before .before .before .before .before .before .pre .0 .bodies) _ _ (c .before .before .before .before .before .before .before .before .before .before .before .before .before .prepare-masses .result) (c .before .before .before .before .before .before .before .before .before .before .before .before .before .prepare-masses .ensures) (c .before .before .before .before .before .before .before .before .before .enum-told2 .given .1) _ (c .before .before .before .before .before .before .before .velocity-loop .result) (c .before .before .before .before .before .before .before .velocity-loop .ensures .0) (c .before .enum-told4 .given .1))
-
-same-length-4 : tie.Need-same-length-4
-same-length-4 c = search needs
-
-returns-4 : tie.Need-returns-4
-returns-4 c = progress-is (λ t. statesAt t (bodyCount (now (c .before .before .before .before .before .before .before .before .before .before .before .before .before .before .before .before .before .args .bodies)))) (c .run-ended4 .ensures) (finish-3 (recordsOf (now (c .before .before .before .before .before .before .before .before .before .before .before .before .before .before .before .before .before .args .bodies))) (leb (bodyCount (now (c .before .before .before .before .before .before .before .before .before .before .before .before .before .before .before .before .before .args .bodies))) (c .before .before .before .before .before .before .before .before .before .before .before .before .before .before .before .before .before .args .count)) (c .before .before .before .before .before .before .before .before .before .before .before .before .before .before .before .before .before .args .met .begun) (c .before .before .before .before .before .before .before .before .before .before .before .before .before .before .before .before .before .args .met .passes) (now (c .before .before .before .before .before .before .before .before .before .before .before .before .before .before .before .before .before .args .ia)) (now (c .before .before .before .before .before .before .before .before .before .before .before .before .before .before .before .before .before .args .ib)) (c .before .before .before .before .before .before .before .before .before .before .before .before .before .before .before .before .before .args .n) (bodyCount (now (c .before .before .before .before .before .before .before .before .before .before .before .before .before .before .before .before .before .args .bodies))) (c .before .before .before .before .before .before .before .before .before .before .before .before .before .before .before .before .before .pre .0 .most) (c .before .before .before .before .before .before .before .before .before .before .before .before .before .before .before .before .before .pre .0 .bodies) _ _ (c .before .before .before .before .before .before .before .before .before .before .before .before .before .prepare-masses .result) (c .before .before .before .before .before .before .before .before .before .before .before .before .before .prepare-masses .ensures) (c .before .before .before .before .before .before .before .before .before .enum-told2 .given .1) _ (c .before .before .before .before .before .before .before .velocity-loop .result) (c .before .before .before .before .before .before .before .velocity-loop .ensures .0) (c .before .enum-told5 .given .1))
+returns-3 c =
+    let at-make-states = c .before .before .before in let at-if2 = at-make-states .before .before in let at-done2 = at-if2 .before in
+    let at-velocity-loop = at-done2 .before .before .before in let at-if1 = at-velocity-loop .before .before in let at-done = at-if1 .before in
+    let at-prepare-masses = at-done .before .before .before in let at-entry = at-prepare-masses .before .before .before .before in
+    ended-is (λ x. statesAt x (at-entry .args .t .bodies)) (c .loop-ended2 .ensures)
+    (all-finished (at-entry .args .cyclic) (recordsOf (now (at-entry .args .bodies))) (now (at-entry .args .ia)) (now (at-entry .args .ib))
+    (at-entry .args .t) (at-entry .pre .0 .0 .most) (at-entry .pre .0 .0 .bodies) (at-prepare-masses .prepare-masses .result)
+    (at-prepare-masses .prepare-masses .ensures) (at-done .done .ensures) (at-if1 .if1 .left) (at-velocity-loop .velocity-loop .result)
+    (at-velocity-loop .velocity-loop .ensures) (at-done2 .done2 .ensures) (at-if2 .if2 .left) (at-make-states .make-states .result)
+    (at-make-states .make-states .ensures))
 
 pub finish-run-spec : {M : Type 1} → statement M
 finish-run-spec =
     tie.close
     (tie.spec
     prepare-masses-requires
-    enum-told
-    run-ended-requires
+    done-requires
+    loop-ended-requires
     same-length
     returns
-    enum-told-2
     velocity-loop-requires
-    add-linear
-    enum-told-3
-    make-states-requires
-    run-ended-requires-2
-    enum-told-4
-    run-ended-requires-3
-    enum-told-5
-    run-ended-requires-4
+    done-requires-2
     same-length-2
     returns-2
+    make-states-requires
+    loop-ended-requires-2
     same-length-3
-    returns-3
-    same-length-4
-    returns-4)
+    returns-3)

@@ -1,6 +1,6 @@
 -- `move_bodies` is `moveBodies`: before turn k the first k candidates stand in the table (TableLaws `Moved`).
 use lib.ListN.{length}
-use Rattle.step.proofs.SolveLaws.{finish-case}
+use Rattle.step.proofs.StepLaws.{finish-case}
 use Rattle.step.proofs.TableLaws.{Moved, move-none, move-again, move-stops, move-ends}
 use native.Mathlib.Omega.{arith}
 use mathlib.Core.Path.{_≡_, refl}

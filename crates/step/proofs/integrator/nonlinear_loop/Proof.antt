@@ -1,100 +1,151 @@
+-- `nonlinear_loop` is `nonlinearLoop`: one law for the turns of both loops (PassLaws `Looping`), from impulses that are cleared.
 use borrow.Author.Needs.{needs}
 use native.Mathlib.Omega.{arith}
 use mathlib.Core.Path.{_≡_, refl, _∙_}
 use Prim.Native.Nat.{_*_, _≤_, _-_}
 use lib.ListN.{length}
 use denote.Ref.{now}
-use lib.Dec.{leb}
-use Rattle.step.proofs.StepLaws.{rows-same}
-use Rattle.step.proofs.LoopLaws.{Turned, turned-none, turned-next, turned-met, turned-nonconvergent, turned-overflow, turned-spent, turned-from}
-use Rattle.step.proofs.PassLaws.{looped-is, begun-is, passes-is}
-use Rattle.step.specs.RunView.{foundAt}
+use Rattle.step.specs.RunView.{impulsesAt, foundAt, jobFor, Trying}
+use Rattle.step.proofs.StepLaws.{rows-at}
+use Rattle.step.proofs.CountLaws.{LIMIT, nonlinear-few}
+use Rattle.step.proofs.PassLaws.{left-is, Looping, loop-none, loop-spent, loop-again as looped-again, loop-over}
+use Rattle.step.proofs.NonlinearLaws.{passFrom, same-pass, from-none}
 use Rattle.step.proofs.integrator.nonlinear_loop.Statement.{statement}
 use Rattle.step.proofs.integrator.nonlinear_loop.Tie as tie
 
 abbrev Inv-loop : tie.InvT-loop
-Inv-loop s₀ ia ib joints count n bodies dt passes₀ k₀ s passes k = (k ≤ 32) × (passes ≤ 448 * k) × (length s ≡ length s₀) × (Turned joints count dt (leb bodies count) ia ib n bodies s₀ k s passes)
+Inv-loop s₀ ia ib t joints task linear₀ k₀ s linear k =
+    (k ≤ 32) × (length s ≡ length s₀) × (linear ≤ LIMIT * k)
+    × (Looping 32 Trying (passFrom (jobFor joints task) ia ib t) (λ x. impulsesAt x t) s₀ s k k linear)
 
 abbrev μ-loop : tie.MeasureT-loop
-μ-loop s₀ ia ib joints count n bodies dt passes₀ k₀ s passes k = 32 - k
+μ-loop s₀ ia ib t joints task linear₀ k₀ s linear k = 32 - k
 
 clear-requires : tie.Need-clear-requires Inv-loop μ-loop
-clear-requires c κs = omega (arith, c .before .before .pre .0 .whole, c .before .before .pre .0 .most)
+clear-requires c κs =
+    let at-entry = c .before .before in
+    omega (arith, at-entry .pre .0 .0 .1, at-entry .pre .0 .0 .0 .most)
 
 loop-holds : tie.Need-loop-holds Inv-loop μ-loop
-loop-holds c = (omega arith, omega arith, refl, turned-none (c .before .before .before .before .before .args .joints) (c .before .before .before .before .before .args .count) (c .before .before .before .before .before .args .dt) (leb (c .before .before .before .before .before .args .bodies) (c .before .before .before .before .before .args .count)) (now (c .before .before .before .before .before .args .ia)) (now (c .before .before .before .before .before .args .ib)) (c .before .before .before .before .before .args .n) (c .before .before .before .before .before .args .bodies) (c .before .before .before .before .before .pre .0 .most) (c .before .before .before .before .before .pre .0 .bodies) _ (c .before .before .clear .ensures))
+loop-holds c =
+    let at-entry = c .before .before .before .before .before in (
+      omega arith,
+      refl,
+      omega arith,
+      loop-none 32 Trying
+          (passFrom (jobFor (at-entry .args .joints) (at-entry .args .task)) (now (at-entry .args .ia)) (now (at-entry .args .ib)) (at-entry .args .t))
+          (λ x. impulsesAt x (at-entry .args .t)) _,
+    )
 
 nonlinear-pass-requires : tie.Need-nonlinear-pass-requires Inv-loop μ-loop
-nonlinear-pass-requires c κs = (rows-same (c .before .before .before .before .before .before .before .before .pre .0) (c .before .before .loop .inv .2 ∙ c .before .before .before .before .before .clear .ensures .kept .size), c .before .before .before .before .before .before .before .before .pre .1, c .before .before .before .before .before .before .before .before .pre .2, c .before .before .before .before .before .before .before .before .pre .3)
+nonlinear-pass-requires c κs =
+    let at-loop = c .before .before in let at-clear = at-loop .before .before .before in let at-entry = at-clear .before .before .before in (
+      (
+        (
+          rows-at (at-entry .pre .0 .0 .0) (at-loop .loop .inv .1 ∙ at-clear .clear .ensures .kept .size),
+          omega (arith, at-entry .pre .0 .0 .1, at-loop .loop .inv .1, at-clear .clear .ensures .kept .size),
+        ),
+        at-entry .pre .0 .1,
+      ),
+      at-entry .pre .1,
+    )
 
-add-passes : tie.Need-add-passes Inv-loop μ-loop
-add-passes c = omega (arith, c .before .before .before .before .before .before .loop .inv .1, c .before .before .before .before .before .loop-test .taken, c .before .before .before .nonlinear-pass .ensures .1)
+add-linear : tie.Need-add-linear Inv-loop μ-loop
+add-linear c =
+    let at-nonlinear-pass = c .before .before .before in let at-test = at-nonlinear-pass .before .before in let at-loop = at-test .before in
+    let at-entry = at-loop .before .before .before .before .before .before in
+    omega (
+      arith,
+      at-loop .loop .inv .2,
+      at-test .loop-test .taken,
+      nonlinear-few (now (at-entry .args .ia)) (now (at-entry .args .ib)) (at-loop .loop .s) (at-entry .args .t) (at-entry .pre .0 .0 .0 .most)
+          (jobFor (at-entry .args .joints) (at-entry .args .task)) _ (at-nonlinear-pass .nonlinear-pass .ensures .is),
+    )
+
+enum-known-pass : tie.Need-enum-known-pass Inv-loop μ-loop
+enum-known-pass c = search needs
+
+add-run-ended : tie.Need-add-run-ended Inv-loop μ-loop
+add-run-ended c =
+    let at-nonlinear-pass = c .before .before .before .before .before .before in let at-test = at-nonlinear-pass .before .before in
+    omega (arith, at-test .loop-test .taken)
+
+run-ended-requires : tie.Need-run-ended-requires Inv-loop μ-loop
+run-ended-requires c κs = omega arith
+
+same-length : tie.Need-same-length Inv-loop μ-loop
+same-length c =
+    let at-s2 = c .before .before .before .before .before .before in let at-nonlinear-pass = at-s2 .before in
+    let at-loop = at-nonlinear-pass .before .before .before in let at-clear = at-loop .before .before .before in
+    at-nonlinear-pass .nonlinear-pass .ensures .kept .size ∙ at-loop .loop .inv .1 ∙ at-clear .clear .ensures .kept .size
+
+returns : tie.Need-returns Inv-loop μ-loop
+returns c =
+    let at-s2 = c .before .before .before .before .before .before in let at-nonlinear-pass = at-s2 .before in
+    let at-test = at-nonlinear-pass .before .before in let at-loop = at-test .before in let at-clear = at-loop .before .before .before in
+    let at-entry = at-clear .before .before .before in
+    left-is (λ x. foundAt (now (at-entry .args .ia)) (now (at-entry .args .ib)) x (at-entry .args .t)) (c .run-ended .ensures)
+    (from-none (jobFor (at-entry .args .joints) (at-entry .args .task)) (now (at-entry .args .ia)) (now (at-entry .args .ib)) (at-entry .args .t)
+    (at-entry .pre .0 .1) (at-entry .pre .0 .0 .0 .most) (at-entry .pre .0 .0 .0 .bodies) (at-clear .clear .ensures)
+    (loop-over 32 Trying
+    (passFrom (jobFor (at-entry .args .joints) (at-entry .args .task)) (now (at-entry .args .ia)) (now (at-entry .args .ib)) (at-entry .args .t))
+    (λ x. impulsesAt x (at-entry .args .t)) _ (λ x. foundAt (now (at-entry .args .ia)) (now (at-entry .args .ib)) x (at-entry .args .t))
+    (same-pass (jobFor (at-entry .args .joints) (at-entry .args .task)) (now (at-entry .args .ia)) (now (at-entry .args .ib)) (at-entry .args .t)
+    (at-entry .pre .0 .1) (at-entry .pre .0 .0 .0 .most) (at-entry .pre .0 .0 .0 .bodies)) (at-loop .loop .inv .3)
+    (at-nonlinear-pass .nonlinear-pass .result) (at-nonlinear-pass .nonlinear-pass .ensures) (at-test .loop-test .taken)
+    (c .before .before .pass .given .1)))
 
 enum-told : tie.Need-enum-told Inv-loop μ-loop
 enum-told c = search needs
 
-enum-told-2 : tie.Need-enum-told-2 Inv-loop μ-loop
-enum-told-2 c = search needs
-
-add-loop-left : tie.Need-add-loop-left Inv-loop μ-loop
-add-loop-left c = omega arith
-
-loop-left-requires : tie.Need-loop-left-requires Inv-loop μ-loop
-loop-left-requires c κs = search needs
-
-same-length : tie.Need-same-length Inv-loop μ-loop
-same-length c = omega arith
-
-returns : tie.Need-returns Inv-loop μ-loop
-returns c = (looped-is (λ t. foundAt (now (c .before .before .before .before .before .before .before .before .before .before .before .before .before .before .before .args .ia)) (now (c .before .before .before .before .before .before .before .before .before .before .before .before .before .before .before .args .ib)) t (c .before .before .before .before .before .before .before .before .before .before .before .before .before .before .before .args .n) (c .before .before .before .before .before .before .before .before .before .before .before .before .before .before .before .args .bodies)) (c .loop-left .ensures) (turned-from (c .before .before .before .before .before .before .before .before .before .before .before .before .before .before .before .args .joints) (c .before .before .before .before .before .before .before .before .before .before .before .before .before .before .before .args .count) (c .before .before .before .before .before .before .before .before .before .before .before .before .before .before .before .args .dt) (leb (c .before .before .before .before .before .before .before .before .before .before .before .before .before .before .before .args .bodies) (c .before .before .before .before .before .before .before .before .before .before .before .before .before .before .before .args .count)) (now (c .before .before .before .before .before .before .before .before .before .before .before .before .before .before .before .args .ia)) (now (c .before .before .before .before .before .before .before .before .before .before .before .before .before .before .before .args .ib)) (c .before .before .before .before .before .before .before .before .before .before .before .before .before .before .before .args .n) (c .before .before .before .before .before .before .before .before .before .before .before .before .before .before .before .args .bodies) (c .before .before .before .before .before .before .before .before .before .before .before .before .before .before .before .pre .0 .most) (c .before .before .before .before .before .before .before .before .before .before .before .before .before .before .before .pre .0 .bodies) _ (c .before .before .before .before .before .before .before .before .before .before .before .before .clear .ensures) (turned-met (c .before .before .before .before .before .before .before .before .before .before .before .before .before .before .before .args .joints) (c .before .before .before .before .before .before .before .before .before .before .before .before .before .before .before .args .count) (c .before .before .before .before .before .before .before .before .before .before .before .before .before .before .before .args .dt) (leb (c .before .before .before .before .before .before .before .before .before .before .before .before .before .before .before .args .bodies) (c .before .before .before .before .before .before .before .before .before .before .before .before .before .before .before .args .count)) (now (c .before .before .before .before .before .before .before .before .before .before .before .before .before .before .before .args .ia)) (now (c .before .before .before .before .before .before .before .before .before .before .before .before .before .before .before .args .ib)) (c .before .before .before .before .before .before .before .before .before .before .before .before .before .before .before .args .n) (c .before .before .before .before .before .before .before .before .before .before .before .before .before .before .before .args .bodies) (c .before .before .before .before .before .before .before .before .before .before .before .before .before .before .before .pre .0 .most) (c .before .before .before .before .before .before .before .before .before .before .before .before .before .before .before .pre .0 .bodies) _ (c .before .before .before .before .before .before .before .before .before .loop .k) (c .before .before .before .before .before .before .before .before .before .loop .inv .3) (c .before .before .before .before .before .before .nonlinear-pass .result) (c .before .before .before .before .before .before .nonlinear-pass .ensures .0) (c .before .before .before .before .before .before .before .before .loop-test .taken) (c .before .enum-told2 .given .1))), begun-is (c .loop-left .ensures) (omega (arith, c .before .before .before .before .before .before .before .before .loop-test .taken)), passes-is (c .loop-left .ensures) (omega (arith, c .before .before .before .before .before .before .before .before .before .loop .inv .1, c .before .before .before .before .before .before .before .before .loop-test .taken, c .before .before .before .before .before .before .nonlinear-pass .ensures .1)))
-
-enum-told-3 : tie.Need-enum-told-3 Inv-loop μ-loop
-enum-told-3 c = search needs
-
-add-loop-left-2 : tie.Need-add-loop-left-2 Inv-loop μ-loop
-add-loop-left-2 c = omega arith
-
-loop-left-requires-2 : tie.Need-loop-left-requires-2 Inv-loop μ-loop
-loop-left-requires-2 c κs = search needs
-
-same-length-2 : tie.Need-same-length-2 Inv-loop μ-loop
-same-length-2 c = omega arith
-
-returns-2 : tie.Need-returns-2 Inv-loop μ-loop
-returns-2 c = (looped-is (λ t. foundAt (now (c .before .before .before .before .before .before .before .before .before .before .before .before .before .before .before .args .ia)) (now (c .before .before .before .before .before .before .before .before .before .before .before .before .before .before .before .args .ib)) t (c .before .before .before .before .before .before .before .before .before .before .before .before .before .before .before .args .n) (c .before .before .before .before .before .before .before .before .before .before .before .before .before .before .before .args .bodies)) (c .loop-left2 .ensures) (turned-from (c .before .before .before .before .before .before .before .before .before .before .before .before .before .before .before .args .joints) (c .before .before .before .before .before .before .before .before .before .before .before .before .before .before .before .args .count) (c .before .before .before .before .before .before .before .before .before .before .before .before .before .before .before .args .dt) (leb (c .before .before .before .before .before .before .before .before .before .before .before .before .before .before .before .args .bodies) (c .before .before .before .before .before .before .before .before .before .before .before .before .before .before .before .args .count)) (now (c .before .before .before .before .before .before .before .before .before .before .before .before .before .before .before .args .ia)) (now (c .before .before .before .before .before .before .before .before .before .before .before .before .before .before .before .args .ib)) (c .before .before .before .before .before .before .before .before .before .before .before .before .before .before .before .args .n) (c .before .before .before .before .before .before .before .before .before .before .before .before .before .before .before .args .bodies) (c .before .before .before .before .before .before .before .before .before .before .before .before .before .before .before .pre .0 .most) (c .before .before .before .before .before .before .before .before .before .before .before .before .before .before .before .pre .0 .bodies) _ (c .before .before .before .before .before .before .before .before .before .before .before .before .clear .ensures) (turned-nonconvergent (c .before .before .before .before .before .before .before .before .before .before .before .before .before .before .before .args .joints) (c .before .before .before .before .before .before .before .before .before .before .before .before .before .before .before .args .count) (c .before .before .before .before .before .before .before .before .before .before .before .before .before .before .before .args .dt) (leb (c .before .before .before .before .before .before .before .before .before .before .before .before .before .before .before .args .bodies) (c .before .before .before .before .before .before .before .before .before .before .before .before .before .before .before .args .count)) (now (c .before .before .before .before .before .before .before .before .before .before .before .before .before .before .before .args .ia)) (now (c .before .before .before .before .before .before .before .before .before .before .before .before .before .before .before .args .ib)) (c .before .before .before .before .before .before .before .before .before .before .before .before .before .before .before .args .n) (c .before .before .before .before .before .before .before .before .before .before .before .before .before .before .before .args .bodies) (c .before .before .before .before .before .before .before .before .before .before .before .before .before .before .before .pre .0 .most) (c .before .before .before .before .before .before .before .before .before .before .before .before .before .before .before .pre .0 .bodies) _ (c .before .before .before .before .before .before .before .before .before .loop .k) (c .before .before .before .before .before .before .before .before .before .loop .inv .3) (c .before .before .before .before .before .before .nonlinear-pass .result) (c .before .before .before .before .before .before .nonlinear-pass .ensures .0) (c .before .before .before .before .before .before .before .before .loop-test .taken) (c .before .enum-told3 .given .1))), begun-is (c .loop-left2 .ensures) (omega (arith, c .before .before .before .before .before .before .before .before .loop-test .taken)), passes-is (c .loop-left2 .ensures) (omega (arith, c .before .before .before .before .before .before .before .before .before .loop .inv .1, c .before .before .before .before .before .before .before .before .loop-test .taken, c .before .before .before .before .before .before .nonlinear-pass .ensures .1)))
-
-enum-told-4 : tie.Need-enum-told-4 Inv-loop μ-loop
-enum-told-4 c = search needs
-
-add-loop-left-3 : tie.Need-add-loop-left-3 Inv-loop μ-loop
-add-loop-left-3 c = omega arith
-
-loop-left-requires-3 : tie.Need-loop-left-requires-3 Inv-loop μ-loop
-loop-left-requires-3 c κs = search needs
-
-same-length-3 : tie.Need-same-length-3 Inv-loop μ-loop
-same-length-3 c = omega arith
-
-returns-3 : tie.Need-returns-3 Inv-loop μ-loop
-returns-3 c = (looped-is (λ t. foundAt (now (c .before .before .before .before .before .before .before .before .before .before .before .before .before .before .before .args .ia)) (now (c .before .before .before .before .before .before .before .before .before .before .before .before .before .before .before .args .ib)) t (c .before .before .before .before .before .before .before .before .before .before .before .before .before .before .before .args .n) (c .before .before .before .before .before .before .before .before .before .before .before .before .before .before .before .args .bodies)) (c .loop-left3 .ensures) (turned-from (c .before .before .before .before .before .before .before .before .before .before .before .before .before .before .before .args .joints) (c .before .before .before .before .before .before .before .before .before .before .before .before .before .before .before .args .count) (c .before .before .before .before .before .before .before .before .before .before .before .before .before .before .before .args .dt) (leb (c .before .before .before .before .before .before .before .before .before .before .before .before .before .before .before .args .bodies) (c .before .before .before .before .before .before .before .before .before .before .before .before .before .before .before .args .count)) (now (c .before .before .before .before .before .before .before .before .before .before .before .before .before .before .before .args .ia)) (now (c .before .before .before .before .before .before .before .before .before .before .before .before .before .before .before .args .ib)) (c .before .before .before .before .before .before .before .before .before .before .before .before .before .before .before .args .n) (c .before .before .before .before .before .before .before .before .before .before .before .before .before .before .before .args .bodies) (c .before .before .before .before .before .before .before .before .before .before .before .before .before .before .before .pre .0 .most) (c .before .before .before .before .before .before .before .before .before .before .before .before .before .before .before .pre .0 .bodies) _ (c .before .before .before .before .before .before .before .before .before .before .before .before .clear .ensures) (turned-overflow (c .before .before .before .before .before .before .before .before .before .before .before .before .before .before .before .args .joints) (c .before .before .before .before .before .before .before .before .before .before .before .before .before .before .before .args .count) (c .before .before .before .before .before .before .before .before .before .before .before .before .before .before .before .args .dt) (leb (c .before .before .before .before .before .before .before .before .before .before .before .before .before .before .before .args .bodies) (c .before .before .before .before .before .before .before .before .before .before .before .before .before .before .before .args .count)) (now (c .before .before .before .before .before .before .before .before .before .before .before .before .before .before .before .args .ia)) (now (c .before .before .before .before .before .before .before .before .before .before .before .before .before .before .before .args .ib)) (c .before .before .before .before .before .before .before .before .before .before .before .before .before .before .before .args .n) (c .before .before .before .before .before .before .before .before .before .before .before .before .before .before .before .args .bodies) (c .before .before .before .before .before .before .before .before .before .before .before .before .before .before .before .pre .0 .most) (c .before .before .before .before .before .before .before .before .before .before .before .before .before .before .before .pre .0 .bodies) _ (c .before .before .before .before .before .before .before .before .before .loop .k) (c .before .before .before .before .before .before .before .before .before .loop .inv .3) (c .before .before .before .before .before .before .nonlinear-pass .result) (c .before .before .before .before .before .before .nonlinear-pass .ensures .0) (c .before .before .before .before .before .before .before .before .loop-test .taken) (c .before .enum-told4 .given .1))), begun-is (c .loop-left3 .ensures) (omega (arith, c .before .before .before .before .before .before .before .before .loop-test .taken)), passes-is (c .loop-left3 .ensures) (omega (arith, c .before .before .before .before .before .before .before .before .before .loop .inv .1, c .before .before .before .before .before .before .before .before .loop-test .taken, c .before .before .before .before .before .before .nonlinear-pass .ensures .1)))
-
 add-k : tie.Need-add-k Inv-loop μ-loop
-add-k c = omega arith
+add-k c =
+    let at-nonlinear-pass-arg = c .before .before .before .before .before .before in let at-test = at-nonlinear-pass-arg .before in
+    omega (arith, at-test .loop-test .taken)
 
 loop-less : tie.Need-loop-less Inv-loop μ-loop
-loop-less c = omega arith
+loop-less c =
+    let at-nonlinear-pass-arg = c .before .before .before .before .before .before in let at-test = at-nonlinear-pass-arg .before in
+    omega (arith, at-test .loop-test .taken)
 
 loop-again : tie.Need-loop-again Inv-loop μ-loop
-loop-again c = (omega (arith, c .before .before .before .before .before .before .before .loop-test .taken), omega (arith, c .before .before .before .before .before .before .before .before .loop .inv .1, c .before .before .before .before .before .before .before .loop-test .taken, c .before .before .before .before .before .nonlinear-pass .ensures .1), c .before .before .before .before .before .nonlinear-pass .ensures .0 .kept .size ∙ c .before .before .before .before .before .before .before .before .loop .inv .2, turned-next (c .before .before .before .before .before .before .before .before .before .before .before .before .before .before .args .joints) (c .before .before .before .before .before .before .before .before .before .before .before .before .before .before .args .count) (c .before .before .before .before .before .before .before .before .before .before .before .before .before .before .args .dt) (leb (c .before .before .before .before .before .before .before .before .before .before .before .before .before .before .args .bodies) (c .before .before .before .before .before .before .before .before .before .before .before .before .before .before .args .count)) (now (c .before .before .before .before .before .before .before .before .before .before .before .before .before .before .args .ia)) (now (c .before .before .before .before .before .before .before .before .before .before .before .before .before .before .args .ib)) (c .before .before .before .before .before .before .before .before .before .before .before .before .before .before .args .n) (c .before .before .before .before .before .before .before .before .before .before .before .before .before .before .args .bodies) (c .before .before .before .before .before .before .before .before .before .before .before .before .before .before .pre .0 .most) (c .before .before .before .before .before .before .before .before .before .before .before .before .before .before .pre .0 .bodies) _ (c .before .before .before .before .before .before .before .before .loop .k) (c .before .before .before .before .before .before .before .before .loop .inv .3) (c .before .before .before .before .before .nonlinear-pass .result) (c .before .before .before .before .before .nonlinear-pass .ensures .0) (c .enum-told .given .1))
+loop-again c =
+    let at-nonlinear-pass = c .before .before .before .before .before in let at-test = at-nonlinear-pass .before .before in
+    let at-loop = at-test .before in let at-entry = at-loop .before .before .before .before .before .before in (
+      omega (arith, at-test .loop-test .taken),
+      at-nonlinear-pass .nonlinear-pass .ensures .kept .size ∙ at-loop .loop .inv .1,
+      omega (
+        arith,
+        at-loop .loop .inv .2,
+        nonlinear-few (now (at-entry .args .ia)) (now (at-entry .args .ib)) (at-loop .loop .s) (at-entry .args .t) (at-entry .pre .0 .0 .0 .most)
+            (jobFor (at-entry .args .joints) (at-entry .args .task)) _ (at-nonlinear-pass .nonlinear-pass .ensures .is),
+      ),
+      looped-again 32 Trying
+          (passFrom (jobFor (at-entry .args .joints) (at-entry .args .task)) (now (at-entry .args .ia)) (now (at-entry .args .ib)) (at-entry .args .t))
+          (λ x. impulsesAt x (at-entry .args .t)) _ (λ x. foundAt (now (at-entry .args .ia)) (now (at-entry .args .ib)) x (at-entry .args .t))
+          (same-pass (jobFor (at-entry .args .joints) (at-entry .args .task)) (now (at-entry .args .ia)) (now (at-entry .args .ib)) (at-entry .args .t)
+          (at-entry .pre .0 .1) (at-entry .pre .0 .0 .0 .most) (at-entry .pre .0 .0 .0 .bodies)) (at-loop .loop .inv .3)
+          (at-nonlinear-pass .nonlinear-pass .result) (at-nonlinear-pass .nonlinear-pass .ensures) (at-test .loop-test .taken) (c .enum-told .given .1),
+    )
 
-loop-left-requires-4 : tie.Need-loop-left-requires-4 Inv-loop μ-loop
-loop-left-requires-4 c κs = search needs
+run-ended-requires-2 : tie.Need-run-ended-requires-2 Inv-loop μ-loop
+run-ended-requires-2 c κs = omega arith
 
-same-length-4 : tie.Need-same-length-4 Inv-loop μ-loop
-same-length-4 c = omega arith
+same-length-2 : tie.Need-same-length-2 Inv-loop μ-loop
+same-length-2 c =
+    let at-clear = c .before .before .before .before .before in
+    c .before .before .loop .inv .1 ∙ at-clear .clear .ensures .kept .size
 
-returns-4 : tie.Need-returns-4 Inv-loop μ-loop
-returns-4 c = (looped-is (λ t. foundAt (now (c .before .before .before .before .before .before .before .before .args .ia)) (now (c .before .before .before .before .before .before .before .before .args .ib)) t (c .before .before .before .before .before .before .before .before .args .n) (c .before .before .before .before .before .before .before .before .args .bodies)) (c .loop-left4 .ensures) (turned-from (c .before .before .before .before .before .before .before .before .args .joints) (c .before .before .before .before .before .before .before .before .args .count) (c .before .before .before .before .before .before .before .before .args .dt) (leb (c .before .before .before .before .before .before .before .before .args .bodies) (c .before .before .before .before .before .before .before .before .args .count)) (now (c .before .before .before .before .before .before .before .before .args .ia)) (now (c .before .before .before .before .before .before .before .before .args .ib)) (c .before .before .before .before .before .before .before .before .args .n) (c .before .before .before .before .before .before .before .before .args .bodies) (c .before .before .before .before .before .before .before .before .pre .0 .most) (c .before .before .before .before .before .before .before .before .pre .0 .bodies) _ (c .before .before .before .before .before .clear .ensures) (turned-spent (c .before .before .before .before .before .before .before .before .args .joints) (c .before .before .before .before .before .before .before .before .args .count) (c .before .before .before .before .before .before .before .before .args .dt) (leb (c .before .before .before .before .before .before .before .before .args .bodies) (c .before .before .before .before .before .before .before .before .args .count)) (now (c .before .before .before .before .before .before .before .before .args .ia)) (now (c .before .before .before .before .before .before .before .before .args .ib)) (c .before .before .before .before .before .before .before .before .args .n) (c .before .before .before .before .before .before .before .before .args .bodies) (c .before .before .before .before .before .before .before .before .pre .0 .most) (c .before .before .before .before .before .before .before .before .pre .0 .bodies) _ (c .before .before .loop .k) (c .before .before .loop .inv .3) (omega arith) (c .before .loop-test .left))), begun-is (c .loop-left4 .ensures) (omega arith), passes-is (c .loop-left4 .ensures) (omega (arith, c .before .before .loop .inv .0, c .before .before .loop .inv .1)))
+returns-2 : tie.Need-returns-2 Inv-loop μ-loop
+returns-2 c =
+    let at-loop = c .before .before in let at-clear = at-loop .before .before .before in let at-entry = at-clear .before .before .before in
+    left-is (λ x. foundAt (now (at-entry .args .ia)) (now (at-entry .args .ib)) x (at-entry .args .t)) (c .run-ended2 .ensures)
+    (from-none (jobFor (at-entry .args .joints) (at-entry .args .task)) (now (at-entry .args .ia)) (now (at-entry .args .ib)) (at-entry .args .t)
+    (at-entry .pre .0 .1) (at-entry .pre .0 .0 .0 .most) (at-entry .pre .0 .0 .0 .bodies) (at-clear .clear .ensures)
+    (loop-spent 32 Trying
+    (passFrom (jobFor (at-entry .args .joints) (at-entry .args .task)) (now (at-entry .args .ia)) (now (at-entry .args .ib)) (at-entry .args .t))
+    (λ x. impulsesAt x (at-entry .args .t)) _ (at-loop .loop .inv .3) (c .before .loop-test .left)
+    (omega (arith, at-loop .loop .inv .0, c .before .loop-test .left))))
 
 pub nonlinear-loop-spec : {M : Type 1} → statement M
 nonlinear-loop-spec =
@@ -105,26 +156,16 @@ nonlinear-loop-spec =
     clear-requires
     loop-holds
     nonlinear-pass-requires
-    add-passes
-    enum-told
-    enum-told-2
-    add-loop-left
-    loop-left-requires
+    add-linear
+    enum-known-pass
+    add-run-ended
+    run-ended-requires
     same-length
     returns
-    enum-told-3
-    add-loop-left-2
-    loop-left-requires-2
-    same-length-2
-    returns-2
-    enum-told-4
-    add-loop-left-3
-    loop-left-requires-3
-    same-length-3
-    returns-3
+    enum-told
     add-k
     loop-less
     loop-again
-    loop-left-requires-4
-    same-length-4
-    returns-4)
+    run-ended-requires-2
+    same-length-2
+    returns-2)

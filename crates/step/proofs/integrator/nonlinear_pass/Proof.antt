@@ -1,70 +1,101 @@
-use native.Mathlib.Omega.{arith}
-use Prim.Native.Nat.{_-_}
-use lib.ListN.{length}
-use denote.Ref.{now}
-use Rattle.step.proofs.StepLaws.{rows-same}
-use Rattle.step.proofs.LoopLaws.{pass-nonconvergent, pass-overflow, pass-met, pass-corrects}
+-- `nonlinear_pass` is `nonlinearPass`: the candidates, the test of their rows, and where it fails the correction (NonlinearLaws).
 use borrow.Author.Needs.{needs}
+use native.Mathlib.Omega.{arith}
+use mathlib.Core.Path.{_∙_}
+use denote.Ref.{now}
+use Rattle.step.specs.RunView.{impulsesAt, foundAt, jobFor}
+use Rattle.step.proofs.StepLaws.{rows-at}
+use Rattle.step.proofs.PassLaws.{passed-is}
+use Rattle.step.proofs.NonlinearLaws.{not-found, found-met, found-unmet}
 use Rattle.step.proofs.integrator.nonlinear_pass.Statement.{statement}
 use Rattle.step.proofs.integrator.nonlinear_pass.Tie as tie
 
 candidate-requires : tie.Need-candidate-requires
 candidate-requires c κs = c .before .before .pre
 
-enum-told : tie.Need-enum-told
-enum-told c = search needs
+done-requires : tie.Need-done-requires
+done-requires c κs = search needs
 
-rows-met-requires : tie.Need-rows-met-requires
-rows-met-requires c κs = (omega (arith, c .before .before .before .before .before .candidate .ensures .0 .kept .size, c .before .before .before .before .before .before .before .before .pre .0 .whole), c .before .before .before .before .before .before .before .before .pre .0 .most)
+pass-ended-requires : tie.Need-pass-ended-requires
+pass-ended-requires c κs = search needs
 
 same-length : tie.Need-same-length
-same-length c = search needs
+same-length c =
+    let at-candidate = c .before .before .before .before .before in
+    at-candidate .candidate .ensures .0 .kept .size
 
 returns : tie.Need-returns
-returns c = (pass-met (c .before .before .before .before .before .before .before .before .before .before .args .joints) (c .before .before .before .before .before .before .before .before .before .before .args .count) (c .before .before .before .before .before .before .before .before .before .before .args .dt) _ (now (c .before .before .before .before .before .before .before .before .before .before .args .ia)) (now (c .before .before .before .before .before .before .before .before .before .before .args .ib)) (c .before .before .before .before .before .before .before .before .before .before .args .n) (c .before .before .before .before .before .before .before .before .before .before .args .bodies) (c .before .before .before .before .before .before .before .before .before .before .pre .0 .most) (c .before .before .before .before .before .before .before .before .before .before .pre .0 .bodies) _ _ (c .before .before .before .before .before .before .before .candidate .result) (c .before .before .before .before .before .before .before .candidate .ensures) (c .before .before .before .enum-told .given .1) (c .before .rows-met .ensures (now (c .before .before .before .before .before .before .before .before .before .before .args .ia)) (now (c .before .before .before .before .before .before .before .before .before .before .args .ib))) (c .if1 .taken), omega arith)
+returns c =
+    let at-candidate = c .before .before .before .before .before in let at-entry = at-candidate .before .before .before in
+    passed-is 1 (λ x. impulsesAt x (at-entry .args .t)) (λ x. foundAt (now (at-entry .args .ia)) (now (at-entry .args .ib)) x (at-entry .args .t))
+    (c .pass-ended .ensures)
+    (not-found (jobFor (at-entry .args .joints) (at-entry .args .task)) (now (at-entry .args .ia)) (now (at-entry .args .ib)) (at-entry .args .t)
+    (at-entry .pre .0 .1) (at-entry .pre .0 .0 .0 .most) (at-entry .pre .0 .0 .0 .bodies) (at-candidate .candidate .result)
+    (at-candidate .candidate .ensures) (c .before .before .done .ensures) (c .before .if1 .taken))
 
-correct-requires : tie.Need-correct-requires
-correct-requires c κs = rows-same (c .before .before .before .before .before .before .before .before .before .before .before .pre .0) (c .before .before .before .before .before .before .before .before .candidate .ensures .0 .kept .size)
+rows-met-requires : tie.Need-rows-met-requires
+rows-met-requires c κs =
+    let at-candidate = c .before .before .before .before .before in let at-entry = at-candidate .before .before .before in
+    (omega (arith, at-entry .pre .0 .0 .1, at-candidate .candidate .ensures .0 .kept .size), at-entry .pre .0 .0 .0 .most)
 
-enum-told-2 : tie.Need-enum-told-2
-enum-told-2 c = search needs
-
-enum-told-3 : tie.Need-enum-told-3
-enum-told-3 c = search needs
+pass-ended-requires-2 : tie.Need-pass-ended-requires-2
+pass-ended-requires-2 c κs = search needs
 
 same-length-2 : tie.Need-same-length-2
-same-length-2 c = search needs
+same-length-2 c =
+    let at-slice-known2 = c .before .before .before .before .before .before in let at-candidate = at-slice-known2 .before .before in
+    at-candidate .candidate .ensures .0 .kept .size
 
 returns-2 : tie.Need-returns-2
-returns-2 c = (pass-corrects (c .before .before .before .before .before .before .before .before .before .before .before .before .before .before .args .joints) (c .before .before .before .before .before .before .before .before .before .before .before .before .before .before .args .count) (c .before .before .before .before .before .before .before .before .before .before .before .before .before .before .args .dt) _ (now (c .before .before .before .before .before .before .before .before .before .before .before .before .before .before .args .ia)) (now (c .before .before .before .before .before .before .before .before .before .before .before .before .before .before .args .ib)) (c .before .before .before .before .before .before .before .before .before .before .before .before .before .before .args .n) (c .before .before .before .before .before .before .before .before .before .before .before .before .before .before .args .bodies) (c .before .before .before .before .before .before .before .before .before .before .before .before .before .before .pre .0 .most) (c .before .before .before .before .before .before .before .before .before .before .before .before .before .before .pre .0 .bodies) _ _ (c .before .before .before .before .before .before .before .before .before .before .before .candidate .result) (c .before .before .before .before .before .before .before .before .before .before .before .candidate .ensures) (c .before .before .before .before .before .before .before .enum-told .given .1) (c .before .before .before .before .before .rows-met .ensures (now (c .before .before .before .before .before .before .before .before .before .before .before .before .before .before .args .ia)) (now (c .before .before .before .before .before .before .before .before .before .before .before .before .before .before .args .ib))) (c .before .before .before .before .if1 .left) _ (c .before .before .correct .ensures .0), c .before .before .correct .ensures .1)
+returns-2 c =
+    let at-if1 = c .before .before .before .before in let at-done = at-if1 .before in let at-candidate = at-done .before .before .before in
+    let at-entry = at-candidate .before .before .before in
+    passed-is 1 (λ x. impulsesAt x (at-entry .args .t)) (λ x. foundAt (now (at-entry .args .ia)) (now (at-entry .args .ib)) x (at-entry .args .t))
+    (c .pass-ended2 .ensures)
+    (found-met (jobFor (at-entry .args .joints) (at-entry .args .task)) (now (at-entry .args .ia)) (now (at-entry .args .ib)) (at-entry .args .t)
+    (at-entry .pre .0 .1) (at-entry .pre .0 .0 .0 .most) (at-entry .pre .0 .0 .0 .bodies) (at-candidate .candidate .result)
+    (at-candidate .candidate .ensures) (at-done .done .ensures) (at-if1 .if1 .left)
+    (c .before .before .rows-met .ensures (now (at-entry .args .ia)) (now (at-entry .args .ib))) (c .before .if2 .taken))
+
+correct-requires : tie.Need-correct-requires
+correct-requires c κs =
+    let at-slice-known2 = c .before .before .before .before .before .before in let at-candidate = at-slice-known2 .before .before in
+    let at-entry = at-candidate .before .before .before in (
+      (
+        rows-at (at-entry .pre .0 .0 .0) (at-candidate .candidate .ensures .0 .kept .size),
+        omega (arith, at-entry .pre .0 .0 .1, at-candidate .candidate .ensures .0 .kept .size),
+      ),
+      at-entry .pre .0 .1,
+    )
 
 same-length-3 : tie.Need-same-length-3
-same-length-3 c = search needs
+same-length-3 c =
+    let at-rows-met-arg = c .before .before .before .before .before .before in
+    let at-candidate = at-rows-met-arg .before .before .before .before .before in
+    c .before .before .correct .ensures .kept .size ∙ at-candidate .candidate .ensures .0 .kept .size
 
 returns-3 : tie.Need-returns-3
-returns-3 c = (pass-nonconvergent (c .before .before .before .before .before .before .before .args .joints) (c .before .before .before .before .before .before .before .args .count) (c .before .before .before .before .before .before .before .args .dt) _ (now (c .before .before .before .before .before .before .before .args .ia)) (now (c .before .before .before .before .before .before .before .args .ib)) (c .before .before .before .before .before .before .before .args .n) (c .before .before .before .before .before .before .before .args .bodies) (c .before .before .before .before .before .before .before .pre .0 .most) (c .before .before .before .before .before .before .before .pre .0 .bodies) _ _ (c .before .before .before .before .candidate .result) (c .before .before .before .before .candidate .ensures) (c .enum-told2 .given .1), omega arith)
-
-same-length-4 : tie.Need-same-length-4
-same-length-4 c = search needs
-
-returns-4 : tie.Need-returns-4
-returns-4 c = (pass-overflow (c .before .before .before .before .before .before .before .args .joints) (c .before .before .before .before .before .before .before .args .count) (c .before .before .before .before .before .before .before .args .dt) _ (now (c .before .before .before .before .before .before .before .args .ia)) (now (c .before .before .before .before .before .before .before .args .ib)) (c .before .before .before .before .before .before .before .args .n) (c .before .before .before .before .before .before .before .args .bodies) (c .before .before .before .before .before .before .before .pre .0 .most) (c .before .before .before .before .before .before .before .pre .0 .bodies) _ _ (c .before .before .before .before .candidate .result) (c .before .before .before .before .candidate .ensures) (c .enum-told3 .given .1), omega arith)
+returns-3 c =
+    let at-if2 = c .before .before .before .before in let at-rows-met = at-if2 .before in let at-if1 = at-rows-met .before .before in
+    let at-done = at-if1 .before in let at-candidate = at-done .before .before .before in let at-entry = at-candidate .before .before .before in
+    found-unmet (jobFor (at-entry .args .joints) (at-entry .args .task)) (now (at-entry .args .ia)) (now (at-entry .args .ib)) (at-entry .args .t)
+    (at-entry .pre .0 .1) (at-entry .pre .0 .0 .0 .most) (at-entry .pre .0 .0 .0 .bodies) (at-candidate .candidate .result)
+    (at-candidate .candidate .ensures) (at-done .done .ensures) (at-if1 .if1 .left)
+    (at-rows-met .rows-met .ensures (now (at-entry .args .ia)) (now (at-entry .args .ib))) (at-if2 .if2 .left) (c .before .before .correct .ensures)
 
 pub nonlinear-pass-spec : {M : Type 1} → statement M
 nonlinear-pass-spec =
     tie.close
     (tie.spec
     candidate-requires
-    enum-told
-    rows-met-requires
+    done-requires
+    pass-ended-requires
     same-length
     returns
-    correct-requires
-    enum-told-2
-    enum-told-3
+    rows-met-requires
+    pass-ended-requires-2
     same-length-2
     returns-2
+    correct-requires
     same-length-3
-    returns-3
-    same-length-4
-    returns-4)
+    returns-3)

@@ -1,15 +1,17 @@
 -- `prepare_masses` is `prepareMasses`: before turn k the first k masses stand in the table (TableLaws `Weighed`).
-use lib.ListN.{length}
-use Rattle.step.proofs.TableLaws.{Weighed, weigh-none, weigh-again, weigh-stops, weigh-ends}
+use borrow.Author.Needs.{needs}
 use native.Mathlib.Omega.{arith}
 use mathlib.Core.Path.{_≡_, refl}
 use Prim.Native.Nat.{_≤_, _-_}
-use borrow.Author.Needs.{needs}
+use lib.ListN.{length}
+use Rattle.solves.specs.DoesLaws.{went, failed, fails, does-eq}
+use Rattle.step.proofs.TableLaws.{Weighed, weigh-none, weigh-again, weigh-stops, weigh-ends}
 use Rattle.step.proofs.integrator.prepare_masses.Statement.{statement}
 use Rattle.step.proofs.integrator.prepare_masses.Tie as tie
 
 abbrev Inv-loop : tie.InvT-loop
-Inv-loop s₀ n moved k₀ s k = (k ≤ n) × (length s ≡ length s₀) × (Weighed moved n s₀ k s)
+Inv-loop s₀ n moved k₀ s k =
+    (k ≤ n) × (length s ≡ length s₀) × (Weighed moved n s₀ k s)
 
 abbrev μ-loop : tie.MeasureT-loop
 μ-loop s₀ n moved k₀ s k = n - k
@@ -23,8 +25,8 @@ load-moved-requires c κs = omega arith
 prepare-mass-requires : tie.Need-prepare-mass-requires Inv-loop μ-loop
 prepare-mass-requires c κs = omega arith
 
-enum-told : tie.Need-enum-told Inv-loop μ-loop
-enum-told c = search needs
+done-requires : tie.Need-done-requires Inv-loop μ-loop
+done-requires c κs = search needs
 
 same-length : tie.Need-same-length Inv-loop μ-loop
 same-length c = omega arith
@@ -33,11 +35,10 @@ returns : tie.Need-returns Inv-loop μ-loop
 returns c =
     let at-prepare-mass = c .before .before .before .before in let at-load-moved = at-prepare-mass .before .before in
     let at-test = at-load-moved .before .before in let at-loop = at-test .before in let at-entry = at-loop .before .before in
-    weigh-stops (at-entry .args .moved) (at-entry .args .n) _ _ _ (at-loop .loop .inv .2) (at-test .loop-test .taken) (at-entry .pre .1)
-    (at-load-moved .load-moved .ensures) _ (c .enum-told .given .1) (at-prepare-mass .prepare-mass .ensures)
-
-enum-told-2 : tie.Need-enum-told-2 Inv-loop μ-loop
-enum-told-2 c = search needs
+    does-eq (fails _ (at-prepare-mass .prepare-mass .result) (c .before .done .ensures) (c .if1 .taken))
+    (weigh-stops (at-entry .args .moved) (at-entry .args .n) _ _ _ (at-loop .loop .inv .2) (at-test .loop-test .taken) (at-entry .pre .1)
+    (at-load-moved .load-moved .ensures)
+    (failed _ (at-prepare-mass .prepare-mass .result) (c .before .done .ensures) (at-prepare-mass .prepare-mass .ensures) (c .if1 .taken)))
 
 add-k : tie.Need-add-k Inv-loop μ-loop
 add-k c = omega arith
@@ -52,7 +53,8 @@ loop-again c =
       omega arith,
       omega arith,
       weigh-again (at-entry .args .moved) (at-entry .args .n) _ _ _ (at-loop .loop .inv .2) (at-test .loop-test .taken) (at-entry .pre .1)
-          (at-load-moved .load-moved .ensures) _ (c .enum-told2 .given .1) (at-prepare-mass .prepare-mass .ensures),
+          (at-load-moved .load-moved .ensures)
+          (went _ (at-prepare-mass .prepare-mass .result) (c .before .done .ensures) (at-prepare-mass .prepare-mass .ensures) (c .if1 .left)),
     )
 
 same-length-2 : tie.Need-same-length-2 Inv-loop μ-loop
@@ -72,10 +74,9 @@ prepare-masses-spec =
     loop-holds
     load-moved-requires
     prepare-mass-requires
-    enum-told
+    done-requires
     same-length
     returns
-    enum-told-2
     add-k
     loop-less
     loop-again

@@ -1,13 +1,16 @@
-use Rattle.step.proofs.FinishLaws.{run-1, run-2, run-3, run-4, run-5}
-use native.Mathlib.Omega.{arith}
-use Prim.Native.Nat.{_-_}
-use lib.ListN.{length}
-use denote.Ref.{now}
-use Rattle.step.specs.Records.{bodyCount}
-use Rattle.step.proofs.StepLaws.{rows-of}
-use Rattle.step.proofs.PassLaws.{progress-is}
-use Rattle.step.specs.View.{statesAt}
+-- `run` is `runFor`: the start, the nonlinear loop and the end of the run, one after the other (FinishLaws).
 use borrow.Author.Needs.{needs}
+use native.Mathlib.Omega.{arith}
+use mathlib.Core.Path.{_∙_}
+use denote.Ref.{now}
+use Rattle.solves.specs.View.{START-ROWS}
+use Rattle.step.specs.Records.{bodyCount, recordsOf}
+use Rattle.step.specs.View.{statesAt}
+use Rattle.step.specs.Step.{jobOf}
+use Rattle.step.proofs.StepLaws.{rows-of}
+use Rattle.step.proofs.CountLaws.{loop-few, finish-few}
+use Rattle.step.proofs.PassLaws.{left-is}
+use Rattle.step.proofs.FinishLaws.{started-as, not-started, not-met, all-run}
 use Rattle.step.proofs.integrator.run.Statement.{statement}
 use Rattle.step.proofs.integrator.run.Tie as tie
 
@@ -23,71 +26,139 @@ row-bodies-requires c κs = search needs
 start-requires : tie.Need-start-requires
 start-requires c κs = search needs
 
-enum-told : tie.Need-enum-told
-enum-told c = search needs
-
-enum-told-2 : tie.Need-enum-told-2
-enum-told-2 c = search needs
+done-requires : tie.Need-done-requires
+done-requires c κs = search needs
 
 run-ended-requires : tie.Need-run-ended-requires
 run-ended-requires c κs = search needs
 
 same-length : tie.Need-same-length
-same-length c = search needs
+same-length c =
+    let at-start = c .before .before .before .before .before in let at-row-bodies = at-start .before .before .before .before in
+    (at-start .start .ensures _ _ (at-row-bodies .row-bodies .ensures .1)) .kept .size
 
 returns : tie.Need-returns
-returns c = progress-is (λ t. statesAt t (bodyCount (now (c .before .before .before .before .before .before .before .before .before .before .before .before .before .before .args .bodies)))) (c .run-ended .ensures) (run-1 (now (c .before .before .before .before .before .before .before .before .before .before .before .before .before .before .args .bodies)) (c .before .before .before .before .before .before .before .before .before .before .before .before .before .before .args .joints) (c .before .before .before .before .before .before .before .before .before .before .before .before .before .before .args .count) (c .before .before .before .before .before .before .before .before .before .before .before .before .before .before .args .dt) (c .before .before .before .before .before .before .before .before .before .row-bodies .ensures .1) (c .before .before .before .before .before .before .before .before .before .row-bodies .result) (c .before .before .before .before .before .before .before .before .before .row-bodies .ensures .2) _ _ (c .before .before .before .before .before .start .result) (c .before .before .before .before .before .start .ensures) (c .before .enum-told2 .given .1))
+returns c =
+    let at-start = c .before .before .before .before .before in let at-row-bodies = at-start .before .before .before .before in
+    let at-entry = at-row-bodies .before .before .before .before .before in
+    left-is (λ x. statesAt x (bodyCount (now (at-entry .args .bodies)))) (c .run-ended .ensures)
+    (not-started (jobOf (now (at-entry .args .bodies)) (at-entry .args .joints) (at-entry .args .count) (at-entry .args .dt))
+    (recordsOf (now (at-entry .args .bodies))) (at-row-bodies .row-bodies .ensures .1)
+    (record { place = START-ROWS; rows = at-row-bodies .row-bodies .result; bodies = bodyCount (now (at-entry .args .bodies)) })
+    (at-start .start .result)
+    (started-as (at-row-bodies .row-bodies .ensures .1) _ (at-start .start .result) (at-row-bodies .row-bodies .ensures .2)
+    (at-start .start .ensures _ _ (at-row-bodies .row-bodies .ensures .1))) (c .before .before .done .ensures) (c .before .if1 .taken))
 
-enum-told-3 : tie.Need-enum-told-3
-enum-told-3 c = search needs
+nonlinear-loop-requires : tie.Need-nonlinear-loop-requires
+nonlinear-loop-requires c κs =
+    let at-s = c .before .before .before .before .before .before in let at-start = at-s .before in
+    let at-row-bodies = at-start .before .before .before .before in let at-entry = at-row-bodies .before .before .before .before .before in (
+      (
+        (
+          rows-of _ (omega arith) (omega (arith, at-entry .pre .0, (at-start .start .ensures _ _ (at-row-bodies .row-bodies .ensures .1)) .kept .size))
+              (at-entry .pre .1) (at-row-bodies .row-bodies .ensures .0),
+          omega (arith, at-entry .pre .0, (at-start .start .ensures _ _ (at-row-bodies .row-bodies .ensures .1)) .kept .size),
+        ),
+        omega arith,
+      ),
+      record { joined = at-entry .pre .1; sides = at-row-bodies .row-bodies .ensures .1; rows-are = at-row-bodies .row-bodies .ensures .2 },
+    )
+
+done-requires-2 : tie.Need-done-requires-2
+done-requires-2 c κs = search needs
+
+same-length-2 : tie.Need-same-length-2
+same-length-2 c =
+    let at-nonlinear-loop = c .before .before .before .before in
+    let at-slice-known2 = at-nonlinear-loop .before .before .before .before .before .before in let at-start = at-slice-known2 .before .before in
+    let at-row-bodies = at-start .before .before .before .before in
+    at-nonlinear-loop .nonlinear-loop .ensures .kept .size ∙ (at-start .start .ensures _ _ (at-row-bodies .row-bodies .ensures .1)) .kept .size
+
+returns-2 : tie.Need-returns-2
+returns-2 c =
+    let at-nonlinear-loop = c .before .before .before .before in let at-if1 = at-nonlinear-loop .before .before .before .before in
+    let at-done = at-if1 .before in let at-start = at-done .before .before .before in
+    let at-row-bodies = at-start .before .before .before .before in let at-entry = at-row-bodies .before .before .before .before .before in
+    not-met (jobOf (now (at-entry .args .bodies)) (at-entry .args .joints) (at-entry .args .count) (at-entry .args .dt))
+    (recordsOf (now (at-entry .args .bodies))) (at-row-bodies .row-bodies .ensures .1)
+    (record { place = START-ROWS; rows = at-row-bodies .row-bodies .result; bodies = bodyCount (now (at-entry .args .bodies)) })
+    (at-start .start .result)
+    (started-as (at-row-bodies .row-bodies .ensures .1) _ (at-start .start .result) (at-row-bodies .row-bodies .ensures .2)
+    (at-start .start .ensures _ _ (at-row-bodies .row-bodies .ensures .1))) (at-done .done .ensures) (at-if1 .if1 .left)
+    (at-nonlinear-loop .nonlinear-loop .result) (at-nonlinear-loop .nonlinear-loop .ensures) (c .before .done2 .ensures) (c .if2 .taken)
+
+finish-run-requires : tie.Need-finish-run-requires
+finish-run-requires c κs =
+    let at-s2 = c .before .before .before .before .before .before in let at-nonlinear-loop = at-s2 .before in
+    let at-slice-known2 = at-nonlinear-loop .before .before .before .before .before .before in let at-start = at-slice-known2 .before .before in
+    let at-row-bodies = at-start .before .before .before .before in let at-entry = at-row-bodies .before .before .before .before .before in (
+      (
+        rows-of _ (omega arith)
+            (omega (
+              arith,
+              at-entry .pre .0,
+              at-nonlinear-loop .nonlinear-loop .ensures .kept .size,
+              (at-start .start .ensures _ _ (at-row-bodies .row-bodies .ensures .1)) .kept .size,
+            )) (at-entry .pre .1)
+            (at-row-bodies .row-bodies .ensures .0),
+        omega (
+          arith,
+          at-entry .pre .0,
+          at-nonlinear-loop .nonlinear-loop .ensures .kept .size,
+          (at-start .start .ensures _ _ (at-row-bodies .row-bodies .ensures .1)) .kept .size,
+        ),
+      ),
+      omega arith,
+    )
+
+add-run-ended : tie.Need-add-run-ended
+add-run-ended c =
+    let at-finish-run = c .before .before .before .before in let at-slice-known3 = at-finish-run .before .before .before .before .before .before in
+    let at-nonlinear-loop = at-slice-known3 .before .before in
+    let at-slice-known2 = at-nonlinear-loop .before .before .before .before .before .before in
+    let at-row-bodies = at-slice-known2 .before .before .before .before .before .before in
+    let at-entry = at-row-bodies .before .before .before .before .before in
+    omega (
+      arith,
+      loop-few (at-row-bodies .row-bodies .ensures .1)
+          (record { place = START-ROWS; rows = at-row-bodies .row-bodies .result; bodies = bodyCount (now (at-entry .args .bodies)) })
+          (omega (arith, at-row-bodies .row-bodies .ensures .0 .most, at-entry .pre .1 .few))
+          (jobOf (now (at-entry .args .bodies)) (at-entry .args .joints) (at-entry .args .count) (at-entry .args .dt))
+          (at-nonlinear-loop .nonlinear-loop .ensures),
+      finish-few (at-row-bodies .row-bodies .ensures .1)
+          (record { place = START-ROWS; rows = at-row-bodies .row-bodies .result; bodies = bodyCount (now (at-entry .args .bodies)) })
+          (omega (arith, at-row-bodies .row-bodies .ensures .0 .most, at-entry .pre .1 .few)) _ _ (at-finish-run .finish-run .ensures),
+    )
 
 run-ended-requires-2 : tie.Need-run-ended-requires-2
 run-ended-requires-2 c κs = search needs
 
-same-length-2 : tie.Need-same-length-2
-same-length-2 c = search needs
-
-returns-2 : tie.Need-returns-2
-returns-2 c = progress-is (λ t. statesAt t (bodyCount (now (c .before .before .before .before .before .before .before .before .before .before .before .before .before .before .args .bodies)))) (c .run-ended2 .ensures) (run-2 (now (c .before .before .before .before .before .before .before .before .before .before .before .before .before .before .args .bodies)) (c .before .before .before .before .before .before .before .before .before .before .before .before .before .before .args .joints) (c .before .before .before .before .before .before .before .before .before .before .before .before .before .before .args .count) (c .before .before .before .before .before .before .before .before .before .before .before .before .before .before .args .dt) (c .before .before .before .before .before .before .before .before .before .row-bodies .ensures .1) (c .before .before .before .before .before .before .before .before .before .row-bodies .result) (c .before .before .before .before .before .before .before .before .before .row-bodies .ensures .2) _ _ (c .before .before .before .before .before .start .result) (c .before .before .before .before .before .start .ensures) (c .before .enum-told3 .given .1))
-
-nonlinear-loop-requires : tie.Need-nonlinear-loop-requires
-nonlinear-loop-requires c κs = ((rows-of _ (omega arith) (omega (arith, c .before .before .before .before .before .before .before .start .ensures _ _ (c .before .before .before .before .before .before .before .before .before .before .before .row-bodies .ensures .1) .kept .size, c .before .before .before .before .before .before .before .before .before .before .before .before .before .before .before .before .pre .0)) (c .before .before .before .before .before .before .before .before .before .before .before .before .before .before .before .before .pre .1) (c .before .before .before .before .before .before .before .before .before .before .before .row-bodies .ensures .0)), c .before .before .before .before .before .before .before .before .before .before .before .before .before .before .before .before .pre .1, c .before .before .before .before .before .before .before .before .before .before .before .row-bodies .ensures .1, c .before .before .before .before .before .before .before .before .before .before .before .row-bodies .ensures .2)
-
-enum-told-4 : tie.Need-enum-told-4
-enum-told-4 c = search needs
-
-finish-run-requires : tie.Need-finish-run-requires
-finish-run-requires c κs = ((rows-of _ (omega arith) (omega (arith, c .before .before .before .before .before .before .before .nonlinear-loop .ensures .0 .kept .size, c .before .before .before .before .before .before .before .before .before .before .before .before .before .before .before .start .ensures _ _ (c .before .before .before .before .before .before .before .before .before .before .before .before .before .before .before .before .before .before .before .row-bodies .ensures .1) .kept .size, c .before .before .before .before .before .before .before .before .before .before .before .before .before .before .before .before .before .before .before .before .before .before .before .before .pre .0)) (c .before .before .before .before .before .before .before .before .before .before .before .before .before .before .before .before .before .before .before .before .before .before .before .before .pre .1) (c .before .before .before .before .before .before .before .before .before .before .before .before .before .before .before .before .before .before .before .row-bodies .ensures .0)), c .before .before .before .before .before .before .before .nonlinear-loop .ensures .2)
-
-enum-told-5 : tie.Need-enum-told-5
-enum-told-5 c = search needs
-
-run-ended-requires-3 : tie.Need-run-ended-requires-3
-run-ended-requires-3 c κs = search needs
-
-enum-told-6 : tie.Need-enum-told-6
-enum-told-6 c = search needs
-
-run-ended-requires-4 : tie.Need-run-ended-requires-4
-run-ended-requires-4 c κs = search needs
-
 same-length-3 : tie.Need-same-length-3
-same-length-3 c = search needs
+same-length-3 c =
+    let at-finish-run = c .before .before .before .before .before in
+    let at-slice-known3 = at-finish-run .before .before .before .before .before .before in
+    let at-nonlinear-loop = at-slice-known3 .before .before in
+    let at-slice-known2 = at-nonlinear-loop .before .before .before .before .before .before in let at-start = at-slice-known2 .before .before in
+    let at-row-bodies = at-start .before .before .before .before in
+    at-finish-run .finish-run .ensures .kept .size ∙ at-nonlinear-loop .nonlinear-loop .ensures .kept .size ∙
+    (at-start .start .ensures _ _ (at-row-bodies .row-bodies .ensures .1)) .kept .size
 
 returns-3 : tie.Need-returns-3
-returns-3 c = run-5 (now (c .before .before .before .before .before .before .before .before .before .before .before .before .before .before .before .before .before .before .before .before .before .before .before .before .before .before .before .args .bodies)) (c .before .before .before .before .before .before .before .before .before .before .before .before .before .before .before .before .before .before .before .before .before .before .before .before .before .before .before .args .joints) (c .before .before .before .before .before .before .before .before .before .before .before .before .before .before .before .before .before .before .before .before .before .before .before .before .before .before .before .args .count) (c .before .before .before .before .before .before .before .before .before .before .before .before .before .before .before .before .before .before .before .before .before .before .before .before .before .before .before .args .dt) (c .before .before .before .before .before .before .before .before .before .before .before .before .before .before .before .before .before .before .before .before .before .before .row-bodies .ensures .1) (c .before .before .before .before .before .before .before .before .before .before .before .before .before .before .before .before .before .before .before .before .before .before .row-bodies .result) (c .before .before .before .before .before .before .before .before .before .before .before .before .before .before .before .before .before .before .before .before .before .before .row-bodies .ensures .2) _ _ (c .before .before .before .before .before .before .before .before .before .before .before .before .before .before .before .before .before .before .start .result) (c .before .before .before .before .before .before .before .before .before .before .before .before .before .before .before .before .before .before .start .ensures) (c .before .before .before .before .before .before .before .before .before .before .before .before .before .before .enum-told .given .1) _ (c .before .before .before .before .before .before .before .before .before .before .nonlinear-loop .result) (c .before .before .before .before .before .before .before .before .before .before .nonlinear-loop .ensures .0) (c .before .before .before .before .before .before .enum-told4 .given .1) _ (c .before .before .finish-run .ensures)
-
-same-length-4 : tie.Need-same-length-4
-same-length-4 c = search needs
-
-returns-4 : tie.Need-returns-4
-returns-4 c = progress-is (λ t. statesAt t (bodyCount (now (c .before .before .before .before .before .before .before .before .before .before .before .before .before .before .before .before .before .before .before .before .before .before .args .bodies)))) (c .run-ended3 .ensures) (run-3 (now (c .before .before .before .before .before .before .before .before .before .before .before .before .before .before .before .before .before .before .before .before .before .before .args .bodies)) (c .before .before .before .before .before .before .before .before .before .before .before .before .before .before .before .before .before .before .before .before .before .before .args .joints) (c .before .before .before .before .before .before .before .before .before .before .before .before .before .before .before .before .before .before .before .before .before .before .args .count) (c .before .before .before .before .before .before .before .before .before .before .before .before .before .before .before .before .before .before .before .before .before .before .args .dt) (c .before .before .before .before .before .before .before .before .before .before .before .before .before .before .before .before .before .row-bodies .ensures .1) (c .before .before .before .before .before .before .before .before .before .before .before .before .before .before .before .before .before .row-bodies .result) (c .before .before .before .before .before .before .before .before .before .before .before .before .before .before .before .before .before .row-bodies .ensures .2) _ _ (c .before .before .before .before .before .before .before .before .before .before .before .before .before .start .result) (c .before .before .before .before .before .before .before .before .before .before .before .before .before .start .ensures) (c .before .before .before .before .before .before .before .before .before .enum-told .given .1) _ (c .before .before .before .before .before .nonlinear-loop .result) (c .before .before .before .before .before .nonlinear-loop .ensures .0) (c .before .enum-told5 .given .1))
-
-same-length-5 : tie.Need-same-length-5
-same-length-5 c = search needs
-
-returns-5 : tie.Need-returns-5
-returns-5 c = progress-is (λ t. statesAt t (bodyCount (now (c .before .before .before .before .before .before .before .before .before .before .before .before .before .before .before .before .before .before .before .before .before .before .args .bodies)))) (c .run-ended4 .ensures) (run-4 (now (c .before .before .before .before .before .before .before .before .before .before .before .before .before .before .before .before .before .before .before .before .before .before .args .bodies)) (c .before .before .before .before .before .before .before .before .before .before .before .before .before .before .before .before .before .before .before .before .before .before .args .joints) (c .before .before .before .before .before .before .before .before .before .before .before .before .before .before .before .before .before .before .before .before .before .before .args .count) (c .before .before .before .before .before .before .before .before .before .before .before .before .before .before .before .before .before .before .before .before .before .before .args .dt) (c .before .before .before .before .before .before .before .before .before .before .before .before .before .before .before .before .before .row-bodies .ensures .1) (c .before .before .before .before .before .before .before .before .before .before .before .before .before .before .before .before .before .row-bodies .result) (c .before .before .before .before .before .before .before .before .before .before .before .before .before .before .before .before .before .row-bodies .ensures .2) _ _ (c .before .before .before .before .before .before .before .before .before .before .before .before .before .start .result) (c .before .before .before .before .before .before .before .before .before .before .before .before .before .start .ensures) (c .before .before .before .before .before .before .before .before .before .enum-told .given .1) _ (c .before .before .before .before .before .nonlinear-loop .result) (c .before .before .before .before .before .nonlinear-loop .ensures .0) (c .before .enum-told6 .given .1))
+returns-3 c =
+    let at-finish-run = c .before .before .before .before .before in let at-if2 = at-finish-run .before .before .before .before in
+    let at-done2 = at-if2 .before in let at-nonlinear-loop = at-done2 .before .before .before in
+    let at-if1 = at-nonlinear-loop .before .before .before .before in let at-done = at-if1 .before in
+    let at-start = at-done .before .before .before in let at-row-bodies = at-start .before .before .before .before in
+    let at-entry = at-row-bodies .before .before .before .before .before in
+    left-is (λ x. statesAt x (bodyCount (now (at-entry .args .bodies)))) (c .run-ended2 .ensures)
+    (all-run (jobOf (now (at-entry .args .bodies)) (at-entry .args .joints) (at-entry .args .count) (at-entry .args .dt))
+    (recordsOf (now (at-entry .args .bodies))) (at-row-bodies .row-bodies .ensures .1)
+    (record { place = START-ROWS; rows = at-row-bodies .row-bodies .result; bodies = bodyCount (now (at-entry .args .bodies)) })
+    (at-start .start .result)
+    (started-as (at-row-bodies .row-bodies .ensures .1) _ (at-start .start .result) (at-row-bodies .row-bodies .ensures .2)
+    (at-start .start .ensures _ _ (at-row-bodies .row-bodies .ensures .1))) (at-done .done .ensures) (at-if1 .if1 .left)
+    (at-nonlinear-loop .nonlinear-loop .result) (at-nonlinear-loop .nonlinear-loop .ensures) (at-done2 .done2 .ensures) (at-if2 .if2 .left)
+    (at-finish-run .finish-run .result) (at-finish-run .finish-run .ensures))
 
 pub run-spec : {M : Type 1} → statement M
 run-spec =
@@ -97,25 +168,16 @@ run-spec =
     slice-aggregate-row-bodies-2
     row-bodies-requires
     start-requires
-    enum-told
-    enum-told-2
+    done-requires
     run-ended-requires
     same-length
     returns
-    enum-told-3
-    run-ended-requires-2
+    nonlinear-loop-requires
+    done-requires-2
     same-length-2
     returns-2
-    nonlinear-loop-requires
-    enum-told-4
     finish-run-requires
-    enum-told-5
-    run-ended-requires-3
-    enum-told-6
-    run-ended-requires-4
+    add-run-ended
+    run-ended-requires-2
     same-length-3
-    returns-3
-    same-length-4
-    returns-4
-    same-length-5
-    returns-5)
+    returns-3)

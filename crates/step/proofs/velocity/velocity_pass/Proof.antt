@@ -1,54 +1,91 @@
+-- `velocity_pass` is `velocityPass`: the rates, their test, and where it fails the correction (VelocityLaws).
 use borrow.Author.Needs.{needs}
 use native.Mathlib.Omega.{arith}
 use mathlib.Core.Path.{_∙_}
-use Rattle.step.proofs.StepLaws.{rows-same}
-use Rattle.step.proofs.VelocityLaws.{pass-1, pass-2, pass-3}
+use Rattle.step.specs.View.{candidatesAt}
+use Rattle.step.proofs.StepLaws.{rows-at}
+use Rattle.step.proofs.PassLaws.{passed-is}
+use Rattle.step.proofs.VelocityLaws.{rates-fail, at-rest, kicked-on}
 use Rattle.step.proofs.velocity.velocity_pass.Statement.{statement}
 use Rattle.step.proofs.velocity.velocity_pass.Tie as tie
 
 velocity-rhs-requires : tie.Need-velocity-rhs-requires
 velocity-rhs-requires c κs = c .before .before .pre
 
-enum-told : tie.Need-enum-told
-enum-told c = search needs
+done-requires : tie.Need-done-requires
+done-requires c κs = search needs
+
+pass-ended-requires : tie.Need-pass-ended-requires
+pass-ended-requires c κs = search needs
 
 same-length : tie.Need-same-length
-same-length c = c .before .before .before .before .velocity-rhs .ensures .kept .size
+same-length c =
+    let at-velocity-rhs = c .before .before .before .before .before in
+    at-velocity-rhs .velocity-rhs .ensures .kept .size
 
 returns : tie.Need-returns
-returns c = (pass-1 (c .before .before .before .before .before .before .before .pre) _ _ (c .before .before .before .before .velocity-rhs .ensures) (c .enum-told .given .1), omega arith)
-
-enum-told-2 : tie.Need-enum-told-2
-enum-told-2 c = search needs
+returns c =
+    let at-velocity-rhs = c .before .before .before .before .before in let at-entry = at-velocity-rhs .before .before .before in
+    passed-is 0 (λ x. candidatesAt x (at-entry .args .t .bodies)) (λ x. candidatesAt x (at-entry .args .t .bodies)) (c .pass-ended .ensures)
+    (rates-fail (at-entry .args .cyclic) (at-entry .args .t) (at-entry .pre .0) (at-velocity-rhs .velocity-rhs .result)
+    (at-velocity-rhs .velocity-rhs .ensures) (c .before .before .done .ensures) (c .before .if1 .taken))
 
 compatible-requires : tie.Need-compatible-requires
-compatible-requires c κs = omega (arith, c .before .before .before .before .before .velocity-rhs .ensures .kept .size, c .before .before .before .before .before .before .before .before .pre .whole, c .before .before .before .before .before .before .before .before .pre .most)
+compatible-requires c κs =
+    let at-velocity-rhs = c .before .before .before .before .before in let at-entry = at-velocity-rhs .before .before .before in
+    (omega (arith, at-entry .pre .1, at-velocity-rhs .velocity-rhs .ensures .kept .size), at-entry .pre .0 .most)
+
+pass-ended-requires-2 : tie.Need-pass-ended-requires-2
+pass-ended-requires-2 c κs = search needs
 
 same-length-2 : tie.Need-same-length-2
-same-length-2 c = c .before .before .before .before .before .before .before .velocity-rhs .ensures .kept .size
+same-length-2 c =
+    let at-slice-known2 = c .before .before .before .before .before .before in let at-velocity-rhs = at-slice-known2 .before .before in
+    at-velocity-rhs .velocity-rhs .ensures .kept .size
 
 returns-2 : tie.Need-returns-2
-returns-2 c = (pass-2 (c .before .before .before .before .before .before .before .before .before .before .pre) _ _ (c .before .before .before .before .before .before .before .velocity-rhs .ensures) (c .before .before .before .enum-told2 .given .1) (c .before .compatible .ensures) (c .if1 .taken), omega arith)
+returns-2 c =
+    let at-if1 = c .before .before .before .before in let at-done = at-if1 .before in let at-velocity-rhs = at-done .before .before .before in
+    let at-entry = at-velocity-rhs .before .before .before in
+    passed-is 0 (λ x. candidatesAt x (at-entry .args .t .bodies)) (λ x. candidatesAt x (at-entry .args .t .bodies)) (c .pass-ended2 .ensures)
+    (at-rest (at-entry .args .cyclic) (at-entry .args .t) (at-entry .pre .0) (at-velocity-rhs .velocity-rhs .result)
+    (at-velocity-rhs .velocity-rhs .ensures) (at-done .done .ensures) (at-if1 .if1 .left) (c .before .before .compatible .ensures)
+    (c .before .if2 .taken))
 
 correct-velocities-requires : tie.Need-correct-velocities-requires
-correct-velocities-requires c κs = rows-same (c .before .before .before .before .before .before .before .before .before .before .before .pre) (c .before .before .before .before .before .before .before .before .velocity-rhs .ensures .kept .size)
+correct-velocities-requires c κs =
+    let at-slice-known2 = c .before .before .before .before .before .before in let at-velocity-rhs = at-slice-known2 .before .before in
+    let at-entry = at-velocity-rhs .before .before .before in (
+      rows-at (at-entry .pre .0) (at-velocity-rhs .velocity-rhs .ensures .kept .size),
+      omega (arith, at-entry .pre .1, at-velocity-rhs .velocity-rhs .ensures .kept .size),
+    )
 
 same-length-3 : tie.Need-same-length-3
-same-length-3 c = c .before .before .correct-velocities .ensures .0 .kept .size ∙ c .before .before .before .before .before .before .before .before .before .before .before .velocity-rhs .ensures .kept .size
+same-length-3 c =
+    let at-compatible-arg = c .before .before .before .before .before .before in
+    let at-velocity-rhs = at-compatible-arg .before .before .before .before .before in
+    c .before .before .correct-velocities .ensures .kept .size ∙ at-velocity-rhs .velocity-rhs .ensures .kept .size
 
 returns-3 : tie.Need-returns-3
-returns-3 c = pass-3 (c .before .before .before .before .before .before .before .before .before .before .before .before .before .before .pre) _ _ (c .before .before .before .before .before .before .before .before .before .before .before .velocity-rhs .ensures) (c .before .before .before .before .before .before .before .enum-told2 .given .1) (c .before .before .before .before .before .compatible .ensures) (c .before .before .before .before .if1 .left) (c .before .before .correct-velocities .ensures)
+returns-3 c =
+    let at-if2 = c .before .before .before .before in let at-compatible = at-if2 .before in let at-if1 = at-compatible .before .before in
+    let at-done = at-if1 .before in let at-velocity-rhs = at-done .before .before .before in
+    let at-entry = at-velocity-rhs .before .before .before in
+    kicked-on (at-entry .args .cyclic) (at-entry .args .t) (at-entry .pre .0) (at-velocity-rhs .velocity-rhs .result)
+    (at-velocity-rhs .velocity-rhs .ensures) (at-done .done .ensures) (at-if1 .if1 .left) (at-compatible .compatible .ensures) (at-if2 .if2 .left)
+    (c .before .before .correct-velocities .ensures)
 
 pub velocity-pass-spec : {M : Type 1} → statement M
 velocity-pass-spec =
     tie.close
     (tie.spec
     velocity-rhs-requires
-    enum-told
+    done-requires
+    pass-ended-requires
     same-length
     returns
-    enum-told-2
     compatible-requires
+    pass-ended-requires-2
     same-length-2
     returns-2
     correct-velocities-requires

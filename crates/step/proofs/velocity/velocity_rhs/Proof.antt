@@ -11,10 +11,11 @@ use Rattle.step.proofs.velocity.velocity_rhs.Statement.{statement}
 use Rattle.step.proofs.velocity.velocity_rhs.Tie as tie
 
 abbrev Inv-loop : tie.InvT-loop
-Inv-loop s₀ ia ib n bodies a₀ b₀ k₀ s a b k = (k ≤ n) × (length s ≡ length s₀) × (Opposed ia ib n bodies s₀ k s) × (Remembers s a) × (Remembers s b)
+Inv-loop s₀ ia ib t n a₀ b₀ k₀ s a b k =
+    (k ≤ n) × (length s ≡ length s₀) × (Opposed ia ib (t .place) (t .rows) (t .bodies) s₀ k s) × (Remembers s a) × (Remembers s b)
 
 abbrev μ-loop : tie.MeasureT-loop
-μ-loop s₀ ia ib n bodies a₀ b₀ k₀ s a b k = n - k
+μ-loop s₀ ia ib t n a₀ b₀ k₀ s a b k = n - k
 
 no-motion-requires : tie.Need-no-motion-requires Inv-loop μ-loop
 no-motion-requires c κs = omega arith
@@ -27,19 +28,21 @@ loop-holds c =
     let at-entry = c .before .before .before in (
       omega arith,
       refl,
-      rhs-none (at-entry .pre),
+      rhs-none (at-entry .pre .0),
       no-body-remembered _ (c .before .no-motion .ensures),
       no-body-remembered _ (c .no-motion2 .ensures),
     )
 
 load-row-requires : tie.Need-load-row-requires Inv-loop μ-loop
-load-row-requires c κs = omega arith
+load-row-requires c κs =
+    let at-entry = c .before .before .before .before .before .before in
+    omega (arith, c .before .loop-test .taken, at-entry .pre .0 .most, at-entry .pre .0 .table, at-entry .pre .1, c .before .before .loop .inv .1)
 
 motion-again-requires : tie.Need-motion-again-requires Inv-loop μ-loop
 motion-again-requires c κs =
     let at-test = c .before .before .before in let at-loop = at-test .before in let at-entry = at-loop .before .before .before .before in (
-      omega (arith, at-loop .loop .inv .1, at-entry .pre .whole),
-      omega (arith, row-a (at-entry .pre) (at-test .loop-test .taken) (at-loop .loop .s) (c .before .load-row .ensures), at-entry .pre .bodies),
+      omega (arith, at-loop .loop .inv .1, at-entry .pre .1),
+      omega (arith, row-a (at-entry .pre .0) (at-test .loop-test .taken) (at-loop .loop .s) (c .before .load-row .ensures), at-entry .pre .0 .bodies),
       at-loop .loop .inv .3,
     )
 
@@ -47,8 +50,9 @@ motion-again-requires-2 : tie.Need-motion-again-requires-2 Inv-loop μ-loop
 motion-again-requires-2 c κs =
     let at-load-row = c .before .before .before in let at-test = at-load-row .before .before in let at-loop = at-test .before in
     let at-entry = at-loop .before .before .before .before in (
-      omega (arith, at-loop .loop .inv .1, at-entry .pre .whole),
-      omega (arith, row-b (at-entry .pre) (at-test .loop-test .taken) (at-loop .loop .s) (at-load-row .load-row .ensures), at-entry .pre .bodies),
+      omega (arith, at-loop .loop .inv .1, at-entry .pre .1),
+      omega
+          (arith, row-b (at-entry .pre .0) (at-test .loop-test .taken) (at-loop .loop .s) (at-load-row .load-row .ensures), at-entry .pre .0 .bodies),
       at-loop .loop .inv .4,
     )
 
@@ -63,7 +67,8 @@ enum-told c = search needs
 
 same-length : tie.Need-same-length Inv-loop μ-loop
 same-length c =
-    let at-loaded = c .before .before .before .before .before .before .before in let at-loop = at-loaded .before .before .before in
+    let at-motion-again-arg = c .before .before .before .before .before .before in
+    let at-loop = at-motion-again-arg .before .before .before .before in
     at-loop .loop .inv .1
 
 returns : tie.Need-returns Inv-loop μ-loop
@@ -71,7 +76,7 @@ returns c =
     let at-motion-again2 = c .before .before .before in let at-motion-again = at-motion-again2 .before .before in
     let at-load-row = at-motion-again .before .before in let at-test = at-load-row .before .before in let at-loop = at-test .before in
     let at-entry = at-loop .before .before .before .before in
-    rhs-stops (at-entry .pre) (at-loop .loop .inv .2) (at-test .loop-test .taken) (at-load-row .load-row .ensures)
+    rhs-stops (at-entry .pre .0) (at-loop .loop .inv .2) (at-test .loop-test .taken) (at-load-row .load-row .ensures)
     (sum-over
     (c .before .before .velocity .ensures _ _ (at-motion-again .motion-again .ensures .moves) (at-motion-again2 .motion-again2 .ensures .moves))
     (c .enum-told .given .1))
@@ -80,25 +85,25 @@ add-s : tie.Need-add-s Inv-loop μ-loop
 add-s c =
     let at-motion-again = c .before .before .before .before .before .before in let at-test = at-motion-again .before .before .before .before in
     let at-loop = at-test .before in let at-entry = at-loop .before .before .before .before in
-    omega (arith, at-test .loop-test .taken, at-loop .loop .inv .1, at-entry .pre .whole, at-entry .pre .most)
+    omega (arith, at-test .loop-test .taken, at-loop .loop .inv .1, at-entry .pre .0 .whole, at-entry .pre .0 .most)
 
 mul-s : tie.Need-mul-s Inv-loop μ-loop
 mul-s c =
     let at-motion-again = c .before .before .before .before .before .before in let at-test = at-motion-again .before .before .before .before in
     let at-loop = at-test .before in let at-entry = at-loop .before .before .before .before in
-    omega (arith, at-test .loop-test .taken, at-loop .loop .inv .1, at-entry .pre .whole, at-entry .pre .most)
+    omega (arith, at-test .loop-test .taken, at-loop .loop .inv .1, at-entry .pre .0 .whole, at-entry .pre .0 .most)
 
 slice-write-s : tie.Need-slice-write-s Inv-loop μ-loop
 slice-write-s c =
     let at-motion-again = c .before .before .before .before .before .before in let at-test = at-motion-again .before .before .before .before in
     let at-loop = at-test .before in let at-entry = at-loop .before .before .before .before in
-    omega (arith, at-test .loop-test .taken, at-loop .loop .inv .1, at-entry .pre .whole, at-entry .pre .most)
+    omega (arith, at-test .loop-test .taken, at-loop .loop .inv .1, at-entry .pre .0 .whole, at-entry .pre .0 .most)
 
 add-k : tie.Need-add-k Inv-loop μ-loop
 add-k c =
     let at-motion-again = c .before .before .before .before .before .before in let at-test = at-motion-again .before .before .before .before in
     let at-entry = at-test .before .before .before .before .before in
-    omega (arith, at-test .loop-test .taken, at-entry .pre .most)
+    omega (arith, at-test .loop-test .taken, at-entry .pre .0 .most)
 
 loop-less : tie.Need-loop-less Inv-loop μ-loop
 loop-less c =
@@ -112,10 +117,13 @@ loop-again c =
     let at-test = at-load-row .before .before in let at-loop = at-test .before in let at-entry = at-loop .before .before .before .before in (
       omega (arith, at-test .loop-test .taken),
       simp length-set (at-loop .loop .inv .1),
-      rhs-again (at-entry .pre) (at-loop .loop .inv .2) (at-test .loop-test .taken) (at-load-row .load-row .ensures)
-          (sum-there (at-velocity .velocity .ensures _ _ (at-motion-again .motion-again .ensures .moves) (at-motion-again2 .motion-again2 .ensures .moves)) (c .before .value .given .1)),
-      motion-remembered (at-loop .loop .k) _ (omega (arith, at-test .loop-test .taken, at-entry .pre .most)) (at-motion-again .motion-again .ensures),
-      motion-remembered (at-loop .loop .k) _ (omega (arith, at-test .loop-test .taken, at-entry .pre .most))
+      rhs-again (at-entry .pre .0) (at-loop .loop .inv .2) (at-test .loop-test .taken) (at-load-row .load-row .ensures)
+          (sum-there
+          (at-velocity .velocity .ensures _ _ (at-motion-again .motion-again .ensures .moves) (at-motion-again2 .motion-again2 .ensures .moves))
+          (c .before .value .given .1)),
+      motion-remembered (at-loop .loop .k) _ (omega (arith, at-test .loop-test .taken, at-entry .pre .0 .most))
+          (at-motion-again .motion-again .ensures),
+      motion-remembered (at-loop .loop .k) _ (omega (arith, at-test .loop-test .taken, at-entry .pre .0 .most))
           (at-motion-again2 .motion-again2 .ensures),
     )
 
@@ -125,7 +133,7 @@ same-length-2 c = omega arith
 returns-2 : tie.Need-returns-2 Inv-loop μ-loop
 returns-2 c =
     let at-entry = c .before .before .before .before .before in
-    rhs-ends (at-entry .pre) (c .before .loop .inv .2) (omega arith) (c .loop-test .left)
+    rhs-ends (at-entry .pre .0) (c .before .loop .inv .2) (omega arith) (c .loop-test .left)
 
 pub velocity-rhs-spec : {M : Type 1} → statement M
 velocity-rhs-spec =

@@ -1,0 +1,38 @@
+-- The scratch of a step: the regions of a linear solve (solves/specs/Layout.antt), and behind them the step's own, as src/layout.rt. Only here are places.
+--
+--     region      doubles    who may touch it
+--     IMPULSES    VECTOR     the nonlinear loop: `add_impulses`, and `clear` before the first pass
+--     START       BODIES     `start_bodies`
+--     CANDIDATE   STATES     `move_bodies`, `kick_candidates`; at the end `make_states`, which puts the states there
+use Prim.Native.Nat.{ℕ, _+_, _*_}
+use Rattle.solves.specs.Layout.{BODIES-MOST, VECTOR, END}
+
+-- the doubles of a body's record, those of them that move, and the doubles of scratch that a step asks for (SPECIFICATION §4 and §7)
+abbrev pub RECORD : ℕ
+RECORD = 26
+
+abbrev pub MOVING : ℕ
+MOVING = 13
+
+abbrev pub SCRATCH : ℕ
+SCRATCH = 6144
+
+-- sizes: the bodies at the start, and what moves of the candidates
+abbrev pub BODIES : ℕ
+BODIES = BODIES-MOST * RECORD
+
+abbrev pub STATES : ℕ
+STATES = BODIES-MOST * MOVING
+
+abbrev pub IMPULSES : ℕ
+IMPULSES = END
+
+abbrev pub START : ℕ
+START = IMPULSES + VECTOR
+
+abbrev pub CANDIDATE : ℕ
+CANDIDATE = START + BODIES
+
+-- the doubles that are used
+abbrev pub USED : ℕ
+USED = CANDIDATE + STATES

@@ -1,0 +1,71 @@
+-- What the functions of the two loops say: what they leave alone, and that their answer with what they leave is the definition's at entry.
+use Prim.Native.Nat.{ℕ, _-_}
+use mathlib.Core.List.{List}
+use lib.Ieee.{Float}
+use Rattle.arith.specs.Flow.{Turn}
+use Rattle.rows.specs.declared.body.BodyState.{BodyState}
+use Rattle.rows.specs.declared.body.MomentumBody.{MomentumBody}
+use Rattle.rows.specs.declared.geometry.Joint.{Joint}
+use Rattle.rows.specs.declared.geometry.EqualityRow.{EqualityRow}
+use Rattle.rows.specs.Fault.{Result}
+use Rattle.rows.specs.View.{Out}
+use Rattle.solves.specs.declared.End.{End}
+use Rattle.solves.specs.declared.Ended.{Ended}
+use Rattle.solves.specs.declared.Table.{Table}
+use Rattle.solves.specs.Lent.{Lent, came, left}
+use Rattle.solves.specs.Region.{Does}
+use Rattle.solves.specs.System.{System, Counting}
+use Rattle.solves.specs.Answer.{ranAs, endedAs}
+use Rattle.solves.specs.View.{START-ROWS, ROWS, MASSES, rowsOn, systemIn}
+use Rattle.step.specs.declared.integrator.Task.{Task}
+use Rattle.step.specs.declared.passes.Passed.{Passed}
+use Rattle.step.specs.declared.passes.Ran.{Ran}
+use Rattle.step.specs.Layout.{USED}
+use Rattle.step.specs.Records.{bodyCount, recordsOf}
+use Rattle.step.specs.View.{candidatesAt, statesAt}
+use Rattle.step.specs.Bodies.{Started, startOf, Found}
+use Rattle.step.specs.RunView.{impulsesAt, startedAt, foundAt, jobFor, rowsBefore, Sides, Trying, Correcting, passedAs, leftAs}
+
+-- `start`, of the rows of the joints, on whatever bodies two lists say that they are
+abbrev pub Starts : Lent Float → Lent Float → List Joint → Task → End → Type 0
+Starts s bodies joints task r = (ia ib : List ℕ) → Sides joints (task .count) ia ib
+    → Does (Out 0 USED) (came s) (left s)
+    (ranAs r (startedAt ia ib (left s) (record { place = START-ROWS; rows = rowsBefore joints (task .count); bodies = bodyCount (came bodies) })))
+    (startOf (jobFor joints task) (recordsOf (came bodies)))
+
+module _ (s : Lent Float) (ia ib : Lent ℕ) (t : Table) where
+  abbrev start : Started
+  start = startedAt (came ia) (came ib) (came s) t
+
+  abbrev found : Found
+  found = foundAt (came ia) (came ib) (left s) t
+
+  -- `candidate`
+  abbrev pub Finds : End → (Started → List Float → Result Found) → Type 0
+  Finds r f = Does Trying (came s) (left s) (ranAs r found) (f start (impulsesAt (came s) t))
+
+  -- `correct`, of the rows that were found
+  abbrev pub Impels : Passed → (Started → List EqualityRow → Counting (Turn (List Float) Found)) → Type 0
+  Impels r f = Does Trying (came s) (left s) (passedAs 0 r (impulsesAt (left s) t) found) (f start (rowsOn (came ia) (came ib) (came s) ROWS (t .rows)))
+
+  -- `nonlinear_pass`, which counts itself, and `nonlinear_loop`
+  abbrev pub Tries : Passed → (Started → List Float → Counting (Turn (List Float) Found)) → Type 0
+  Tries r f = Does Trying (came s) (left s) (passedAs 1 r (impulsesAt (left s) t) found) (f start (impulsesAt (came s) t))
+
+  abbrev pub Meets : Ran → (Started → Counting Found) → Type 0
+  Meets r f = Does Trying (came s) (left s) (leftAs r found) (f start)
+
+  -- `correct_velocities` and `velocity_pass`, and `velocity_loop`
+  abbrev pub Kicks : Passed → (System → List MomentumBody → Counting (Turn (List MomentumBody) (List MomentumBody))) → Type 0
+  Kicks r f =
+      Does Correcting (came s) (left s) (passedAs 0 r (candidatesAt (left s) (t .bodies)) (candidatesAt (left s) (t .bodies)))
+      (f (systemIn s ia ib t) (candidatesAt (came s) (t .bodies)))
+
+  abbrev pub Rests : Ended → (System → List MomentumBody → Counting (List MomentumBody)) → Type 0
+  Rests r f =
+      Does Correcting (came s) (left s) (endedAs r (candidatesAt (left s) (t .bodies))) (f (systemIn s ia ib t) (candidatesAt (came s) (t .bodies)))
+
+  -- `finish_run`
+  abbrev pub Finishes : Ended → (Found → Counting (List BodyState)) → Type 0
+  Finishes r f =
+      Does (Out MASSES (USED - MASSES)) (came s) (left s) (endedAs r (statesAt (left s) (t .bodies))) (f (foundAt (came ia) (came ib) (came s) t))
