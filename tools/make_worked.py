@@ -1,5 +1,5 @@
 #!/usr/bin/env python3
-"""Writes the small plans that crates/step/proofs/Worked.antt works by the definition.
+"""Writes the small plans that crates/worked/proofs/Worked.antt works by the definition.
 
     tools/make_worked.py plans/worked
 
