@@ -93,9 +93,11 @@ same-length c = search needs
 returns : tie.Need-returns
 returns c =
     let at-new3 = c .before .before .before in
-    let at-store32 = at-new3 .before .before .before .before .before .before .before in
+    let at-index = at-new3 .before .before .before in
+    let at-store32 = at-index .before .before .before .before in
     let at-new2 = at-store32 .before in
-    let at-store3 = at-new2 .before .before .before .before .before .before .before in
+    let at-index2 = at-new2 .before .before .before in
+    let at-store3 = at-index2 .before .before .before .before in
     let at-new = at-store3 .before in
     let at-columns = at-new .before .before .before .before .before in
     let at-entry = at-columns .before .before in
