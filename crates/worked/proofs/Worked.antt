@@ -145,7 +145,7 @@ abbrev rod : Float → Joint
 rod length = joint (Distance length) straight
 
 -- ---- the plans
--- document 01's example
+-- SPECIFICATION §15's example
 moving : Plan
 moving = record { bodies = standing zeros (triple 𝟙 𝟘 𝟘) zeros (ball (whole 2)); joints = []; dt = 𝟙 }
 

@@ -75,15 +75,5 @@ returns-2 c =
 
 pub solve-spec : {M : Type 1} → statement M
 solve-spec =
-    tie.close
-    (tie.spec
-    refusal-requires
-    accepted-requires
-    same-length
-    returns
-    slice-relend-prefix-solve-in
-    slice-aggregate-solve-in
-    solve-in-requires
-    same-length-2
-    same-length-3
-    returns-2)
+    tie.close (tie.spec refusal-requires accepted-requires same-length returns slice-relend-prefix-solve-in slice-aggregate-solve-in
+    solve-in-requires same-length-2 same-length-3 returns-2)
