@@ -47,7 +47,16 @@ pub record-loaded : (s : List Float) (i : ℕ) {o v w p : Vec3} {q : Quat} {m : 
     } ≡ recordFrom s i
 record-loaded s i a b c d e f =
     λ j.
-    record { origin = a j; rotation = b j; «linear_velocity» = c j; «angular_velocity» = d j; mass = at s (i + 13); «center_of_mass» = e j; inertia = f j }
+    record {
+      origin =
+          a j;
+      rotation = b j;
+      «linear_velocity» = c j;
+      «angular_velocity» = d j;
+      mass = at s (i + 13);
+      «center_of_mass» = e j;
+      inertia = f j;
+    }
 
 pub body-loaded : (s : List Float) (i k : ℕ) {o v w p : Vec3} {q : Quat} {m : Mat3} → o ≡ vec3At s i → q ≡ quatAt s (i + 3) → v ≡ vec3At s (i + 7)
     → w ≡ vec3At s (i + 10) → p ≡ vec3At s (k + 14) → m ≡ matAt s (k + 17)

@@ -36,7 +36,8 @@ LIMIT = limit ROWS-MOST
 pub counted-most : {A E : Type 0} {m n l : ℕ} {t : Turn A E} {r : Run A E} → ran t n l ≡ r → AtMost m r → l ≤ m
 counted-most {A} {E} e h = omega (arith, ap (λ (r : Run A E). r .linear) e, h .most)
 
-pub nonlinear-most : (job : Job) (start : Started) (impulses : List Float) → AtMost (limit (rowsIn (start .system))) (nonlinearPass job start impulses)
+pub nonlinear-most : (job : Job) (start : Started) (impulses : List Float)
+    → AtMost (limit (rowsIn (start .system))) (nonlinearPass job start impulses)
 unfolding nonlinearPass
 nonlinear-most job start impulses =
     most-call {a = 0} {b = limit (rowsIn (start .system))} _ _ (record { most = omega arith }) (λ _. most-try _ _ λ found.
@@ -46,7 +47,8 @@ pub loop-most : (job : Job) (start : Started) → AtMost (32 * limit (rowsIn (st
 unfolding nonlinearLoop
 loop-most job start = most-loop (nonlinearPass job start) (nonlinear-most job start) 32 _ _
 
-pub velocity-most : (cyclic : Bool) (system : System) (candidate : List MomentumBody) → AtMost (limit (rowsIn system)) (velocityPass cyclic system candidate)
+pub velocity-most : (cyclic : Bool) (system : System) (candidate : List MomentumBody)
+    → AtMost (limit (rowsIn system)) (velocityPass cyclic system candidate)
 unfolding velocityPass
 velocity-most cyclic system candidate =
     most-try _ _ λ rhs. most-leave _ _ _ (most-call _ _ (linear-most _ _ _) (λ solution. most-try _ _ λ next. most-none {m = 0} _) (omega arith))
@@ -55,14 +57,19 @@ pub finish-most : (cyclic : Bool) (bodies : List RigidBody) (found : Found) → 
 unfolding finishOf velocityLoop
 finish-most cyclic bodies found =
     most-try _ _ λ masses. most-call {b = 0} _ _
-    (most-loop (velocityPass cyclic (record { rows = found .rows; masses = masses })) (velocity-most cyclic _) 3 _ _) (λ candidate. most-none _) (omega arith)
+    (most-loop (velocityPass cyclic (record {
+      rows =
+          found .rows;
+      masses = masses;
+    })) (velocity-most cyclic _) 3 _ _) (λ candidate. most-none _) (omega arith)
 
 -- ---- of rows in the scratch, which are few
 module _ (ia ib : List ℕ) (s : List Float) (table : Table) (few : table .rows ≤ ROWS-MOST) where
   rows-few : (place : ℕ) → length (rowsOn ia ib s place (table .rows)) ≤ ROWS-MOST
   rows-few place = omega (arith, tab-length (table .rows) (rowOn ia ib s place))
 
-  pub nonlinear-few : (job : Job) (v : List Float) {x : Turn (Turn (List Float) Found) Fault} {m l : ℕ} → ran x m l ≡ nonlinearPass job (startedAt ia ib s table) v → l ≤ LIMIT
+  pub nonlinear-few : (job : Job) (v : List Float) {x : Turn (Turn (List Float) Found) Fault} {m l : ℕ}
+      → ran x m l ≡ nonlinearPass job (startedAt ia ib s table) v → l ≤ LIMIT
   nonlinear-few job v e = omega (arith, counted-most e (nonlinear-most job _ v), rows-few (table .place))
 
   pub velocity-few : (cyclic : Bool) (v : List MomentumBody) {x : Turn (Turn (List MomentumBody) (List MomentumBody)) Fault} {m l : ℕ}

@@ -1,4 +1,5 @@
--- Loops that fill places of the scratch, one of f 0?, f 1?, .. in each: `Does P s₀ s (go (tab k (view s))) (each k f)` before turn k. `m` is how the definition writes n.
+-- Loops that fill places of the scratch, one of f 0?, f 1?, .. in each: before turn k stands `Does P s₀ s (go (tab k (view s))) (each k f)`.
+-- `m` is how the definition writes n.
 use Prim.Native.Nat.{ℕ, _+_, _≤_, _<_}
 use mathlib.Core.Path.{_≡_, _∙_, ap}
 use mathlib.Core.List.{List}

@@ -80,7 +80,8 @@ module _ (cyclic : Bool) (bodies : List RigidBody) (ia ib : List ℕ) (t : Table
     not-rested k = record {
       kept = kept₂;
       is = ap (λ (t : Result (List BodyState)). ran t 0 (r₂ .linear)) (fails (statesAt s₂ (t .bodies)) (r₂ .end) ec k)
-          ∙ then-stop _ (ap (λ (t : Result (List MomentumBody)). ran t 0 (r₂ .linear)) (sym (fails (candidatesAt s₂ (t .bodies)) (r₂ .end) ec k)) ∙ loop-is)
+          ∙ then-stop _
+          (ap (λ (t : Result (List MomentumBody)). ran t 0 (r₂ .linear)) (sym (fails (candidatesAt s₂ (t .bodies)) (r₂ .end) ec k)) ∙ loop-is)
           ∙ try-go _ weighed;
     }
 
@@ -98,7 +99,9 @@ module _ (cyclic : Bool) (bodies : List RigidBody) (ia ib : List ℕ) (t : Table
     }
       where
         rested : ran (go (candidatesAt s₂ (t .bodies))) 0 (r₂ .linear) ≡ loop
-        rested = ap (λ (t : Result (List MomentumBody)). ran t 0 (r₂ .linear)) (sym (ran-done (candidatesAt s₂ (t .bodies)) (r₂ .end) (sym ec ∙ not-no c k))) ∙ loop-is
+        rested =
+            ap (λ (t : Result (List MomentumBody)). ran t 0 (r₂ .linear))
+            (sym (ran-done (candidatesAt s₂ (t .bodies)) (r₂ .end) (sym ec ∙ not-no c k))) ∙ loop-is
 
 -- ---- run
 -- the rows of the joints, as they were counted
@@ -112,7 +115,8 @@ started-as {joints} {count} {ia} {ib} sides size {s} {s₁} r e f = record {
 }
 
 module _ (job : Job) (bodies : List RigidBody) {joints : List Joint} {count : ℕ} {ia ib : List ℕ} (sides : Sides joints count ia ib) (t : Table)
-    {s s₁ : List Float} (r₁ : End) (d₁ : Does (Out 0 USED) s s₁ (ranAs r₁ (startedAt ia ib s₁ t)) (startOf job bodies)) {b : Bool} (eb : b ≡ isDone r₁) where
+    {s s₁ : List Float} (r₁ : End) (d₁ : Does (Out 0 USED) s s₁ (ranAs r₁ (startedAt ia ib s₁ t)) (startOf job bodies)) {b : Bool}
+    (eb : b ≡ isDone r₁) where
   abbrev Runs : List Float → Counting (List BodyState) → Type 0
   Runs u x = Does (Out 0 USED) s u x (runOf job bodies)
 
@@ -135,7 +139,9 @@ module _ (job : Job) (bodies : List RigidBody) {joints : List Joint} {count : �
     unfolding runOf
     not-met k = record {
       kept = kept-run;
-      is = ap counts (fails (statesAt s₂ (t .bodies)) (r₂ .end) ec k) ∙ then-stop _ (ap counts (sym (fails (foundAt ia ib s₂ t) (r₂ .end) ec k)) ∙ d₂ .is) ∙ try-go _ started;
+      is =
+          ap counts (fails (statesAt s₂ (t .bodies)) (r₂ .end) ec k) ∙ then-stop _
+          (ap counts (sym (fails (foundAt ia ib s₂ t) (r₂ .end) ec k)) ∙ d₂ .is) ∙ try-go _ started;
     }
 
     pub all-run : not c ≡ false → {s₃ : List Float} (r₃ : Ended)
@@ -203,7 +209,9 @@ all-zero {s} {t} e f =
 -- ---- solve_in
 pub solved-in : (bodies : List Float) (run : Counting (List BodyState)) {P : ℕ → Type 0} {s t u : List Float} (r : Ran) (states : List BodyState)
     → Does P s t (leftAs r states) run → {outcome : Outcome} {after : List Float}
-    → ((nonlinear linear : ℕ) (scratch : List Float) → stepped outcome nonlinear linear after scratch ≡ settledAs bodies scratch nonlinear linear (ranAs (r .end) states))
+    →
+    ((nonlinear linear : ℕ) (scratch : List Float) → stepped outcome nonlinear linear after scratch ≡ settledAs bodies scratch nonlinear linear
+    (ranAs (r .end) states))
     → u ≡ replicate SCRATCH (ratio 0 1)
     → stepped outcome (r .nonlinear) (r .linear) after u ≡ settled bodies (replicate SCRATCH (ratio 0 1)) run
 solved-in bodies run r states d {outcome} {after} e z =

@@ -8,7 +8,7 @@ use lib.Ieee.{Float}
 use Rattle.rows.specs.declared.body.MomentumBody.{MomentumBody}
 use Rattle.rows.specs.View.{Kept}
 use Rattle.rows.specs.Region.{Over, tab-at}
-use Rattle.step.specs.Layout.{START, CANDIDATE}
+use Rattle.step.specs.Layout.{START, CANDIDATE, BODIES, STATES}
 use Rattle.step.specs.View.{startBodyAt, candidateAt, startBodiesAt, candidatesAt}
 use Rattle.step.specs.ViewLaws.{kept-start, kept-candidate}
 use Rattle.step.specs.Bodies.{noBody, bodyIn}
@@ -23,7 +23,7 @@ module _ {P : ℕ → Type 0} {s t : List Float} (kept : Kept P s t) where
   start-in n k w h e = e ∙ kept-start kept k w ∙ sym (tab-at n (startBodyAt s) noBody k h)
 
   -- the one that load_moved loads
-  pub body-in : Over P START 416 → Over P CANDIDATE 208 → (moved : Bool) (n k : ℕ) → k < n → n ≤ 16 → {body : MomentumBody}
+  pub body-in : Over P START BODIES → Over P CANDIDATE STATES → (moved : Bool) (n k : ℕ) → k < n → n ≤ 16 → {body : MomentumBody}
       → body ≡ cond moved (candidateAt t k) (startBodyAt t k) → body ≡ bodyIn (bodiesAt moved s n) k
   body-in v w true n k h l e = candidate-in n k (λ i a b. w i (omega arith) (omega arith)) (λ i a b. v i (omega arith) (omega arith)) h e
   body-in v w false n k h l e = start-in n k (λ i a b. v i (omega arith) (omega arith)) h e

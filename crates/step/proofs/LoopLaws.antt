@@ -64,7 +64,8 @@ module _ (job : Job) (bodies : List Float) (g : bodyCount bodies ≤ 16) (s s₁
   abbrev Makes : Result (List MomentumBody) → Type 0
   Makes x = Does (Out START BODIES) s s₁ x (startBodies (tab (bodyCount bodies) (recordAt bodies)))
 
-  pub no-body : (r : End) {b : Bool} → b ≡ isDone r → not b ≡ true → Makes (ranAs r (startBodiesAt s₁ (bodyCount bodies))) → (y : Started) → Begins s₁ (ranAs r y)
+  pub no-body : (r : End) {b : Bool} → b ≡ isDone r → not b ≡ true → Makes (ranAs r (startBodiesAt s₁ (bodyCount bodies))) → (y : Started)
+      → Begins s₁ (ranAs r y)
   unfolding startOf
   no-body r eb h d y = does-eq (fails y r eb h) (does-stop onStart (λ i x. omega arith) (failed _ r eb d h))
 
@@ -72,7 +73,8 @@ module _ (job : Job) (bodies : List Float) (g : bodyCount bodies ≤ 16) (s s₁
     abbrev Writes : Result (List EqualityRow) → Type 0
     Writes x = Does (Out START-ROWS ROW-TABLE) s₁ s₂ x (writeRows (job .joints) (job .count) (startBodiesAt s₁ (bodyCount bodies)))
 
-    pub no-rows : (r : End) {b : Bool} → b ≡ isDone r → not b ≡ true → (x : List EqualityRow) → Writes (ranAs r x) → (y : Started) → Begins s₂ (ranAs r y)
+    pub no-rows : (r : End) {b : Bool} → b ≡ isDone r → not b ≡ true → (x : List EqualityRow) → Writes (ranAs r x) → (y : Started)
+        → Begins s₂ (ranAs r y)
     unfolding startOf
     no-rows r eb h x d y =
         does-eq (fails y r eb h) (does-then onStart (λ i x. omega arith) (λ i x. x) d₁
@@ -87,7 +89,8 @@ module _ (job : Job) (bodies : List Float) (g : bodyCount bodies ≤ 16) (s s₁
         (does-then {Q = Out 0 USED} (onRows (startBodiesAt s₁ (bodyCount bodies))) (λ i x. omega arith) (λ i x. x) d₂ last)
       where
         made : List MassResponse → Started
-        made masses = record { bodies = startBodiesAt s₁ (bodyCount bodies); system = record { rows = rowsOn ia ib s₂ START-ROWS n; masses = masses } }
+        made masses =
+            record { bodies = startBodiesAt s₁ (bodyCount bodies); system = record { rows = rowsOn ia ib s₂ START-ROWS n; masses = masses } }
 
         starts : startBodiesAt s₂ (bodyCount bodies) ≡ startBodiesAt s₁ (bodyCount bodies)
         starts = kept-starts (d₂ .kept) (bodyCount bodies) (λ i a b. omega arith)
@@ -123,9 +126,11 @@ module _ (job : Job) (ia ib : List ℕ) (table : Table) (l : table .rows ≤ 96)
   -- `length start` is the number of bodies
   counted : {x : Result (List Generalized)} → Pushed x
       → Does Shares s s₁ x (transpose (rowsOn ia ib s (table .place) (table .rows)) (impulsesAt s table) (length (startBodiesAt s (table .bodies))))
-  counted d = does-is d (ap (transpose (rowsOn ia ib s (table .place) (table .rows)) (impulsesAt s table)) (sym (tab-length (table .bodies) (startBodyAt s))))
+  counted d =
+      does-is d (ap (transpose (rowsOn ia ib s (table .place) (table .rows)) (impulsesAt s table)) (sym (tab-length (table .bodies) (startBodyAt s))))
 
-  pub not-pushed : (r : End) {b : Bool} → b ≡ isDone r → not b ≡ true → Pushed (ranAs r (sharesIn s₁ (table .bodies))) → (y : Found) → Tried s₁ (ranAs r y)
+  pub not-pushed : (r : End) {b : Bool} → b ≡ isDone r → not b ≡ true → Pushed (ranAs r (sharesIn s₁ (table .bodies))) → (y : Found)
+      → Tried s₁ (ranAs r y)
   unfolding candidateOf
   not-pushed r eb h d y = (
     does-eq (fails y r eb h) (does-stop onShares (λ i x. omega (arith, x .1)) (counted (failed _ r eb d h))),
@@ -146,10 +151,12 @@ module _ (job : Job) (ia ib : List ℕ) (table : Table) (l : table .rows ≤ 96)
     keeps : {x : Result (List MomentumBody)} → Moved x → Kept (λ i. (Shares i) × (Out CANDIDATE STATES i)) s s₂
     keeps d = kept-then (kept-more (d₁ .kept) (λ i x. x .0)) (d .kept) (λ i x. x .1)
 
-    pub not-moved : (r : End) {b : Bool} → b ≡ isDone r → not b ≡ true → Moved (ranAs r (candidatesAt s₂ (table .bodies))) → (y : Found) → Tried s₂ (ranAs r y)
+    pub not-moved : (r : End) {b : Bool} → b ≡ isDone r → not b ≡ true → Moved (ranAs r (candidatesAt s₂ (table .bodies))) → (y : Found)
+        → Tried s₂ (ranAs r y)
     unfolding candidateOf
     not-moved r eb h d y = (
-      does-eq (fails y r eb h) (does-then onShares (λ i x. omega (arith, x .1)) (λ i x. x .2) (counted d₁) (does-stop onMoved (λ i x. x) (moved (failed _ r eb d h)))),
+      does-eq (fails y r eb h)
+          (does-then onShares (λ i x. omega (arith, x .1)) (λ i x. x .2) (counted d₁) (does-stop onMoved (λ i x. x) (moved (failed _ r eb d h)))),
       kept-vec (keeps d) IMPULSES (table .rows) (λ i a b. (omega arith, omega arith)),
     )
 
@@ -178,5 +185,7 @@ module _ (job : Job) (ia ib : List ℕ) (table : Table) (l : table .rows ≤ 96)
         last : Does (Out ROWS ROW-TABLE) s₂ s₃ (ranAs r (foundAt ia ib s₃ table)) (onMoved (candidatesAt s₂ (table .bodies)))
         last = record {
           kept = d₃ .kept;
-          is = ap (ranAs r) there ∙ ran-then r (rowsOn ia ib s₃ ROWS m) found ∙ ap (λ (x : Result (List EqualityRow)). x >>= λ rows. go (found rows)) (d₃ .is);
+          is =
+              ap (ranAs r) there ∙ ran-then r (rowsOn ia ib s₃ ROWS m) found ∙ ap (λ (x : Result (List EqualityRow)). x >>= λ rows. go (found rows))
+              (d₃ .is);
         }

@@ -105,7 +105,8 @@ module _ (job : Job) (ia ib : List ℕ) (table : Table) (p : table .place + ROW-
     found-met k = record { kept = d .0 .kept; is = begun (leave-yes _ _ (sym ec ∙ k) ∙ try-go _ found) }
 
     pub found-unmet : c ≡ false → {u : List Float} {t : Result (Turn (List Float) Found)} {n : ℕ}
-        → Does Trying s₁ u (ran t 0 n) (correction (linearSolve (job .cyclic) (systemOn ia ib s₁ table) (rhsOf (job .dt) (rowsOn ia ib s₁ ROWS (table .rows))))
+        → Does Trying s₁ u (ran t 0 n)
+        (correction (linearSolve (job .cyclic) (systemOn ia ib s₁ table) (rhsOf (job .dt) (rowsOn ia ib s₁ ROWS (table .rows))))
         (addImpulses (impulsesAt s₁ table))) → Turns u (ran t 1 n)
     unfolding nonlinearPass
     found-unmet k e = record {
@@ -118,7 +119,8 @@ module _ (job : Job) (ia ib : List ℕ) (table : Table) (p : table .place + ROW-
             ≡ correction (linearSolve (job .cyclic) (systemOn ia ib s table) (rhsOf (job .dt) (rowsOn ia ib s₁ ROWS (table .rows))))
             (addImpulses (impulsesAt s table))
         from = λ j. correction
-            (linearSolve (job .cyclic) (kept-started (d .0 .kept) ia ib table p l g (λ i x. x) j .system) (rhsOf (job .dt) (rowsOn ia ib s₁ ROWS (table .rows))))
+            (linearSolve (job .cyclic) (kept-started (d .0 .kept) ia ib table p l g (λ i x. x) j .system)
+            (rhsOf (job .dt) (rowsOn ia ib s₁ ROWS (table .rows))))
             (addImpulses (d .1 j))
 
 -- ---- nonlinear_loop
@@ -129,13 +131,15 @@ passFrom job ia ib table s = nonlinearPass job (startedAt ia ib s table)
 zeros : (n : ℕ) (x : Float) → tab n (λ _. x) ≡ replicate n x
 zeros n x = sym (is-tab n (λ _. x) nan (replicate n x) (length-replicate n x) (λ k h. getD-replicate n k x nan h))
 
-module _ (job : Job) (ia ib : List ℕ) (table : Table) (p : table .place + ROW-TABLE ≤ ROWS) (l : table .rows ≤ 96) (g : table .bodies ≤ 16) {s : List Float} where
+module _ (job : Job) (ia ib : List ℕ) (table : Table) (p : table .place + ROW-TABLE ≤ ROWS) (l : table .rows ≤ 96) (g : table .bodies ≤ 16)
+    {s : List Float} where
   pub same-pass : (t : List Float) → Kept Trying s t → passFrom job ia ib table t ≡ passFrom job ia ib table s
   same-pass t kept = ap (nonlinearPass job) (kept-started kept ia ib table p l g (λ i x. x))
 
   -- from no impulse
   pub from-none : {s₁ u : List Float} {x : Counting Found} → Filled IMPULSES (table .rows) (λ _. ratio 0 1) s s₁
-      → Does Trying s₁ u x (upTo 32 nonConvergent (passFrom job ia ib table s₁) (impulsesAt s₁ table)) → Does Trying s u x (nonlinearLoop job (startedAt ia ib s table))
+      → Does Trying s₁ u x (upTo 32 nonConvergent (passFrom job ia ib table s₁) (impulsesAt s₁ table)) → Does Trying s u x
+      (nonlinearLoop job (startedAt ia ib s table))
   unfolding nonlinearLoop
   from-none {s₁} f d = record {
     kept = kept-then (kept-more (f .kept) (λ i x. omega (arith, x .1))) (d .kept) (λ i x. x);
@@ -143,4 +147,6 @@ module _ (job : Job) (ia ib : List ℕ) (table : Table) (p : table .place + ROW-
   }
     where
       none : impulsesAt s₁ table ≡ replicate (length (rowsOn ia ib s (table .place) (table .rows))) (ratio 0 1)
-      none = filled-vec f ∙ zeros (table .rows) (ratio 0 1) ∙ ap (λ (m : ℕ). replicate m (ratio 0 1)) (sym (tab-length (table .rows) (rowOn ia ib s (table .place))))
+      none =
+          filled-vec f ∙ zeros (table .rows) (ratio 0 1) ∙ ap (λ (m : ℕ). replicate m (ratio 0 1))
+          (sym (tab-length (table .rows) (rowOn ia ib s (table .place))))

@@ -32,7 +32,8 @@ unfolding _>>=_
 begun {A} {t} {l} e = run-is refl (sym (zero-add l)) ∙ ap (λ (r : Counting A). begin >>= λ _. r) e
 
 -- what was not done fails alike, whatever it was to leave
-pub failed-as : {A B : Type 0} (x : A) (y : B) (end : End) {b : Bool} → b ≡ isDone end → not b ≡ true → {R : Result A} → ranAs end x ≡ R → (f : A → Counting B)
+pub failed-as : {A B : Type 0} (x : A) (y : B) (end : End) {b : Bool} → b ≡ isDone end → not b ≡ true → {R : Result A} → ranAs end x ≡ R
+    → (f : A → Counting B)
     → ran (ranAs end y) 0 0 ≡ (try R >>= f)
 failed-as x y end eb h e f = ap (λ (t : Result _). ran t 0 0) (fails y end eb h) ∙ try-stop f (sym (fails x end eb h) ∙ e)
 
@@ -69,7 +70,8 @@ module _ {A B : Type 0} {P : ℕ → Type 0} {s t : List Float} where
   passed-is n view found e f = record { kept = f .kept; is = ap (λ (r : Passed). passedAs n r (view t) (found t)) e ∙ f .is }
 
 module _ {A : Type 0} {P : ℕ → Type 0} {s t : List Float} where
-  pub ended-is : (found : List Float → A) {r q : Ended} {d : Counting A} → r ≡ q → Does P s t (endedAs q (found t)) d → Does P s t (endedAs r (found t)) d
+  pub ended-is : (found : List Float → A) {r q : Ended} {d : Counting A} → r ≡ q → Does P s t (endedAs q (found t)) d
+      → Does P s t (endedAs r (found t)) d
   ended-is found e f = record { kept = f .kept; is = ap (λ (r : Ended). endedAs r (found t)) e ∙ f .is }
 
   pub left-is : (found : List Float → A) {r q : Ran} {d : Counting A} → r ≡ q → Does P s t (leftAs q (found t)) d → Does P s t (leftAs r (found t)) d
@@ -104,4 +106,5 @@ module _ {A B : Type 0} (most : ℕ) (P : ℕ → Type 0) (pass : List Float →
 
     pub loop-over : {end : End} → r .pass ≡ Passes.Over end
         → Does P s₀ t (ran (ranAs end (found t)) (n + m) (l + r .linear)) (upTo most nonConvergent (pass s₀) (view s₀))
-    loop-over {end} e = record { kept = keeps; is = reached-over most nonConvergent (pass s₀) (view s₀) (inv .reached) h (ranAs end (found t)) (case e) }
+    loop-over {end} e =
+        record { kept = keeps; is = reached-over most nonConvergent (pass s₀) (view s₀) (inv .reached) h (ranAs end (found t)) (case e) }

@@ -21,6 +21,7 @@ use Rattle.rows.specs.Answer.{writtenAs, Writes}
 use Rattle.rows.specs.Region.{count-most, tab-ext, kept-refl, kept-then, kept-row}
 use Rattle.solves.specs.Region.{Does}
 use Rattle.solves.specs.View.{ROWS, rowOn, rowsOn}
+use Rattle.solves.specs.Layout.{ROW-TABLE}
 use Rattle.step.specs.Checks.{jointIn}
 use Rattle.step.specs.Ready.{Joined, Spread}
 use Rattle.step.specs.View.{startBodyAt, candidateAt}
@@ -106,7 +107,7 @@ module _ (joints : List Joint) (count : ℕ) (moved : Bool) (rows : ℕ) (s₀ :
   writing k before = jointRows joints (bodiesAt moved s₀ size) k >>= λ local. go (before ++ local)
 
   abbrev pub Wrote : ℕ → ℕ → List Float → Type 0
-  Wrote k n s = Does (λ i. Out rows 1344 i) s₀ s (go (rowsOn ia ib s rows n)) (loop k writing [])
+  Wrote k n s = Does (Out rows ROW-TABLE) s₀ s (go (rowsOn ia ib s rows n)) (loop k writing [])
 
   pub wrote-none : Wrote 0 0 s₀
   unfolding tab
@@ -128,7 +129,7 @@ module _ (joints : List Joint) (count : ℕ) (moved : Bool) (rows : ℕ) (s₀ :
         → writtenAs x t (rows + 14 * n) (jointIn joints k .«body_a») (jointIn joints k .«body_b») ≡ jointRows joints (bodiesAt moved s₀ size) k
     case q = sym (ap (λ (y : Written). writtenAs y t (rows + 14 * n) (jointIn joints k .«body_a») (jointIn joints k .«body_b»)) q) ∙ rows-are
 
-    kept : Kept (λ i. Out rows 1344 i) s₀ t
+    kept : Kept (Out rows ROW-TABLE) s₀ t
     kept = kept-then (so .kept) (w .kept) (λ i x. omega arith)
 
     pub wrote-again : {m : ℕ} → r ≡ Written.Rows m → Wrote (k + 1) (n + m) t
@@ -156,20 +157,20 @@ module _ (joints : List Joint) (count : ℕ) (moved : Bool) (rows : ℕ) (s₀ :
             λ j. rowAt t (place i j) (x j) (y j)
 
     stops : {f : Fault} → stop f ≡ jointRows joints (bodiesAt moved s₀ size) k
-        → Does (λ i. Out rows 1344 i) s₀ t (stop f) (writeRows joints count (bodiesAt moved s₀ size))
+        → Does (Out rows ROW-TABLE) s₀ t (stop f) (writeRows joints count (bodiesAt moved s₀ size))
     unfolding writeRows
     stops e = record { kept = kept; is = loop-stop writing [] count h (so .is) (then-stop (λ local. go (rowsOn ia ib s rows n ++ local)) e) }
 
     pub wrote-nonconvergent : r ≡ Written.NonConvergent
-        → Does (λ i. Out rows 1344 i) s₀ t (stop nonConvergent) (writeRows joints count (bodiesAt moved s₀ size))
+        → Does (Out rows ROW-TABLE) s₀ t (stop nonConvergent) (writeRows joints count (bodiesAt moved s₀ size))
     wrote-nonconvergent q = stops (case q)
 
     pub wrote-overflow : r ≡ Written.ArithmeticOverflow
-        → Does (λ i. Out rows 1344 i) s₀ t (stop arithmeticOverflow) (writeRows joints count (bodiesAt moved s₀ size))
+        → Does (Out rows ROW-TABLE) s₀ t (stop arithmeticOverflow) (writeRows joints count (bodiesAt moved s₀ size))
     wrote-overflow q = stops (case q)
 
   pub wrote-ends : (k n : ℕ) (s : List Float) → Wrote k n s → n ≡ rowsBefore joints k → k ≤ count → count ≤ k
-      → Does (λ i. Out rows 1344 i) s₀ s (go (rowsOn ia ib s rows (rowsBefore joints count))) (writeRows joints count (bodiesAt moved s₀ size))
+      → Does (Out rows ROW-TABLE) s₀ s (go (rowsOn ia ib s rows (rowsBefore joints count))) (writeRows joints count (bodiesAt moved s₀ size))
   unfolding writeRows
   wrote-ends k n s so p a b =
       let same : k ≡ count = omega arith in

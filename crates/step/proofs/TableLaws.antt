@@ -37,8 +37,8 @@ use Rattle.solves.specs.RegionLaws.{vec-at, filled-vec, filled-more}
 use Rattle.solves.specs.Solver.{noRow, rowIn, generalizedIn, tryNumber}
 use Rattle.solves.specs.DoesLaws.{number-yes, number-no}
 use Rattle.solves.specs.Layout.{MASS-TABLE}
-use Rattle.solves.specs.View.{ROWS, MASSES, RHS, SOLUTION, GENERALIZED, rowOn, rowsOn, generalizedAt, generalizedsAt, massOf, massAt, massesAt}
-use Rattle.step.specs.Layout.{IMPULSES, START, CANDIDATE}
+use Rattle.solves.specs.View.{ROWS, MASSES, RHS, SOLUTION, GENERALIZED, rowOn, rowsOn, generalizedAt, generalizedsAt, massOf, massAt, massesAt, Beside}
+use Rattle.step.specs.Layout.{IMPULSES, START, CANDIDATE, BODIES, STATES}
 use Rattle.solves.specs.ViewLaws.{share-in, masses-more}
 use Rattle.step.specs.declared.integrator.MassAnswer.{MassAnswer}
 use Rattle.step.specs.Records.{recordAt, recordsOf, bodyCount, stateAt}
@@ -74,17 +74,17 @@ module _ (bodies : List Float) (n : ℕ) (s₀ : List Float) where
         so-more startBodyAt begin s₀ k s so (λ i. Out START (26 * (k + 1)) i) (λ i x. omega arith) (st .0) (λ i x. omega arith)
         (λ i g. kept-start (st .0) i (λ j a c. omega arith)) (st .1 ∙ new-held _ _ (q ∙ begin-turn)) (q ∙ begin-turn)
 
-    pub begin-stops : {f : Fault} → stop f ≡ d → Does (λ i. Out START 416 i) s₀ s (stop f) (startBodies (tab n (recordAt bodies)))
+    pub begin-stops : {f : Fault} → stop f ≡ d → Does (Out START BODIES) s₀ s (stop f) (startBodies (tab n (recordAt bodies)))
     unfolding startBodies
     begin-stops q =
-        so-stop startBodyAt begin s₀ k s so (λ i. Out START 416 i) (λ i x. omega arith) (sym (tab-length n (recordAt bodies))) h
-        (kept-refl (λ i. Out START 416 i) s) (λ i x. x) (q ∙ begin-turn)
+        so-stop startBodyAt begin s₀ k s so (Out START BODIES) (λ i x. omega arith) (sym (tab-length n (recordAt bodies))) h
+        (kept-refl (Out START BODIES) s) (λ i x. x) (q ∙ begin-turn)
 
   pub begin-ends : (k : ℕ) (s : List Float) → Begun k s → k ≤ n → n ≤ k → n ≤ 16
-      → Does (λ i. Out START 416 i) s₀ s (go (startBodiesAt s n)) (startBodies (tab n (recordAt bodies)))
+      → Does (Out START BODIES) s₀ s (go (startBodiesAt s n)) (startBodies (tab n (recordAt bodies)))
   unfolding startBodies
   begin-ends k s so a b l =
-      so-end startBodyAt begin s₀ k s so (λ i. Out START 416 i) (λ i x. omega arith) n (sym (tab-length n (recordAt bodies))) a b
+      so-end startBodyAt begin s₀ k s so (Out START BODIES) (λ i x. omega arith) n (sym (tab-length n (recordAt bodies))) a b
 
 bodies-length : (moved : Bool) (s : List Float) (n : ℕ) → n ≡ length (bodiesAt moved s n)
 bodies-length true s n = sym (tab-length n (candidateAt s))
@@ -157,17 +157,17 @@ module _ (moved : Bool) (n : ℕ) (s₀ : List Float) where
     }
 
     pub weigh-stops : {t : List Float} {f : Fault} → Does (λ j. Out (MASSES + 10 * k) 10 j) s t (stop f) (massResponse body)
-        → Does (λ i. Out MASSES MASS-TABLE i) s₀ t (stop f) (prepareMasses (bodiesAt moved s₀ n))
+        → Does (Out MASSES MASS-TABLE) s₀ t (stop f) (prepareMasses (bodiesAt moved s₀ n))
     unfolding prepareMasses
     weigh-stops {t} d =
-        so-stop (λ s k. massAt s MASSES k) weigh s₀ k s so (λ i. Out MASSES MASS-TABLE i) (λ i x. omega arith) (bodies-length moved s₀ n) h (d .kept)
+        so-stop (λ s k. massAt s MASSES k) weigh s₀ k s so (Out MASSES MASS-TABLE) (λ i x. omega arith) (bodies-length moved s₀ n) h (d .kept)
         (λ i x. omega arith) (d .is ∙ weigh-turn)
 
   pub weigh-ends : (k : ℕ) (s : List Float) → Weighed k s → k ≤ n → n ≤ k → n ≤ 16
-      → Does (λ i. Out MASSES 160 i) s₀ s (go (massesAt s MASSES n)) (prepareMasses (bodiesAt moved s₀ n))
+      → Does (Out MASSES MASS-TABLE) s₀ s (go (massesAt s MASSES n)) (prepareMasses (bodiesAt moved s₀ n))
   unfolding prepareMasses
   weigh-ends k s so a b l =
-      so-end (λ s k. massAt s MASSES k) weigh s₀ k s so (λ i. Out MASSES 160 i) (λ i x. omega arith) n (bodies-length moved s₀ n) a b
+      so-end (λ s k. massAt s MASSES k) weigh s₀ k s so (Out MASSES MASS-TABLE) (λ i x. omega arith) n (bodies-length moved s₀ n) a b
 
 -- ---- mass_response
 pub mass-is : (body : MomentumBody) {turned : OptionMat3} {a b : Mat3} {f g h : Bool} → turned ≡ toMat3Of (body .rotation)
@@ -229,17 +229,17 @@ module _ (dt : Float) (n : ℕ) (s₀ : List Float) where
         (st .1 ∙ drift-moved (startBodyAt s k) share dt (q ∙ e ∙ ap (λ (x : MomentumBody). kickAndDrift dt x share) eb)) (q ∙ move-turn)
 
     pub move-stops : {f : Fault} → stop f ≡ d
-        → Does (λ i. Out CANDIDATE 208 i) s₀ s (stop f) (moveBodies dt (startBodiesAt s₀ n) (generalizedsAt s₀ GENERALIZED n))
+        → Does (Out CANDIDATE STATES) s₀ s (stop f) (moveBodies dt (startBodiesAt s₀ n) (generalizedsAt s₀ GENERALIZED n))
     unfolding moveBodies
     move-stops q =
-        so-stop candidateAt move s₀ k s so (λ i. Out CANDIDATE 208 i) (λ i x. omega arith) (sym (tab-length n (startBodyAt s₀))) h
-        (kept-refl (λ i. Out CANDIDATE 208 i) s) (λ i x. x) (q ∙ move-turn)
+        so-stop candidateAt move s₀ k s so (Out CANDIDATE STATES) (λ i x. omega arith) (sym (tab-length n (startBodyAt s₀))) h
+        (kept-refl (Out CANDIDATE STATES) s) (λ i x. x) (q ∙ move-turn)
 
   pub move-ends : (k : ℕ) (s : List Float) → Moved k s → k ≤ n → n ≤ k → n ≤ 16
-      → Does (λ i. Out CANDIDATE 208 i) s₀ s (go (candidatesAt s n)) (moveBodies dt (startBodiesAt s₀ n) (generalizedsAt s₀ GENERALIZED n))
+      → Does (Out CANDIDATE STATES) s₀ s (go (candidatesAt s n)) (moveBodies dt (startBodiesAt s₀ n) (generalizedsAt s₀ GENERALIZED n))
   unfolding moveBodies
   move-ends k s so a b l =
-      so-end candidateAt move s₀ k s so (λ i. Out CANDIDATE 208 i) (λ i x. omega arith) n (sym (tab-length n (startBodyAt s₀))) a b
+      so-end candidateAt move s₀ k s so (Out CANDIDATE STATES) (λ i x. omega arith) n (sym (tab-length n (startBodyAt s₀))) a b
 
 -- ---- rows_met and fill_rhs
 -- one more
@@ -267,7 +267,7 @@ module _ (s : List Float) (n : ℕ) (ia ib : List ℕ) where
   met-ends k e a b = every-end rowTest a b e ∙ ap (λ (m : ℕ). every m rowTest) (sym (tab-length n (rowOn ia ib s ROWS)))
 
   pub rhs-is : (dt : Float) {t : List Float} → Filled RHS n (λ k. Ieee.neg (at s (ROWS + 14 * k + 12)) ⊘ dt) s t → n ≤ 96
-      → Does (λ i. Out RHS 96 i) s t (vecAt t RHS n) (rhsOf dt (rowsOn ia ib s ROWS n))
+      → Does (Beside RHS) s t (vecAt t RHS n) (rhsOf dt (rowsOn ia ib s ROWS n))
   unfolding rhsOf
   rhs-is dt {t} f l = record {
     kept = kept-more (f .kept) (λ i x. omega arith);
@@ -298,19 +298,19 @@ module _ (n : ℕ) (s₀ : List Float) where
     sum-again q = so-put IMPULSES sum s₀ k s so (λ i. Out IMPULSES (k + 1) i) (λ i x. omega arith) _ (λ i x. omega arith) g (number-yes sum-is e q)
 
     pub sum-stops : b ≡ false
-        → Does (λ i. Out IMPULSES 96 i) s₀ (set s (IMPULSES + k) (at s (IMPULSES + k) ⊕ at s (SOLUTION + k))) (stop arithmeticOverflow)
+        → Does (Beside IMPULSES) s₀ (set s (IMPULSES + k) (at s (IMPULSES + k) ⊕ at s (SOLUTION + k))) (stop arithmeticOverflow)
         (addImpulses (vecAt s₀ IMPULSES n) (vecAt s₀ SOLUTION n))
     unfolding addImpulses
     sum-stops q =
-        so-stop (λ s k. at s (IMPULSES + k)) sum s₀ k s so (λ i. Out IMPULSES 96 i) (λ i x. omega arith)
+        so-stop (λ s k. at s (IMPULSES + k)) sum s₀ k s so (Beside IMPULSES) (λ i x. omega arith)
         (sym (tab-length n (λ j. at s₀ (IMPULSES + j)))) h
         (kept-set s (IMPULSES + k) _) (λ i x. omega arith) (number-no sum-is e q)
 
   pub sum-ends : (k : ℕ) (s : List Float) → Summed k s → k ≤ n → n ≤ k → n ≤ 96
-      → Does (λ i. Out IMPULSES 96 i) s₀ s (go (vecAt s IMPULSES n)) (addImpulses (vecAt s₀ IMPULSES n) (vecAt s₀ SOLUTION n))
+      → Does (Beside IMPULSES) s₀ s (go (vecAt s IMPULSES n)) (addImpulses (vecAt s₀ IMPULSES n) (vecAt s₀ SOLUTION n))
   unfolding addImpulses
   sum-ends k s so a b l =
-      so-end (λ s k. at s (IMPULSES + k)) sum s₀ k s so (λ i. Out IMPULSES 96 i) (λ i x. omega arith) n
+      so-end (λ s k. at s (IMPULSES + k)) sum s₀ k s so (Beside IMPULSES) (λ i x. omega arith) n
       (sym (tab-length n (λ j. at s₀ (IMPULSES + j)))) a b
 
 -- ---- make_states
@@ -343,15 +343,15 @@ module _ (bodies : List Float) (n : ℕ) (s₀ : List Float) where
         (λ i x. omega arith)
         (λ i g. kept-state (st .0) (CANDIDATE + 13 * i) (λ j a c. omega arith)) (st .1) (q ∙ state-turn)
 
-    pub state-stops : {f : Fault} → stop f ≡ d → Does (λ i. Out CANDIDATE 208 i) s₀ s (stop f) (statesOf (recordsOf bodies) (candidatesAt s₀ n))
+    pub state-stops : {f : Fault} → stop f ≡ d → Does (Out CANDIDATE STATES) s₀ s (stop f) (statesOf (recordsOf bodies) (candidatesAt s₀ n))
     unfolding statesOf
     state-stops q =
-        so-stop (λ s k. stateAt s (CANDIDATE + 13 * k)) stating s₀ k s so (λ i. Out CANDIDATE 208 i) (λ i x. omega arith)
-        (sym (tab-length n (candidateAt s₀))) h (kept-refl (λ i. Out CANDIDATE 208 i) s) (λ i x. x) (q ∙ state-turn)
+        so-stop (λ s k. stateAt s (CANDIDATE + 13 * k)) stating s₀ k s so (Out CANDIDATE STATES) (λ i x. omega arith)
+        (sym (tab-length n (candidateAt s₀))) h (kept-refl (Out CANDIDATE STATES) s) (λ i x. x) (q ∙ state-turn)
 
   pub state-ends : (k : ℕ) (s : List Float) → Stated k s → k ≤ n → n ≤ k → n ≤ 16
-      → Does (λ i. Out CANDIDATE 208 i) s₀ s (go (statesAt s n)) (statesOf (recordsOf bodies) (candidatesAt s₀ n))
+      → Does (Out CANDIDATE STATES) s₀ s (go (statesAt s n)) (statesOf (recordsOf bodies) (candidatesAt s₀ n))
   unfolding statesOf
   state-ends k s so a b l =
-      so-end (λ s k. stateAt s (CANDIDATE + 13 * k)) stating s₀ k s so (λ i. Out CANDIDATE 208 i) (λ i x. omega arith) n
+      so-end (λ s k. stateAt s (CANDIDATE + 13 * k)) stating s₀ k s so (Out CANDIDATE STATES) (λ i x. omega arith) n
       (sym (tab-length n (candidateAt s₀))) a b

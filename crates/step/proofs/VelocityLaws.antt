@@ -59,7 +59,8 @@ module _ (row : EqualityRow) (x y : MomentumBody) {a b : Motion} (ma : Moves x a
     unfolding velocityOf
     rate-without-b h = then-stop _ (vector-stop (mb .angular-is) h) ∙ then-go _ (vector-go (ma .angular-is) ha)
 
-    module _ {wb : Vec3} (hb : b .angular ≡ Some wb) {p q r s : Float} {t : Bool} (ep : p ≡ dotOf (row .«linear_a») (a .linear)) (eq : q ≡ dotOf (row .«angular_a») wa)
+    module _ {wb : Vec3} (hb : b .angular ≡ Some wb) {p q r s : Float} {t : Bool}
+        (ep : p ≡ dotOf (row .«linear_a») (a .linear)) (eq : q ≡ dotOf (row .«angular_a») wa)
         (er : r ≡ dotOf (row .«linear_b») (b .linear)) (es : s ≡ dotOf (row .«angular_b») wb) (et : t ≡ isFinite (p ⊕ q ⊕ r ⊕ s)) where
       total : p ⊕ q ⊕ r ⊕ s ≡ dotOf (row .«linear_a») (divOf (x .momentum) (x .mass)) ⊕ dotOf (row .«angular_a») wa
           ⊕ dotOf (row .«linear_b») (divOf (y .momentum) (y .mass)) ⊕ dotOf (row .«angular_b») wb
@@ -81,7 +82,11 @@ pub motion-made : (s : List Float) (k : ℕ) {body : MomentumBody} {linear : Vec
     → linear ≡ divOf (body .momentum) (body .mass)
     → vectorOr arithmeticOverflow angular ≡ omegaOf body → MotionAt s k (record { body = k; linear = linear; angular = angular })
 motion-made s k e l w =
-    record { body-is = refl; moves = record { linear-is = l ∙ ap (λ (b : MomentumBody). divOf (b .momentum) (b .mass)) e; angular-is = w ∙ ap omegaOf e } }
+    record {
+      body-is =
+          refl;
+      moves = record { linear-is = l ∙ ap (λ (b : MomentumBody). divOf (b .momentum) (b .mass)) e; angular-is = w ∙ ap omegaOf e };
+    }
 
 -- motion_again
 pub motion-known : {s : List Float} {k : ℕ} {m : Motion} → Remembers s m → m .body ≡ k → k < 16 → MotionAt s k m
@@ -216,20 +221,21 @@ module _ (s₀ : List Float) (bodies : ℕ) where
         (st .1 ∙ kick-moved (startBodyAt s k) (candidateAt s k) (share .linear) (share .angular) refl refl refl
         (q ∙ e ∙ ap (λ (x : MomentumBody). kickOf x (share .linear) (share .angular)) eo)) (q ∙ kick-turn)
 
-    pub kick-stops : {f : Fault} → stop f ≡ d → Does (λ i. Out CANDIDATE STATES i) s₀ s (stop f) (kickBodies B G)
+    pub kick-stops : {f : Fault} → stop f ≡ d → Does (Out CANDIDATE STATES) s₀ s (stop f) (kickBodies B G)
     unfolding kickBodies
     kick-stops q =
-        so-stop candidateAt kick s₀ k s so (λ i. Out CANDIDATE STATES i) (λ i x. omega arith) (sym (tab-length bodies (candidateAt s₀))) h
-        (kept-refl (λ i. Out CANDIDATE STATES i) s) (λ i x. x) (q ∙ kick-turn)
+        so-stop candidateAt kick s₀ k s so (Out CANDIDATE STATES) (λ i x. omega arith) (sym (tab-length bodies (candidateAt s₀))) h
+        (kept-refl (Out CANDIDATE STATES) s) (λ i x. x) (q ∙ kick-turn)
 
   pub kick-ends : {k : ℕ} {s : List Float} → Kicked k s → k ≤ bodies → bodies ≤ k → bodies ≤ 16
-      → Does (λ i. Out CANDIDATE STATES i) s₀ s (go (candidatesAt s bodies)) (kickBodies B G)
+      → Does (Out CANDIDATE STATES) s₀ s (go (candidatesAt s bodies)) (kickBodies B G)
   unfolding kickBodies
   kick-ends {k} {s} so a b most =
-      so-end candidateAt kick s₀ k s so (λ i. Out CANDIDATE STATES i) (λ i x. omega arith) bodies (sym (tab-length bodies (candidateAt s₀))) a b
+      so-end candidateAt kick s₀ k s so (Out CANDIDATE STATES) (λ i x. omega arith) bodies (sym (tab-length bodies (candidateAt s₀))) a b
 
 -- apply
-module _ {s : List Float} {ia ib : List ℕ} (table : Table) (pre : Rows s ia ib (table .place) (table .rows) (table .bodies)) {t : List Float} {x : Result (List Generalized)}
+module _ {s : List Float} {ia ib : List ℕ} (table : Table) (pre : Rows s ia ib (table .place) (table .rows) (table .bodies))
+    {t : List Float} {x : Result (List Generalized)}
     (d : Does Shares s t x (transpose (rowsOn ia ib s (table .place) (table .rows)) (vecAt s SOLUTION (table .rows)) (table .bodies))) where
   abbrev reaction : Result (List MomentumBody)
   reaction = reactionOf (rowsOn ia ib s (table .place) (table .rows)) (candidatesAt s (table .bodies)) (vecAt s SOLUTION (table .rows))
@@ -239,7 +245,9 @@ module _ {s : List Float} {ia ib : List ℕ} (table : Table) (pre : Rows s ia ib
       (transpose (rowsOn ia ib s (table .place) (table .rows)) (vecAt s SOLUTION (table .rows)) (length (candidatesAt s (table .bodies))))
   pushed = record {
     kept = d .kept;
-    is = d .is ∙ ap (transpose (rowsOn ia ib s (table .place) (table .rows)) (vecAt s SOLUTION (table .rows))) (sym (tab-length (table .bodies) (candidateAt s)));
+    is =
+        d .is ∙ ap (transpose (rowsOn ia ib s (table .place) (table .rows)) (vecAt s SOLUTION (table .rows)))
+        (sym (tab-length (table .bodies) (candidateAt s)));
   }
 
   pub apply-stops : {f : Fault} → x ≡ stop f → {z : Result (List MomentumBody)} → z ≡ stop f → Does Correcting s t z reaction
@@ -247,7 +255,8 @@ module _ {s : List Float} {ia ib : List ℕ} (table : Table) (pre : Rows s ia ib
   apply-stops q w = does-eq w (does-stop _ (λ i x. omega (arith, x .0)) (does-eq (sym q) pushed))
 
   pub apply-then : x ≡ go (sharesIn t (table .bodies)) → {u : List Float} {y : Result (List MomentumBody)}
-      → Does (λ i. Out CANDIDATE STATES i) t u y (kickBodies (candidatesAt t (table .bodies)) (sharesIn t (table .bodies))) → Does Correcting s u y reaction
+      → Does (Out CANDIDATE STATES) t u y (kickBodies (candidatesAt t (table .bodies)) (sharesIn t (table .bodies))) → Does Correcting s u y
+      reaction
   unfolding reactionOf
   apply-then q {u} {y} e =
       does-then _ (λ i x. omega (arith, x .0)) (λ i x. x .1) (does-eq (sym q) pushed)
@@ -314,7 +323,8 @@ module _ (cyclic : Bool) {s : List Float} {ia ib : List ℕ} (table : Table) (pr
             ≡ correction {B = List MomentumBody} (linearSolve cyclic (systemOn ia ib s table) (vecAt t RHS (table .rows)))
             (reactionOf (systemOn ia ib s table .rows) (candidatesAt s (table .bodies)))
         moved = λ j. correction (linearSolve cyclic (same-system (d .kept) table pre (λ i x. omega (arith, x .0)) j) (vecAt t RHS (table .rows)))
-            (reactionOf (same-system (d .kept) table pre (λ i x. omega (arith, x .0)) j .rows) (same-candidates (d .kept) table pre (λ i x. omega (arith, x)) j))
+            (reactionOf (same-system (d .kept) table pre (λ i x. omega (arith, x .0)) j .rows)
+            (same-candidates (d .kept) table pre (λ i x. omega (arith, x)) j))
 
 -- velocity_loop: the pass is over the same system, however far the loop has come
 pub same-pass : (cyclic : Bool) {s : List Float} {ia ib : List ℕ} (table : Table) → Rows s ia ib (table .place) (table .rows) (table .bodies)
@@ -364,5 +374,7 @@ module _ (cyclic : Bool) {s s₁ : List Float} {ia ib : List ℕ} (table : Table
     pub rest-not-kicked : not c ≡ true → Corrects s₂ (ran (over (ranAs q (candidatesAt s₂ (table .bodies)))) 0 (r .linear))
     rest-not-kicked k = record {
       kept = reacting;
-      is = not-made react r (vecAt s₁ SOLUTION (table .rows)) (d .is) (candidatesAt s₂ (table .bodies)) eb h (candidatesAt s₂ (table .bodies)) q ec k reacted;
+      is =
+          not-made react r (vecAt s₁ SOLUTION (table .rows)) (d .is) (candidatesAt s₂ (table .bodies)) eb h (candidatesAt s₂ (table .bodies)) q ec k
+          reacted;
     }

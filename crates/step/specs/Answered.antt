@@ -1,4 +1,5 @@
--- What a step says: its answer is the definition's, and the joints of an accepted step are met by the records that it hands back. SPECIFICATION §0, demands 1, 2 and 3.
+-- What a step says: its answer is the definition's, and the joints of an accepted step are met by the records that it hands back.
+-- SPECIFICATION §0, demands 1, 2 and 3.
 use Prim.Native.Nat.{ℕ, _≤_, _<_}
 use mathlib.Core.Path.{_≡_}
 use mathlib.Core.List.{List}

@@ -38,7 +38,8 @@ module _ (job : Job) (start : Started) where
     where
       -- a correction is never the loop's answer
       never : (rhs : List Float)
-          → (linearSolve (job .cyclic) (start .system) rhs >>= λ solution. try (addImpulses impulses solution) >>= λ next. again next) .ends ≡ go (stop found)
+          → (linearSolve (job .cyclic) (start .system) rhs >>= λ solution. try (addImpulses impulses solution) >>= λ next. again next) .ends ≡ go
+          (stop found)
           → ⊥
       never rhs g =
           let q₁ = ends-then _ _ _ g in
@@ -178,7 +179,8 @@ pub record Ran (bodies : List RigidBody) (joints : List Joint) (count : ℕ) (st
   pub locals : Locals bodies last
   pub states-are : statesOf bodies last ≡ go states
 
-pub ran : (job : Job) (bodies : List RigidBody) (states : List BodyState) → runOf job bodies .ends ≡ go states → Ran bodies (job .joints) (job .count) states
+pub ran : (job : Job) (bodies : List RigidBody) (states : List BodyState) → runOf job bodies .ends ≡ go states
+    → Ran bodies (job .joints) (job .count) states
 unfolding runOf
 ran job bodies states h =
     let r₁ = ends-then _ _ _ h in

@@ -10,6 +10,7 @@ use Rattle.arith.specs.Run.{ran, try, again, _>>=_}
 use Rattle.vectors.specs.Vector.{divOf}
 use Rattle.rows.specs.declared.body.MomentumBody.{MomentumBody}
 use Rattle.rows.specs.declared.geometry.Joint.{Joint}
+use Rattle.rows.specs.declared.geometry.EqualityRow.{EqualityRow}
 use Rattle.rows.specs.Fault.{arithmeticOverflow, Result, vectorOr}
 use Rattle.rows.specs.Body.{omegaOf}
 use Rattle.rows.specs.Geometry.{rowCount}
@@ -19,7 +20,8 @@ use Rattle.solves.specs.declared.places.MassResponse.{MassResponse}
 use Rattle.solves.specs.Layout.{ROW-TABLE}
 use Rattle.solves.specs.Lent.{Slice}
 use Rattle.solves.specs.Region.{vecAt}
-use Rattle.solves.specs.System.{Counting}
+use Rattle.solves.specs.System.{System, Counting}
+use Rattle.solves.specs.Search.{linearSolve}
 use Rattle.solves.specs.Answer.{ranAs, passAs}
 use Rattle.solves.specs.View.{ROWS, RHS, rowsOn, systemOn, Ready}
 use Rattle.step.specs.declared.integrator.MassAnswer.{MassAnswer}
@@ -30,13 +32,16 @@ use Rattle.step.specs.declared.passes.Ran.{Ran}
 use Rattle.step.specs.Checks.{jointIn}
 use Rattle.step.specs.Layout.{IMPULSES, START, CANDIDATE, STATES, USED}
 use Rattle.step.specs.View.{candidateAt, startBodiesAt, candidatesAt}
-use Rattle.step.specs.Bodies.{Job, Started, Found}
+use Rattle.step.specs.Bodies.{Job, Started, Found, rhsOf, addImpulses, reactionOf}
 use Rattle.step.specs.Ready.{Joined}
 
 -- ---- views
 -- the candidates where bodies were moved, else those of the start
 abbrev pub bodiesAt : Bool → List Float → ℕ → List MomentumBody
 bodiesAt moved s n = cond moved (candidatesAt s n) (startBodiesAt s n)
+
+abbrev pub candidatesOf : Table → List Float → List MomentumBody
+candidatesOf t s = candidatesAt s (t .bodies)
 
 abbrev pub impulsesAt : List Float → Table → List Float
 impulsesAt s t = vecAt s IMPULSES (t .rows)
@@ -119,3 +124,11 @@ leftAs r x = ran (ranAs (r .end) x) (r .nonlinear) (r .linear)
 -- the second half of both passes: a solve, and what is made of its solution
 abbrev pub correction : {A B : Type 0} → Counting (List Float) → (List Float → Result A) → Counting (Turn A B)
 correction solve make = solve >>= λ solution. try (make solution) >>= λ next. again next
+
+-- of a nonlinear pass: the impulses for the next, along the starting rows
+abbrev pub impulsesBy : Task → Started → List Float → List EqualityRow → Counting (Turn (List Float) Found)
+impulsesBy task start impulses rows = correction (linearSolve (task .cyclic) (start .system) (rhsOf (task .dt) rows)) (addImpulses impulses)
+
+-- of a velocity pass: the candidates kicked, along their own rows
+abbrev pub kicksBy : Bool → List Float → System → List MomentumBody → Counting (Turn (List MomentumBody) (List MomentumBody))
+kicksBy cyclic rhs system candidate = correction (linearSolve cyclic system rhs) (reactionOf (system .rows) candidate)

@@ -1,5 +1,6 @@
 -- What the functions of the two loops say: what they leave alone, and that their answer with what they leave is the definition's at entry.
 use Prim.Native.Nat.{ℕ, _-_}
+use mathlib.Core.Bool.{Bool}
 use mathlib.Core.List.{List}
 use lib.Ieee.{Float}
 use Rattle.arith.specs.Flow.{Turn}
@@ -17,14 +18,25 @@ use Rattle.solves.specs.Region.{Does}
 use Rattle.solves.specs.System.{System, Counting}
 use Rattle.solves.specs.Answer.{ranAs, endedAs}
 use Rattle.solves.specs.View.{START-ROWS, ROWS, MASSES, rowsOn, systemIn}
+use Rattle.solves.specs.Layout.{ROW-TABLE}
+use Rattle.step.specs.Ready.{Joined}
 use Rattle.step.specs.declared.integrator.Task.{Task}
 use Rattle.step.specs.declared.passes.Passed.{Passed}
 use Rattle.step.specs.declared.passes.Ran.{Ran}
 use Rattle.step.specs.Layout.{USED}
 use Rattle.step.specs.Records.{bodyCount, recordsOf}
 use Rattle.step.specs.View.{candidatesAt, statesAt}
-use Rattle.step.specs.Bodies.{Started, startOf, Found}
-use Rattle.step.specs.RunView.{impulsesAt, startedAt, foundAt, jobFor, rowsBefore, Sides, Trying, Correcting, passedAs, leftAs}
+use Rattle.step.specs.Bodies.{Started, startOf, Found, writeRows}
+use Rattle.step.specs.RunView.{impulsesAt, startedAt, foundAt, jobFor, rowsBefore, Sides, Trying, Correcting, passedAs, leftAs, bodiesAt}
+
+-- a function that leaves a list in the scratch, or fails: what it touches, and what it left
+abbrev pub Leaves : {A : Type 0} → (ℕ → Type 0) → Lent Float → End → (List Float → A) → Result A → Type 0
+Leaves P s r view defined = Does P (came s) (left s) (ranAs r (view (left s))) defined
+
+-- `write_rows`, of the rows of the joints, on whatever bodies two lists say that they are
+abbrev pub Writes : Lent Float → List Joint → ℕ → ℕ → Bool → End → Type 0
+Writes s joints count rows moved r = (size : ℕ) → Joined joints count size → (ia ib : List ℕ) → Sides joints count ia ib
+    → Leaves (Out rows ROW-TABLE) s r (λ u. rowsOn ia ib u rows (rowsBefore joints count)) (writeRows joints count (bodiesAt moved (came s) size))
 
 -- `start`, of the rows of the joints, on whatever bodies two lists say that they are
 abbrev pub Starts : Lent Float → Lent Float → List Joint → Task → End → Type 0
@@ -45,8 +57,10 @@ module _ (s : Lent Float) (ia ib : Lent ℕ) (t : Table) where
   Finds r f = Does Trying (came s) (left s) (ranAs r found) (f start (impulsesAt (came s) t))
 
   -- `correct`, of the rows that were found
-  abbrev pub Impels : Passed → (Started → List EqualityRow → Counting (Turn (List Float) Found)) → Type 0
-  Impels r f = Does Trying (came s) (left s) (passedAs 0 r (impulsesAt (left s) t) found) (f start (rowsOn (came ia) (came ib) (came s) ROWS (t .rows)))
+  abbrev pub Impels : Passed → (Started → List Float → List EqualityRow → Counting (Turn (List Float) Found)) → Type 0
+  Impels r f =
+      Does Trying (came s) (left s) (passedAs 0 r (impulsesAt (left s) t) found)
+      (f start (impulsesAt (came s) t) (rowsOn (came ia) (came ib) (came s) ROWS (t .rows)))
 
   -- `nonlinear_pass`, which counts itself, and `nonlinear_loop`
   abbrev pub Tries : Passed → (Started → List Float → Counting (Turn (List Float) Found)) → Type 0

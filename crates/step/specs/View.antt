@@ -1,4 +1,5 @@
--- Bodies in motion in the scratch: the starting bodies have 26 doubles each (13 that move, then mass, local centre and inverse inertia), the candidates the 13 that move.
+-- Bodies in motion in the scratch: the starting bodies have 26 doubles each (13 that move, then mass, local centre and inverse inertia),
+-- the candidates the 13 that move.
 use Prim.Native.Nat.{ℕ, _+_, _*_, _<_}
 use mathlib.Core.Path.{_≡_}
 use mathlib.Core.List.{List}

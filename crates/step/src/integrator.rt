@@ -56,16 +56,15 @@ ghost use Rattle.rows.specs.View.{Out};
 ghost use Rattle.rows.specs.Answer.{bodyAs};
 ghost use Rattle.solves.specs.Lent.{came, left};
 ghost use Rattle.solves.specs.Region.{vecAt, Does};
-ghost use Rattle.solves.specs.Answer.{ranAs};
-ghost use Rattle.solves.specs.Search.{linearSolve};
-ghost use Rattle.solves.specs.View.{ROWS, MASSES, RHS, SOLUTION, GENERALIZED, rowsOn, massAt, massesAt, generalizedsAt};
-ghost use Rattle.step.specs.Layout.{IMPULSES, START, CANDIDATE, USED};
+ghost use Rattle.solves.specs.View.{ROWS, MASSES, RHS, SOLUTION, GENERALIZED, rowsOn, massAt, massesAt, Beside, sharesIn};
+ghost use Rattle.solves.specs.Layout.{MASS-TABLE};
+ghost use Rattle.step.specs.Layout.{IMPULSES, START, CANDIDATE, USED, BODIES, STATES};
 ghost use Rattle.step.specs.Records.{bodyCount, recordAt, recordsOf};
-ghost use Rattle.step.specs.Bodies.{startBodies, writeRows, massResponse, prepareMasses, kickAndDrift, moveBodies, rowsMet, rhsOf, addImpulses, candidateOf, statesOf};
+ghost use Rattle.step.specs.Bodies.{startBodies, massResponse, prepareMasses, kickAndDrift, moveBodies, rowsMet, rhsOf, addImpulses, candidateOf, statesOf};
 ghost use Rattle.step.specs.Step.{nonlinearPass, nonlinearLoop, finishOf, runFor};
 ghost use Rattle.step.specs.View.{startBodyAt, candidateAt, startBodiesAt, candidatesAt, statesAt};
-ghost use Rattle.step.specs.RunView.{bodiesAt, impulsesAt, candidateTable, jobFor, rowsBefore, Sides, Ours, Starting, Joins, massAs, leftAs, correction};
-ghost use Rattle.step.specs.Says.{Impels, Finds, Tries, Meets, Finishes, Starts};
+ghost use Rattle.step.specs.RunView.{bodiesAt, impulsesAt, candidateTable, jobFor, rowsBefore, Sides, Ours, Starting, Joins, massAs, leftAs, impulsesBy};
+ghost use Rattle.step.specs.Says.{Leaves, Writes, Impels, Finds, Tries, Meets, Finishes, Starts};
 ghost use Rattle.step.specs.Ready.{Joined, RowBodies, Spread};
 
 // What a run is about, beside its joints: how many there are, the time step, and whether there are at least as many as bodies.
@@ -83,7 +82,7 @@ pub(crate) struct MassAnswer {
 
 fn start_bodies(s: &mut [f64], bodies: &[f64], n: usize) -> End
     requires { ⌜ (USED ≤ length (now s)) × (26 * n ≤ length (now bodies)) × (n ≤ 16) ⌝ }
-    ensures { λ r. ⌜ Does (Out START 416) (came s) (left s) (ranAs r (startBodiesAt (left s) n)) (startBodies (tab n (recordAt (came bodies)))) ⌝ }
+    ensures { λ r. ⌜ Leaves (Out START BODIES) s r (λ u. startBodiesAt u n) (startBodies (tab n (recordAt (came bodies)))) ⌝ }
 {
     for k in 0..n {
         let record = load_record(bodies, k);
@@ -143,7 +142,7 @@ fn load_moved(s: &[f64], k: usize, moved: bool) -> MomentumBody
 // The rows of all joints, of the bodies at the start or of the candidates.
 fn write_rows(s: &mut [f64], joints: [Joint; 16], count: usize, rows: usize, moved: bool) -> End
     requires { ⌜ (USED ≤ length (now s)) × (rows ≤ ROWS) × (Joined joints count 16) ⌝ }
-    ensures { λ r. ⌜ ((size : ℕ) → Joined joints count size → (ia ib : List ℕ) → Sides joints count ia ib → Does (Out rows 1344) (came s) (left s) (ranAs r (rowsOn ia ib (left s) rows (rowsBefore joints count))) (writeRows joints count (bodiesAt moved (came s) size))) ⌝ }
+    ensures { λ r. ⌜ Writes s joints count rows moved r ⌝ }
 {
     let mut n = 0;
     for k in 0..count {
@@ -193,7 +192,7 @@ fn all_three(a: bool, b: bool, c: bool) -> bool
 
 fn prepare_mass(s: &mut [f64], k: usize, body: MomentumBody) -> End
     requires { ⌜ (USED ≤ length (now s)) × (k < 16) ⌝ }
-    ensures { λ r. ⌜ Does (Out (MASSES + 10 * k) 10) (came s) (left s) (ranAs r (massAt (left s) MASSES k)) (massResponse body) ⌝ }
+    ensures { λ r. ⌜ Leaves (Out (MASSES + 10 * k) 10) s r (λ u. massAt u MASSES k) (massResponse body) ⌝ }
 {
     let answer = mass_response(body);
     if !answer.some {
@@ -210,7 +209,7 @@ fn prepare_mass(s: &mut [f64], k: usize, body: MomentumBody) -> End
 
 fn prepare_masses(s: &mut [f64], n: usize, moved: bool) -> End
     requires { ⌜ (USED ≤ length (now s)) × (n ≤ 16) ⌝ }
-    ensures { λ r. ⌜ Does (Out MASSES 160) (came s) (left s) (ranAs r (massesAt (left s) MASSES n)) (prepareMasses (bodiesAt moved (came s) n)) ⌝ }
+    ensures { λ r. ⌜ Leaves (Out MASSES MASS-TABLE) s r (λ u. massesAt u MASSES n) (prepareMasses (bodiesAt moved (came s) n)) ⌝ }
 {
     for k in 0..n {
         let body = load_moved(s, k, moved);
@@ -238,7 +237,7 @@ fn kick_and_drift(body: MomentumBody, linear: Vec3, angular: Vec3, dt: f64) -> B
 // The candidates: each pass restarts from the starting bodies with the summed impulses.
 fn move_bodies(s: &mut [f64], n: usize, dt: f64) -> End
     requires { ⌜ (USED ≤ length (now s)) × (n ≤ 16) ⌝ }
-    ensures { λ r. ⌜ Does (Out CANDIDATE 208) (came s) (left s) (ranAs r (candidatesAt (left s) n)) (moveBodies dt (startBodiesAt (came s) n) (generalizedsAt (came s) GENERALIZED n)) ⌝ }
+    ensures { λ r. ⌜ Leaves (Out CANDIDATE STATES) s r (λ u. candidatesAt u n) (moveBodies dt (startBodiesAt (came s) n) (sharesIn (came s) n)) ⌝ }
 {
     for k in 0..n {
         let share = load_generalized(s, GENERALIZED, k);
@@ -272,7 +271,7 @@ fn rows_met(s: &[f64], n: usize) -> bool
 
 fn fill_rhs(s: &mut [f64], dt: f64, n: usize)
     requires { ⌜ (USED ≤ length (now s)) × (n ≤ 96) ⌝ }
-    ensures { λ _. ⌜ ((ia ib : List ℕ) → Does (Out RHS 96) (came s) (left s) (vecAt (left s) RHS n) (rhsOf dt (rowsOn ia ib (came s) ROWS n))) ⌝ }
+    ensures { λ _. ⌜ ((ia ib : List ℕ) → Does (Beside RHS) (came s) (left s) (vecAt (left s) RHS n) (rhsOf dt (rowsOn ia ib (came s) ROWS n))) ⌝ }
 {
     for k in 0..n {
         s[RHS + k] = -s[ROWS + ROW * k + 12] / dt;
@@ -281,7 +280,7 @@ fn fill_rhs(s: &mut [f64], dt: f64, n: usize)
 
 fn add_impulses(s: &mut [f64], n: usize) -> End
     requires { ⌜ (USED ≤ length (now s)) × (n ≤ 96) ⌝ }
-    ensures { λ r. ⌜ Does (Out IMPULSES 96) (came s) (left s) (ranAs r (vecAt (left s) IMPULSES n)) (addImpulses (vecAt (came s) IMPULSES n) (vecAt (came s) SOLUTION n)) ⌝ }
+    ensures { λ r. ⌜ Leaves (Beside IMPULSES) s r (λ u. vecAt u IMPULSES n) (addImpulses (vecAt (came s) IMPULSES n) (vecAt (came s) SOLUTION n)) ⌝ }
 {
     for k in 0..n {
         let sum = s[IMPULSES + k] + s[SOLUTION + k];
@@ -296,7 +295,7 @@ fn add_impulses(s: &mut [f64], n: usize) -> End
 // The second half of a pass: the impulses that the rows' values ask for, along the starting rows.
 fn correct(s: &mut [f64], ia: &[usize; 96], ib: &[usize; 96], t: Table, task: Task) -> Passed
     requires { ⌜ Starting s ia ib t ⌝ }
-    ensures { λ r. ⌜ Impels s ia ib t r (λ start rows. correction (linearSolve (task .cyclic) (start .system) (rhsOf (task .dt) rows)) (addImpulses (impulsesAt (came s) t))) ⌝ }
+    ensures { λ r. ⌜ Impels s ia ib t r (impulsesBy task) ⌝ }
 {
     fill_rhs(s, task.dt, t.rows);
     let solved = linear_solve(s, ia, ib, t, task.cyclic);
@@ -383,7 +382,7 @@ fn nonlinear_loop(
 // The states of the candidates, in their places.
 fn make_states(s: &mut [f64], bodies: &[f64], n: usize) -> End
     requires { ⌜ (USED ≤ length (now s)) × (n ≤ bodyCount (now bodies)) × (n ≤ 16) ⌝ }
-    ensures { λ r. ⌜ Does (Out CANDIDATE 208) (came s) (left s) (ranAs r (statesAt (left s) n)) (statesOf (recordsOf (came bodies)) (candidatesAt (came s) n)) ⌝ }
+    ensures { λ r. ⌜ Leaves (Out CANDIDATE STATES) s r (λ u. statesAt u n) (statesOf (recordsOf (came bodies)) (candidatesAt (came s) n)) ⌝ }
 {
     for k in 0..n {
         let body = load_candidate(s, k);

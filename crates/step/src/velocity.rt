@@ -28,17 +28,16 @@ ghost use mathlib.Core.Path.{_≡_};
 ghost use Prim.Native.Nat.{_≤_, _<_};
 ghost use lib.ListN.{length};
 ghost use Rattle.rows.specs.View.{Out};
-ghost use Rattle.solves.specs.Lent.{came, left};
-ghost use Rattle.solves.specs.Region.{vecAt, Does};
-ghost use Rattle.solves.specs.Answer.{sumAs, ranAs};
-ghost use Rattle.solves.specs.Search.{linearSolve};
-ghost use Rattle.solves.specs.View.{RHS, GENERALIZED, Beside, generalizedsAt, systemIn, rhsOn, solutionOn};
-ghost use Rattle.step.specs.Layout.{CANDIDATE, USED};
+ghost use Rattle.solves.specs.Lent.{came};
+ghost use Rattle.solves.specs.Region.{vecAt};
+ghost use Rattle.solves.specs.Answer.{sumAs};
+ghost use Rattle.solves.specs.View.{RHS, GENERALIZED, Beside, systemIn, rhsOn, solutionOn, sharesIn};
+ghost use Rattle.step.specs.Layout.{CANDIDATE, USED, STATES};
 ghost use Rattle.step.specs.Bodies.{velocityOf, velocityRhs, compatibleOf, kickBodies, reactionOf};
 ghost use Rattle.step.specs.Step.{velocityPass, velocityLoop};
 ghost use Rattle.step.specs.View.{candidatesAt};
-ghost use Rattle.step.specs.RunView.{Moves, MotionAt, Remembers, Ours, Correcting, correction};
-ghost use Rattle.step.specs.Says.{Kicks, Rests};
+ghost use Rattle.step.specs.RunView.{candidatesOf, Moves, MotionAt, Remembers, Ours, Correcting, kicksBy};
+ghost use Rattle.step.specs.Says.{Leaves, Kicks, Rests};
 
 // The number of no body: there are at most 16.
 const NO_BODY: usize = 16;
@@ -107,7 +106,7 @@ fn velocity(row: EqualityRow, a: Motion, b: Motion) -> Sum
 
 fn velocity_rhs(s: &mut [f64], ia: &[usize; 96], ib: &[usize; 96], t: Table) -> End
     requires { ⌜ Ours s ia ib t ⌝ }
-    ensures { λ r. ⌜ Does (Beside RHS) (came s) (left s) (ranAs r (vecAt (left s) RHS (t .rows))) (velocityRhs (systemIn s ia ib t .rows) (candidatesAt (came s) (t .bodies))) ⌝ }
+    ensures { λ r. ⌜ Leaves (Beside RHS) s r (λ u. vecAt u RHS (t .rows)) (velocityRhs (systemIn s ia ib t .rows) (candidatesOf t (came s))) ⌝ }
 {
     let n = t.rows;
     let mut a = no_motion();
@@ -138,7 +137,7 @@ fn compatible(s: &[f64], n: usize) -> bool
 
 fn kick_candidates(s: &mut [f64], bodies: usize) -> End
     requires { ⌜ (USED ≤ length (now s)) × (bodies ≤ 16) ⌝ }
-    ensures { λ r. ⌜ Does (Out CANDIDATE 208) (came s) (left s) (ranAs r (candidatesAt (left s) bodies)) (kickBodies (candidatesAt (came s) bodies) (generalizedsAt (came s) GENERALIZED bodies)) ⌝ }
+    ensures { λ r. ⌜ Leaves (Out CANDIDATE STATES) s r (λ u. candidatesAt u bodies) (kickBodies (candidatesAt (came s) bodies) (sharesIn (came s) bodies)) ⌝ }
 {
     for k in 0..bodies {
         let share = load_generalized(s, GENERALIZED, k);
@@ -160,7 +159,7 @@ fn kick_candidates(s: &mut [f64], bodies: usize) -> End
 // A solve's reaction on the candidates.
 fn apply(s: &mut [f64], ia: &[usize; 96], ib: &[usize; 96], t: Table) -> End
     requires { ⌜ Ours s ia ib t ⌝ }
-    ensures { λ r. ⌜ Does Correcting (came s) (left s) (ranAs r (candidatesAt (left s) (t .bodies))) (reactionOf (systemIn s ia ib t .rows) (candidatesAt (came s) (t .bodies)) (solutionOn s t)) ⌝ }
+    ensures { λ r. ⌜ Leaves Correcting s r (candidatesOf t) (reactionOf (systemIn s ia ib t .rows) (candidatesOf t (came s)) (solutionOn s t)) ⌝ }
 {
     let pushed = transpose(s, ia, ib, t, SOLUTION);
     if !done(pushed) {
@@ -177,7 +176,7 @@ fn correct_velocities(
     cyclic: bool,
 ) -> Passed
     requires { ⌜ Ours s ia ib t ⌝ }
-    ensures { λ r. ⌜ Kicks s ia ib t r (λ system candidate. correction (linearSolve cyclic system (rhsOn s t)) (reactionOf (system .rows) candidate)) ⌝ }
+    ensures { λ r. ⌜ Kicks s ia ib t r (kicksBy cyclic (rhsOn s t)) ⌝ }
 {
     let solved = linear_solve(s, ia, ib, t, cyclic);
     let end = solved.end;

@@ -13,6 +13,7 @@ use Rattle.arith.specs.Root.{rootIn, root, roundRoot, sqrt}
 use Rattle.arith.specs.Hypot.{scaledRoot, hypotOf}
 use Rattle.arith.specs.Angle.{factorial, horner, sineSum, cosineSum, halfTurn, doubled, turnOf, sinCosOf}
 use Rattle.arith.specs.Flow.{_>>=_, turns, loop, tab, every}
+use Rattle.arith.specs.Run as Run
 use Rattle.vectors.specs.declared.quaternion.Quat.{Quat}
 use Rattle.vectors.specs.Vector.{zeroVec, normalizeBy, checkedLengthOf}
 use Rattle.vectors.specs.Matrix as Matrix
@@ -28,27 +29,28 @@ use Rattle.solves.specs.Solver.{dot, pushed, pushInto, pushRow, transpose, scal
 use Rattle.solves.specs.Solver.{toleranceFor}
 use Rattle.solves.specs.Path.{begins, pathStarts, addEdge, blockEdges, pathEdges, neighbor, follows, nextBlock, walkTurn, walk, isEnd, walkFrom}
 use Rattle.solves.specs.Path.{pathWalks, pathOrder, reduced, scaleAt, pathEntry, pathRow, pathFactor, pathFactored, forwardSum, backwardSum, forward}
-use Rattle.solves.specs.Path.{backwardTurn, backward, refine, refinement, pathAlong, pathSolve, linearSolve}
+use Rattle.solves.specs.Path.{backwardTurn, backward, refine}
+use Rattle.solves.specs.System.{sideOf}
+use Rattle.solves.specs.Search.{refinement, pathAlong, choose, solveBy, linearSolve}
 use Rattle.step.specs.declared.Outcome.{Outcome}
 use Rattle.step.specs.declared.Outcome.the-variants.{Accepted, TimeStep, Bodies, Joints, Scratch, NonConvergent, ArithmeticOverflow, Ground}
-use Rattle.step.specs.Records.{bodyCount, recordsOf}
+use Rattle.step.specs.Records.{bodyCount}
 use Rattle.step.specs.Checks.{isAccepted, timeStepOk, bodiesFit, sizesOr, bodiesOr, jointsOr, refusalOf}
-use Rattle.step.specs.Step.{startBodies, writeRows, massResponse, prepareMasses, startOf, moveBodies, rowsMet, rhsOf, addImpulses, candidateOf}
-use Rattle.step.specs.Step.{correctedBy, nonlinearPass, nonlinearLoop, velocityOf, velocityRhs, compatibleOf, kickBodies, reactionOf, velocitiesBy}
-use Rattle.step.specs.Step.{velocityPass, velocityLoop, statesOf, finishOf, runOf, Stepped, grounded, handBack, cleared, settled, solveOf}
+use Rattle.step.specs.Layout.{SCRATCH}
+use Rattle.step.specs.Bodies.{startBodies, writeRows, massResponse, prepareMasses, startOf, moveBodies, rowsMet, rhsOf, addImpulses, candidateOf}
+use Rattle.step.specs.Bodies.{velocityOf, velocityRhs, compatibleOf, kickBodies, reactionOf, statesOf}
+use Rattle.step.specs.Step.{nonlinearPass, nonlinearLoop, velocityPass, velocityLoop, finishOf, runOf, runFor, Stepped, stepped, grounded}
+use Rattle.step.specs.Step.{handBack, cleared, settled, solveOf}
 
 record Plan : Type 0 where
   bodies : List Float
   joints : List Joint
   dt : Float
 
-abbrev stepped : Outcome → ℕ → ℕ → List Float → List Float → Stepped
-stepped outcome nonlinear linear bodies scratch = record { outcome = outcome; nonlinear = nonlinear; linear = linear; bodies = bodies; scratch = scratch }
-
 -- With any scratch that is long enough the plan's step gives this answer, these counts and these bodies, and the scratch is cleared.
 abbrev Works : Plan → Outcome → ℕ → ℕ → List Float → Type 0
 Works plan outcome nonlinear linear bodies =
-    (scratch : List Float) → 6144 ≤ length scratch →
+    (scratch : List Float) → SCRATCH ≤ length scratch →
     solveOf (plan .bodies) (plan .joints) (length (plan .joints)) (plan .dt) scratch
     ≡ stepped outcome nonlinear linear bodies (cleared scratch)
 
@@ -60,16 +62,16 @@ unfolding refusalOf sizesOr bodiesOr jointsOr
     correctionOf placeOf factorRowOf factorOf factorSpdOf Matrix.solveOf solveSpdOf inverseSpdOf
     sqrt roundRoot root rootIn
     _>>=_ turns loop every isFinite absOf add sub mul div neg lt le eq round
-refusal plan = refusalOf (plan .bodies) (plan .joints) (length (plan .joints)) (plan .dt) 6144
+refusal plan = refusalOf (plan .bodies) (plan .joints) (length (plan .joints)) (plan .dt) SCRATCH
 
 ended : Plan → List Float → Stepped
-unfolding startBodies writeRows massResponse prepareMasses startOf moveBodies rowsMet rhsOf addImpulses candidateOf correctedBy
-    nonlinearPass nonlinearLoop velocityOf velocityRhs compatibleOf kickBodies reactionOf velocitiesBy velocityPass velocityLoop statesOf
-    finishOf runOf grounded handBack
+unfolding startBodies writeRows massResponse prepareMasses startOf moveBodies rowsMet rhsOf addImpulses candidateOf
+    velocityOf velocityRhs compatibleOf kickBodies reactionOf statesOf
+    nonlinearPass nonlinearLoop velocityPass velocityLoop finishOf runOf grounded handBack
     dot pushed pushInto pushRow transpose scaled rate operator through crossEnd crossMass difference within toleranceFor
-    begins pathStarts addEdge blockEdges pathEdges neighbor follows nextBlock walkTurn walk isEnd walkFrom pathWalks pathOrder reduced
-    scaleAt pathEntry pathRow pathFactor pathFactored forwardSum backwardSum forward backwardTurn backward refine refinement pathAlong
-    pathSolve linearSolve
+    begins pathStarts addEdge blockEdges pathEdges neighbor follows nextBlock walkTurn walk isEnd walkFrom pathWalks pathOrder
+    reduced scaleAt pathEntry pathRow pathFactor pathFactored forwardSum backwardSum forward backwardTurn backward refine
+    sideOf refinement pathAlong choose solveBy linearSolve
     endsOf toleranceOf distanceRow linearRow linearRows alignedOf alignRows frameRows writeEqualityRows
     worldCenterOfMassOf newOf inverseAngularMassOf kickOf anchorOf passOf driftOf originOf stateOf tryFinite
     isNormalizedOf rotateVectorOf toMat3Of deltaOf integrateOf
@@ -77,18 +79,18 @@ unfolding startBodies writeRows massResponse prepareMasses startOf moveBodies ro
     normalizeBy checkedLengthOf
     factorial horner sineSum cosineSum halfTurn doubled turnOf sinCosOf
     hypotOf scaledRoot sqrt roundRoot root rootIn
-    _>>=_ turns loop tab every isFinite absOf ofBits add sub mul div neg lt le eq round
-ended plan scratch = settled (plan .bodies) scratch (runOf (recordsOf (plan .bodies)) (plan .joints) (length (plan .joints)) (plan .dt))
+    _>>=_ turns loop tab every Run._>>=_ Run.failIf Run.leaveIf Run.upTo isFinite absOf ofBits add sub mul div neg lt le eq round
+ended plan scratch = settled (plan .bodies) scratch (runFor (plan .bodies) (plan .joints) (length (plan .joints)) (plan .dt))
 
 -- test 4 alone reads the scratch's length
-long-enough : (bodies : List Float) (joints : List Joint) (count : ℕ) (dt : Float) (n : ℕ) → 6144 ≤ n
-    → refusalOf bodies joints count dt n ≡ refusalOf bodies joints count dt 6144
+long-enough : (bodies : List Float) (joints : List Joint) (count : ℕ) (dt : Float) (n : ℕ) → SCRATCH ≤ n
+    → refusalOf bodies joints count dt n ≡ refusalOf bodies joints count dt SCRATCH
 unfolding refusalOf sizesOr
 long-enough bodies joints count dt n h =
     let later : Outcome = bodiesOr bodies (bodyCount bodies) (jointsOr joints count (bodyCount bodies) Accepted) in
     ap (λ (short : Bool).
     cond (not (timeStepOk dt)) TimeStep (cond (not (bodiesFit (length bodies))) Bodies (cond (ltb 16 count) Joints (cond short Scratch later))))
-    (le-ltb n 6144 h)
+    (le-ltb n SCRATCH h)
 
 works :
     (plan : Plan) {outcome : Outcome} {nonlinear linear : ℕ} {bodies : List Float} →

@@ -57,15 +57,5 @@ returns-4 c =
 
 pub settle-spec : {M : Type 1} → statement M
 settle-spec =
-    tie.close
-    (tie.spec
-    enum-told
-    in-ground-requires
-    write-states-requires
-    same-length
-    returns
-    enum-told-2
-    enum-told-3
-    returns-2
-    returns-3
+    tie.close (tie.spec enum-told in-ground-requires write-states-requires same-length returns enum-told-2 enum-told-3 returns-2 returns-3
     returns-4)

@@ -1,4 +1,5 @@
 -- `solve` meets `Answered`: an early refusal by the checks' contract, else by `solve_in` and the laws of the definition (AnsweredLaws).
+use Rattle.step.specs.Layout.{SCRATCH}
 use Rattle.step.specs.Step.{runFor}
 use lib.ListN.{length}
 use denote.Ref.{now}
@@ -38,7 +39,7 @@ slice-aggregate-solve-in c =
     let at-accepted = c .before .before .before in let at-refusal = at-accepted .before in
     let at-entry = at-refusal .before .before .before .before in
     sym
-    (take-long 6144 (at-entry .args .scratch .now)
+    (take-long SCRATCH (at-entry .args .scratch .now)
     (run-ready (now (at-entry .args .bodies)) (at-entry .args .joints) (at-entry .args .count) (at-entry .args .dt) (now (at-entry .args .scratch))
     (at-refusal .refusal .ensures) (at-accepted .accepted .ensures) (c .before .before .if1 .left) .room))
 
@@ -46,7 +47,7 @@ solve-in-requires : tie.Need-solve-in-requires
 solve-in-requires c κs =
     let at-if1 = c .before .before in let at-accepted = at-if1 .before in let at-refusal = at-accepted .before in
     let at-entry = at-refusal .before .before .before .before in (
-      take-long 6144 (at-entry .args .scratch .now)
+      take-long SCRATCH (at-entry .args .scratch .now)
           (run-ready (now (at-entry .args .bodies)) (at-entry .args .joints) (at-entry .args .count) (at-entry .args .dt) (now (at-entry .args .scratch))
           (at-refusal .refusal .ensures) (at-accepted .accepted .ensures) (at-if1 .if1 .left) .room),
       run-ready (now (at-entry .args .bodies)) (at-entry .args .joints) (at-entry .args .count) (at-entry .args .dt) (now (at-entry .args .scratch))
@@ -74,15 +75,5 @@ returns-2 c =
 
 pub solve-spec : {M : Type 1} → statement M
 solve-spec =
-    tie.close
-    (tie.spec
-    refusal-requires
-    accepted-requires
-    same-length
-    returns
-    slice-relend-prefix-solve-in
-    slice-aggregate-solve-in
-    solve-in-requires
-    same-length-2
-    same-length-3
-    returns-2)
+    tie.close (tie.spec refusal-requires accepted-requires same-length returns slice-relend-prefix-solve-in slice-aggregate-solve-in
+    solve-in-requires same-length-2 same-length-3 returns-2)

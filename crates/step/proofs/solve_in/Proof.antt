@@ -38,11 +38,4 @@ returns c =
 
 pub solve-in-spec : {M : Type 1} → statement M
 solve-in-spec =
-    tie.close
-    (tie.spec
-    run-requires
-    settle-requires
-    clear-requires
-    same-length
-    same-length-2
-    returns)
+    tie.close (tie.spec run-requires settle-requires clear-requires same-length same-length-2 returns)

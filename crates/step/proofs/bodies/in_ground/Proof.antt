@@ -63,17 +63,5 @@ returns-2 c =
 
 pub in-ground-spec : {M : Type 1} → statement M
 in-ground-spec =
-    tie.close
-    (tie.spec
-    Inv-loop
-    μ-loop
-    loop-holds
-    mul-load3
-    add-load3
-    load3-requires
-    within-requires
-    returns
-    add-k
-    loop-less
-    loop-again
+    tie.close (tie.spec Inv-loop μ-loop loop-holds mul-load3 add-load3 load3-requires within-requires returns add-k loop-less loop-again
     returns-2)

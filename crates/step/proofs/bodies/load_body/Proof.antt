@@ -64,22 +64,5 @@ returns c =
 
 pub load-body-spec : {M : Type 1} → statement M
 load-body-spec =
-    tie.close
-    (tie.spec
-    mul-j
-    add-j
-    load3-requires
-    add-load4
-    load4-requires
-    add-load3
-    load3-requires-2
-    add-load3-2
-    load3-requires-3
-    add-t12
-    mul-t13
-    shared-slice-read-t15
-    add-load3-3
-    load3-requires-4
-    add-load-mat3
-    load-mat3-requires
-    returns)
+    tie.close (tie.spec mul-j add-j load3-requires add-load4 load4-requires add-load3 load3-requires-2 add-load3-2 load3-requires-3 add-t12
+    mul-t13 shared-slice-read-t15 add-load3-3 load3-requires-4 add-load-mat3 load-mat3-requires returns)

@@ -31,12 +31,4 @@ returns c =
 
 pub load-mat3-spec : {M : Type 1} → statement M
 load-mat3-spec =
-    tie.close
-    (tie.spec
-    load3-requires
-    add-load3
-    load3-requires-2
-    add-load3-2
-    load3-requires-3
-    from-cols-requires
-    returns)
+    tie.close (tie.spec load3-requires add-load3 load3-requires-2 add-load3-2 load3-requires-3 from-cols-requires returns)

@@ -60,21 +60,5 @@ returns c =
 
 pub load-record-spec : {M : Type 1} → statement M
 load-record-spec =
-    tie.close
-    (tie.spec
-    mul-i
-    load3-requires
-    add-load4
-    load4-requires
-    add-load3
-    load3-requires-2
-    add-load3-2
-    load3-requires-3
-    add-t11
-    mul-t12
-    shared-slice-read-t14
-    add-load3-3
-    load3-requires-4
-    add-load-mat3
-    load-mat3-requires
-    returns)
+    tie.close (tie.spec mul-i load3-requires add-load4 load4-requires add-load3 load3-requires-2 add-load3-2 load3-requires-3 add-t11
+    mul-t12 shared-slice-read-t14 add-load3-3 load3-requires-4 add-load-mat3 load-mat3-requires returns)

@@ -34,13 +34,4 @@ returns c =
 
 pub load-state-spec : {M : Type 1} → statement M
 load-state-spec =
-    tie.close
-    (tie.spec
-    load3-requires
-    add-load4
-    load4-requires
-    add-load3
-    load3-requires-2
-    add-load3-2
-    load3-requires-3
-    returns)
+    tie.close (tie.spec load3-requires add-load4 load4-requires add-load3 load3-requires-2 add-load3-2 load3-requires-3 returns)

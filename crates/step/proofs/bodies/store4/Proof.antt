@@ -47,18 +47,5 @@ returns c = stored4 _ _ _ (c .pre)
 
 pub store4-spec : {M : Type 1} → statement M
 store4-spec =
-    tie.close
-    (tie.spec
-    mul-s
-    slice-write-s
-    add-s
-    mul-s-2
-    slice-write-s-2
-    add-s-2
-    mul-s-3
-    slice-write-s-3
-    add-s-3
-    mul-s-4
-    slice-write-s-4
-    same-length
-    returns)
+    tie.close (tie.spec mul-s slice-write-s add-s mul-s-2 slice-write-s-2 add-s-2 mul-s-3 slice-write-s-3 add-s-3 mul-s-4 slice-write-s-4
+    same-length returns)

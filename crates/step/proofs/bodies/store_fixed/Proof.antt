@@ -34,13 +34,4 @@ returns c =
 
 pub store-fixed-spec : {M : Type 1} → statement M
 store-fixed-spec =
-    tie.close
-    (tie.spec
-    add-store3
-    store3-requires
-    add-store-mat3
-    store-mat3-requires
-    mul-s
-    slice-write-s
-    same-length
-    returns)
+    tie.close (tie.spec add-store3 store3-requires add-store-mat3 store-mat3-requires mul-s slice-write-s same-length returns)

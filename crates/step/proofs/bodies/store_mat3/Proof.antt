@@ -93,9 +93,11 @@ same-length c = search needs
 returns : tie.Need-returns
 returns c =
     let at-new3 = c .before .before .before in
-    let at-store32 = at-new3 .before .before .before .before .before .before .before in
+    let at-index = at-new3 .before .before .before in
+    let at-store32 = at-index .before .before .before .before in
     let at-new2 = at-store32 .before in
-    let at-store3 = at-new2 .before .before .before .before .before .before .before in
+    let at-index2 = at-new2 .before .before .before in
+    let at-store3 = at-index2 .before .before .before .before in
     let at-new = at-store3 .before in
     let at-columns = at-new .before .before .before .before .before in
     let at-entry = at-columns .before .before in
@@ -106,34 +108,7 @@ returns c =
 
 pub store-mat3-spec : {M : Type 1} → statement M
 store-mat3-spec =
-    tie.close
-    (tie.spec
-    to-columns-requires
-    index-1-new
-    index-2-new
-    index-1-new-2
-    index-2-new-2
-    index-1-new-3
-    index-2-new-3
-    new-requires
-    store3-requires
-    add-store3
-    index-1-new-4
-    index-2-new-4
-    index-1-new-5
-    index-2-new-5
-    index-1-new-6
-    index-2-new-6
-    new-requires-2
-    store3-requires-2
-    add-store3-2
-    index-1-new-7
-    index-2-new-7
-    index-1-new-8
-    index-2-new-8
-    index-1-new-9
-    index-2-new-9
-    new-requires-3
-    store3-requires-3
-    same-length
-    returns)
+    tie.close (tie.spec to-columns-requires index-1-new index-2-new index-1-new-2 index-2-new-2 index-1-new-3 index-2-new-3 new-requires
+    store3-requires add-store3 index-1-new-4 index-2-new-4 index-1-new-5 index-2-new-5 index-1-new-6 index-2-new-6 new-requires-2
+    store3-requires-2 add-store3-2 index-1-new-7 index-2-new-7 index-1-new-8 index-2-new-8 index-1-new-9 index-2-new-9 new-requires-3
+    store3-requires-3 same-length returns)

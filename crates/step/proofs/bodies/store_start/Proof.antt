@@ -29,12 +29,4 @@ returns c =
 
 pub store-start-spec : {M : Type 1} → statement M
 store-start-spec =
-    tie.close
-    (tie.spec
-    mul-i
-    add-i
-    store-moving-requires
-    add-store-fixed
-    store-fixed-requires
-    same-length
-    returns)
+    tie.close (tie.spec mul-i add-i store-moving-requires add-store-fixed store-fixed-requires same-length returns)

@@ -36,14 +36,5 @@ returns c =
 
 pub store-state-spec : {M : Type 1} → statement M
 store-state-spec =
-    tie.close
-    (tie.spec
-    store3-requires
-    add-store4
-    store4-requires
-    add-store3
-    store3-requires-2
-    add-store3-2
-    store3-requires-3
-    same-length
+    tie.close (tie.spec store3-requires add-store4 store4-requires add-store3 store3-requires-2 add-store3-2 store3-requires-3 same-length
     returns)

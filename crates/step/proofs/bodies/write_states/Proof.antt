@@ -51,18 +51,5 @@ returns c = handed-end (omega arith) (omega arith) (c .before .loop .inv .2)
 
 pub write-states-spec : {M : Type 1} → statement M
 write-states-spec =
-    tie.close
-    (tie.spec
-    Inv-loop
-    μ-loop
-    loop-holds
-    mul-store-state
-    mul-load-state
-    add-load-state
-    load-state-requires
-    store-state-requires
-    add-k
-    loop-less
-    loop-again
-    same-length
-    returns)
+    tie.close (tie.spec Inv-loop μ-loop loop-holds mul-store-state mul-load-state add-load-state load-state-requires store-state-requires
+    add-k loop-less loop-again same-length returns)

@@ -81,25 +81,5 @@ returns-2 c =
 
 pub add-impulses-spec : {M : Type 1} → statement M
 add-impulses-spec =
-    tie.close
-    (tie.spec
-    Inv-loop
-    μ-loop
-    loop-holds
-    add-sum
-    mul-sum
-    slice-read-sum
-    add-sum-2
-    mul-sum-2
-    slice-read-sum-2
-    add-s
-    mul-s
-    slice-write-s
-    is-finite-requires
-    same-length
-    returns
-    add-k
-    loop-less
-    loop-again
-    same-length-2
-    returns-2)
+    tie.close (tie.spec Inv-loop μ-loop loop-holds add-sum mul-sum slice-read-sum add-sum-2 mul-sum-2 slice-read-sum-2 add-s mul-s
+    slice-write-s is-finite-requires same-length returns add-k loop-less loop-again same-length-2 returns-2)

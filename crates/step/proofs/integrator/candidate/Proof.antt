@@ -84,16 +84,5 @@ returns-3 c =
 
 pub candidate-spec : {M : Type 1} → statement M
 candidate-spec =
-    tie.close
-    (tie.spec
-    transpose-requires
-    done-requires
-    same-length
-    returns
-    move-bodies-requires
-    done-requires-2
-    same-length-2
-    returns-2
-    write-rows-requires
-    same-length-3
-    returns-3)
+    tie.close (tie.spec transpose-requires done-requires same-length returns move-bodies-requires done-requires-2 same-length-2 returns-2
+    write-rows-requires same-length-3 returns-3)

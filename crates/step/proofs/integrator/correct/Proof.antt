@@ -110,19 +110,5 @@ returns-3 c =
 
 pub correct-spec : {M : Type 1} → statement M
 correct-spec =
-    tie.close
-    (tie.spec
-    fill-rhs-requires
-    linear-solve-requires
-    done-requires
-    pass-ended-requires
-    same-length
-    returns
-    add-impulses-requires
-    done-requires-2
-    pass-ended-requires-2
-    same-length-2
-    returns-2
-    pass-ended-requires-3
-    same-length-3
-    returns-3)
+    tie.close (tie.spec fill-rhs-requires linear-solve-requires done-requires pass-ended-requires same-length returns add-impulses-requires
+    done-requires-2 pass-ended-requires-2 same-length-2 returns-2 pass-ended-requires-3 same-length-3 returns-3)

@@ -50,16 +50,4 @@ returns c = spread-end (omega arith) (omega arith) (omega arith) (c .before .loo
 
 pub fill-spec : {M : Type 1} → statement M
 fill-spec =
-    tie.close
-    (tie.spec
-    Inv-loop
-    μ-loop
-    add-k-end
-    loop-holds
-    mul-index
-    slice-write-index
-    add-k
-    loop-less
-    loop-again
-    same-length
-    returns)
+    tie.close (tie.spec Inv-loop μ-loop add-k-end loop-holds mul-index slice-write-index add-k loop-less loop-again same-length returns)

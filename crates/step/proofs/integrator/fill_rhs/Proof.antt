@@ -67,21 +67,5 @@ returns c =
 
 pub fill-rhs-spec : {M : Type 1} → statement M
 fill-rhs-spec =
-    tie.close
-    (tie.spec
-    Inv-loop
-    μ-loop
-    loop-holds
-    mul-s
-    add-s
-    add-s-2
-    mul-s-2
-    slice-read-s
-    add-s-3
-    mul-s-3
-    slice-write-s
-    add-k
-    loop-less
-    loop-again
-    same-length
-    returns)
+    tie.close (tie.spec Inv-loop μ-loop loop-holds mul-s add-s add-s-2 mul-s-2 slice-read-s add-s-3 mul-s-3 slice-write-s add-k loop-less
+    loop-again same-length returns)

@@ -95,18 +95,5 @@ returns-3 c =
 
 pub finish-run-spec : {M : Type 1} → statement M
 finish-run-spec =
-    tie.close
-    (tie.spec
-    prepare-masses-requires
-    done-requires
-    loop-ended-requires
-    same-length
-    returns
-    velocity-loop-requires
-    done-requires-2
-    same-length-2
-    returns-2
-    make-states-requires
-    loop-ended-requires-2
-    same-length-3
-    returns-3)
+    tie.close (tie.spec prepare-masses-requires done-requires loop-ended-requires same-length returns velocity-loop-requires done-requires-2
+    same-length-2 returns-2 make-states-requires loop-ended-requires-2 same-length-3 returns-3)

@@ -39,13 +39,4 @@ returns-3 c =
 
 pub kick-and-drift-spec : {M : Type 1} → statement M
 kick-and-drift-spec =
-    tie.close
-    (tie.spec
-    kick-requires
-    enum-told
-    drift-requires
-    enum-told-2
-    enum-told-3
-    returns
-    returns-2
-    returns-3)
+    tie.close (tie.spec kick-requires enum-told drift-requires enum-told-2 enum-told-3 returns returns-2 returns-3)

@@ -102,24 +102,6 @@ returns-2 c =
 
 pub make-states-spec : {M : Type 1} → statement M
 make-states-spec =
-    tie.close
-    (tie.spec
-    Inv-loop
-    μ-loop
-    loop-holds
-    load-candidate-requires
-    mul-load-state
-    load-state-requires
-    state-requires
-    enum-known-state
-    mul-store-state
-    add-store-state
-    store-state-requires
-    enum-told
-    same-length
-    returns
-    add-k
-    loop-less
-    loop-again
-    same-length-2
-    returns-2)
+    tie.close (tie.spec Inv-loop μ-loop loop-holds load-candidate-requires mul-load-state load-state-requires state-requires
+    enum-known-state mul-store-state add-store-state store-state-requires enum-told same-length returns add-k loop-less loop-again
+    same-length-2 returns-2)

@@ -39,13 +39,5 @@ returns c =
 
 pub mass-response-spec : {M : Type 1} → statement M
 mass-response-spec =
-    tie.close
-    (tie.spec
-    to-mat3-requires
-    product-requires
-    transpose-requires
-    product-requires-2
-    is-finite-requires
-    is-finite-requires-2
-    all-three-requires
-    returns)
+    tie.close (tie.spec to-mat3-requires product-requires transpose-requires product-requires-2 is-finite-requires is-finite-requires-2
+    all-three-requires returns)

@@ -94,24 +94,6 @@ returns-3 c =
 
 pub move-bodies-spec : {M : Type 1} → statement M
 move-bodies-spec =
-    tie.close
-    (tie.spec
-    Inv-loop
-    μ-loop
-    loop-holds
-    load-generalized-requires
-    load-start-requires
-    kick-and-drift-requires
-    enum-told
-    store-candidate-requires
-    enum-told-2
-    same-length
-    returns
-    enum-told-3
-    same-length-2
-    returns-2
-    add-k
-    loop-less
-    loop-again
-    same-length-3
+    tie.close (tie.spec Inv-loop μ-loop loop-holds load-generalized-requires load-start-requires kick-and-drift-requires enum-told
+    store-candidate-requires enum-told-2 same-length returns enum-told-3 same-length-2 returns-2 add-k loop-less loop-again same-length-3
     returns-3)

@@ -149,23 +149,5 @@ returns-2 c =
 
 pub nonlinear-loop-spec : {M : Type 1} → statement M
 nonlinear-loop-spec =
-    tie.close
-    (tie.spec
-    Inv-loop
-    μ-loop
-    clear-requires
-    loop-holds
-    nonlinear-pass-requires
-    add-linear
-    enum-known-pass
-    add-run-ended
-    run-ended-requires
-    same-length
-    returns
-    enum-told
-    add-k
-    loop-less
-    loop-again
-    run-ended-requires-2
-    same-length-2
-    returns-2)
+    tie.close (tie.spec Inv-loop μ-loop clear-requires loop-holds nonlinear-pass-requires add-linear enum-known-pass add-run-ended
+    run-ended-requires same-length returns enum-told add-k loop-less loop-again run-ended-requires-2 same-length-2 returns-2)

@@ -85,17 +85,5 @@ returns-3 c =
 
 pub nonlinear-pass-spec : {M : Type 1} → statement M
 nonlinear-pass-spec =
-    tie.close
-    (tie.spec
-    candidate-requires
-    done-requires
-    pass-ended-requires
-    same-length
-    returns
-    rows-met-requires
-    pass-ended-requires-2
-    same-length-2
-    returns-2
-    correct-requires
-    same-length-3
-    returns-3)
+    tie.close (tie.spec candidate-requires done-requires pass-ended-requires same-length returns rows-met-requires pass-ended-requires-2
+    same-length-2 returns-2 correct-requires same-length-3 returns-3)

@@ -38,13 +38,5 @@ returns-2 c =
 
 pub prepare-mass-spec : {M : Type 1} → statement M
 prepare-mass-spec =
-    tie.close
-    (tie.spec
-    mass-response-requires
-    returns
-    column-requires
-    column-requires-2
-    column-requires-3
-    store-mass-requires
-    same-length
+    tie.close (tie.spec mass-response-requires returns column-requires column-requires-2 column-requires-3 store-mass-requires same-length
     returns-2)

@@ -67,18 +67,5 @@ returns-2 c =
 
 pub prepare-masses-spec : {M : Type 1} → statement M
 prepare-masses-spec =
-    tie.close
-    (tie.spec
-    Inv-loop
-    μ-loop
-    loop-holds
-    load-moved-requires
-    prepare-mass-requires
-    done-requires
-    same-length
-    returns
-    add-k
-    loop-less
-    loop-again
-    same-length-2
-    returns-2)
+    tie.close (tie.spec Inv-loop μ-loop loop-holds load-moved-requires prepare-mass-requires done-requires same-length returns add-k
+    loop-less loop-again same-length-2 returns-2)

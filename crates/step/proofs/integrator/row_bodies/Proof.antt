@@ -128,20 +128,5 @@ returns c =
 
 pub row-bodies-spec : {M : Type 1} → statement M
 row-bodies-spec =
-    tie.close
-    (tie.spec
-    Inv-loop
-    μ-loop
-    loop-holds
-    mul-joint
-    array-copy-out-joint
-    row-count-requires
-    fill-requires
-    fill-requires-2
-    add-n
-    add-k
-    loop-less
-    loop-again
-    same-length
-    same-length-2
-    returns)
+    tie.close (tie.spec Inv-loop μ-loop loop-holds mul-joint array-copy-out-joint row-count-requires fill-requires fill-requires-2 add-n
+    add-k loop-less loop-again same-length same-length-2 returns)

@@ -88,24 +88,5 @@ returns-2 c =
 
 pub rows-met-spec : {M : Type 1} → statement M
 rows-met-spec =
-    tie.close
-    (tie.spec
-    Inv-loop
-    μ-loop
-    loop-holds
-    mul-value
-    add-value
-    add-value-2
-    mul-value-2
-    shared-slice-read-value
-    abs-requires
-    mul-if1
-    add-if1
-    add-if1-2
-    mul-if1-2
-    shared-slice-read-if1
-    returns
-    add-k
-    loop-less
-    loop-again
-    returns-2)
+    tie.close (tie.spec Inv-loop μ-loop loop-holds mul-value add-value add-value-2 mul-value-2 shared-slice-read-value abs-requires mul-if1
+    add-if1 add-if1-2 mul-if1-2 shared-slice-read-if1 returns add-k loop-less loop-again returns-2)

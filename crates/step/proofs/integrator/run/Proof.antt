@@ -162,22 +162,6 @@ returns-3 c =
 
 pub run-spec : {M : Type 1} → statement M
 run-spec =
-    tie.close
-    (tie.spec
-    slice-aggregate-row-bodies
-    slice-aggregate-row-bodies-2
-    row-bodies-requires
-    start-requires
-    done-requires
-    run-ended-requires
-    same-length
-    returns
-    nonlinear-loop-requires
-    done-requires-2
-    same-length-2
-    returns-2
-    finish-run-requires
-    add-run-ended
-    run-ended-requires-2
-    same-length-3
-    returns-3)
+    tie.close (tie.spec slice-aggregate-row-bodies slice-aggregate-row-bodies-2 row-bodies-requires start-requires done-requires
+    run-ended-requires same-length returns nonlinear-loop-requires done-requires-2 same-length-2 returns-2 finish-run-requires add-run-ended
+    run-ended-requires-2 same-length-3 returns-3)

@@ -66,16 +66,5 @@ returns-3 c =
 
 pub start-spec : {M : Type 1} → statement M
 start-spec =
-    tie.close
-    (tie.spec
-    start-bodies-requires
-    done-requires
-    same-length
-    returns
-    write-rows-requires
-    done-requires-2
-    same-length-2
-    returns-2
-    prepare-masses-requires
-    same-length-3
-    returns-3)
+    tie.close (tie.spec start-bodies-requires done-requires same-length returns write-rows-requires done-requires-2 same-length-2 returns-2
+    prepare-masses-requires same-length-3 returns-3)

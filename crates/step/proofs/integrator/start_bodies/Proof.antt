@@ -93,24 +93,5 @@ returns-3 c =
 
 pub start-bodies-spec : {M : Type 1} → statement M
 start-bodies-spec =
-    tie.close
-    (tie.spec
-    Inv-loop
-    μ-loop
-    loop-holds
-    load-record-requires
-    inverse-spd-requires
-    new-requires
-    enum-told
-    store-start-requires
-    enum-told-2
-    same-length
-    returns
-    enum-told-3
-    same-length-2
-    returns-2
-    add-k
-    loop-less
-    loop-again
-    same-length-3
-    returns-3)
+    tie.close (tie.spec Inv-loop μ-loop loop-holds load-record-requires inverse-spd-requires new-requires enum-told store-start-requires
+    enum-told-2 same-length returns enum-told-3 same-length-2 returns-2 add-k loop-less loop-again same-length-3 returns-3)

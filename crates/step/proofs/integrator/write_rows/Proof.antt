@@ -147,28 +147,6 @@ returns-3 c =
 
 pub write-rows-spec : {M : Type 1} → statement M
 write-rows-spec =
-    tie.close
-    (tie.spec
-    Inv-loop
-    μ-loop
-    loop-holds
-    mul-joint
-    array-copy-out-joint
-    load-moved-requires
-    load-moved-requires-2
-    mul-write-equality-rows
-    add-write-equality-rows
-    write-equality-rows-requires
-    enum-known-m
-    add-n
-    enum-told
-    same-length
-    returns
-    enum-told-2
-    same-length-2
-    returns-2
-    add-k
-    loop-less
-    loop-again
-    same-length-3
-    returns-3)
+    tie.close (tie.spec Inv-loop μ-loop loop-holds mul-joint array-copy-out-joint load-moved-requires load-moved-requires-2
+    mul-write-equality-rows add-write-equality-rows write-equality-rows-requires enum-known-m add-n enum-told same-length returns
+    enum-told-2 same-length-2 returns-2 add-k loop-less loop-again same-length-3 returns-3)

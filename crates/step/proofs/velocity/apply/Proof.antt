@@ -48,12 +48,4 @@ returns-2 c =
 
 pub apply-spec : {M : Type 1} → statement M
 apply-spec =
-    tie.close
-    (tie.spec
-    transpose-requires
-    done-requires
-    same-length
-    returns
-    kick-candidates-requires
-    same-length-2
-    returns-2)
+    tie.close (tie.spec transpose-requires done-requires same-length returns kick-candidates-requires same-length-2 returns-2)

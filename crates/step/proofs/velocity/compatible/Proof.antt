@@ -58,17 +58,5 @@ returns-2 c =
 
 pub compatible-spec : {M : Type 1} → statement M
 compatible-spec =
-    tie.close
-    (tie.spec
-    Inv-loop
-    μ-loop
-    loop-holds
-    add-abs
-    mul-abs
-    shared-slice-read-abs
-    abs-requires
-    returns
-    add-k
-    loop-less
-    loop-again
+    tie.close (tie.spec Inv-loop μ-loop loop-holds add-abs mul-abs shared-slice-read-abs abs-requires returns add-k loop-less loop-again
     returns-2)

@@ -76,18 +76,5 @@ returns-3 c =
 
 pub correct-velocities-spec : {M : Type 1} → statement M
 correct-velocities-spec =
-    tie.close
-    (tie.spec
-    linear-solve-requires
-    done-requires
-    pass-ended-requires
-    same-length
-    returns
-    apply-requires
-    done-requires-2
-    pass-ended-requires-2
-    same-length-2
-    returns-2
-    pass-ended-requires-3
-    same-length-3
-    returns-3)
+    tie.close (tie.spec linear-solve-requires done-requires pass-ended-requires same-length returns apply-requires done-requires-2
+    pass-ended-requires-2 same-length-2 returns-2 pass-ended-requires-3 same-length-3 returns-3)

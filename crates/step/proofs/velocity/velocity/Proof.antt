@@ -55,18 +55,5 @@ returns-4 c =
 
 pub velocity-spec : {M : Type 1} → statement M
 velocity-spec =
-    tie.close
-    (tie.spec
-    enum-known-turned-a
-    enum-told
-    returns
-    enum-known-turned-b
-    enum-told-2
-    returns-2
-    dot-requires
-    dot-requires-2
-    dot-requires-3
-    dot-requires-4
-    is-finite-requires
-    returns-3
-    returns-4)
+    tie.close (tie.spec enum-known-turned-a enum-told returns enum-known-turned-b enum-told-2 returns-2 dot-requires dot-requires-2
+    dot-requires-3 dot-requires-4 is-finite-requires returns-3 returns-4)

@@ -118,21 +118,5 @@ returns-2 c =
 
 pub velocity-loop-spec : {M : Type 1} → statement M
 velocity-loop-spec =
-    tie.close
-    (tie.spec
-    Inv-loop
-    μ-loop
-    loop-holds
-    velocity-pass-requires
-    add-linear
-    enum-known-pass
-    loop-ended-requires
-    same-length
-    returns
-    enum-told
-    add-k
-    loop-less
-    loop-again
-    loop-ended-requires-2
-    same-length-2
-    returns-2)
+    tie.close (tie.spec Inv-loop μ-loop loop-holds velocity-pass-requires add-linear enum-known-pass loop-ended-requires same-length returns
+    enum-told add-k loop-less loop-again loop-ended-requires-2 same-length-2 returns-2)

@@ -77,17 +77,5 @@ returns-3 c =
 
 pub velocity-pass-spec : {M : Type 1} → statement M
 velocity-pass-spec =
-    tie.close
-    (tie.spec
-    velocity-rhs-requires
-    done-requires
-    pass-ended-requires
-    same-length
-    returns
-    compatible-requires
-    pass-ended-requires-2
-    same-length-2
-    returns-2
-    correct-velocities-requires
-    same-length-3
-    returns-3)
+    tie.close (tie.spec velocity-rhs-requires done-requires pass-ended-requires same-length returns compatible-requires
+    pass-ended-requires-2 same-length-2 returns-2 correct-velocities-requires same-length-3 returns-3)

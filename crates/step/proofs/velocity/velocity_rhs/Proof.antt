@@ -137,26 +137,6 @@ returns-2 c =
 
 pub velocity-rhs-spec : {M : Type 1} → statement M
 velocity-rhs-spec =
-    tie.close
-    (tie.spec
-    Inv-loop
-    μ-loop
-    no-motion-requires
-    no-motion-requires-2
-    loop-holds
-    load-row-requires
-    motion-again-requires
-    motion-again-requires-2
-    velocity-requires
-    enum-known-value
-    enum-told
-    same-length
-    returns
-    add-s
-    mul-s
-    slice-write-s
-    add-k
-    loop-less
-    loop-again
-    same-length-2
-    returns-2)
+    tie.close (tie.spec Inv-loop μ-loop no-motion-requires no-motion-requires-2 loop-holds load-row-requires motion-again-requires
+    motion-again-requires-2 velocity-requires enum-known-value enum-told same-length returns add-s mul-s slice-write-s add-k loop-less
+    loop-again same-length-2 returns-2)
