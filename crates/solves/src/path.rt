@@ -29,9 +29,9 @@ ghost use Prim.Native.Nat.{_+_, _-_, _≤_, _<_, min};
 ghost use lib.ListN.{length, set};
 ghost use Rattle.arith.specs.Flow.{loop};
 ghost use Rattle.rows.specs.View.{Out};
-ghost use Rattle.solves.specs.Solver.{spent};
-ghost use Rattle.solves.specs.Path.{begins as beginsOf, addEdge, neighbor as neighborOf, follows as followsOf, nextBlock, pathOrder, pathScale, lessProducts, reduced as reducedOf, pathEntry, pathRow, pathFactor, pathFactored, forwardSum, forward as forwardOf, backwardSum, backward as backwardOf, refine as refineOf, refinement, ended, pathSolve};
-ghost use Rattle.solves.specs.Answer.{ranAs, partAs, edgesAs, orderAs, solveAs};
+ghost use Rattle.solves.specs.Solver.{crossMass, spent};
+ghost use Rattle.solves.specs.Path.{begins as beginsOf, addEdge, neighbor as neighborOf, follows as followsOf, nextBlock, pathOrder, rowOf, pathScale, lessProducts, reduced as reducedOf, pathEntry, pathRow, pathFactor, pathFactored, forwardSum, forward as forwardOf, backwardSum, backward as backwardOf, refine as refineOf, refinement, ended, pathSolve};
+ghost use Rattle.solves.specs.Answer.{sumAs, ranAs, partAs, edgesAs, orderAs, solveAs};
 ghost use Rattle.solves.specs.Lent.{came, left};
 ghost use Rattle.solves.specs.PathView.{Bodies, blocksAt, rowsOf, Blocked, Parted, Linking, orderAt, seenOf, Listed, Appended, Free, edgesOn, walkOn, endOn, fromOn, walksOn, Walks, Orders, onPath, placeOf, lineAt, Stands, Lies, rowLine, columnLine, sideLine};
 ghost use Rattle.solves.specs.Region.{vecAt, Does};
@@ -461,6 +461,26 @@ fn band_start(i: usize) -> usize
     i - (BAND_WIDTH - 1)
 }
 
+// The Schur matrix's entry at places i and j of the order.
+fn cross_at(
+    s: &[f64],
+    ia: &[usize; 96],
+    ib: &[usize; 96],
+    rows: usize,
+    order: &[usize; 96],
+    n: usize,
+    count: usize,
+    i: usize,
+    j: usize,
+) -> Sum
+    requires { ⌜ (Rows (now s) (now ia) (now ib) rows n count) × (Along (now order) n) × (i < n) × (j < n) ⌝ }
+    ensures { λ r. ⌜ sumAs r ≡ onPath s ia ib order rows n count (λ r m o. crossMass (rowOf r m o i) (rowOf r m o j) m) ⌝ }
+{
+    let a = load_row(s, ia, ib, rows, order[i]);
+    let b = load_row(s, ia, ib, rows, order[j]);
+    cross_mass(s, a, b, count)
+}
+
 fn path_scale(
     s: &mut [f64],
     ia: &[usize; 96],
@@ -476,8 +496,7 @@ fn path_scale(
         (onPath s ia ib order rows n count pathScale n) ⌝ }
 {
     for i in 0..n {
-        let row = load_row(s, ia, ib, rows, order[i]);
-        let Sum::Value(value) = cross_mass(s, row, row, count) else {
+        let Sum::Value(value) = cross_at(s, ia, ib, rows, order, n, count, i, i) else {
             return Part::ArithmeticOverflow;
         };
         if value <= 0.0 {
@@ -513,9 +532,7 @@ fn path_entry(
         Does (Out PATH-BAND 1152) (came s) (left s) (partAs r (bandAt (left s) n))
         (onPath s ia ib order rows n count pathEntry (vecAt (came s) PATH-SCALE n) i j (bandAt (came s) n)) ⌝ }
 {
-    let a = load_row(s, ia, ib, rows, order[i]);
-    let b = load_row(s, ia, ib, rows, order[j]);
-    let Sum::Value(entry) = cross_mass(s, a, b, count) else {
+    let Sum::Value(entry) = cross_at(s, ia, ib, rows, order, n, count, i, j) else {
         return Part::ArithmeticOverflow;
     };
     let value = reduced(s, entry / (s[PATH_SCALE + i] * s[PATH_SCALE + j]), i, j, n);
