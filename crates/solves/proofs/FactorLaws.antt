@@ -1,17 +1,16 @@
 -- The path's factor: scales, entries, rows and the band in the scratch are what Path defines over lists. By the laws of loops and of what a write keeps.
 use Prim.Native.Nat.{ℕ, zero, _+_, _*_, _-_, _≤_, _<_}
-use mathlib.Core.Path.{_≡_, refl, sym, _∙_, ap}
-use mathlib.Core.Bool.{Bool, true, false, cond, not, _||_}
+use mathlib.Core.Path.{_≡_, sym, _∙_, ap}
+use mathlib.Core.Bool.{Bool, true, false, not, _||_}
 use mathlib.Core.List.{List}
 use native.Mathlib.Omega.{arith}
 use borrow.Author.Tests.{eq-eqb, ne-eqb}
-use lib.Dec.{eqb}
 use lib.ListN.{length, getD, set, replicate, length-replicate, getD-replicate}
 use lib.Ieee as Ieee
 use lib.Ieee.{Float, binary64}
 use Rattle.arith.specs.Real.{ratio, isFinite, _⊗_, _⊘_}
 use Rattle.arith.specs.Root.{sqrt}
-use Rattle.arith.specs.Flow.{go, stop, tab, loop, each}
+use Rattle.arith.specs.Flow.{go, stop, tab, loop}
 use Rattle.arith.specs.FlowLaws.{then-go, then-stop, loop-none, loop-more, loop-stop, each-none, each-more, each-stop, each-end, cond-yes, cond-no}
 use Rattle.rows.specs.declared.geometry.EqualityRow.{EqualityRow}
 use Rattle.rows.specs.Fault.{Fault, nonConvergent, arithmeticOverflow, Result}
@@ -23,9 +22,9 @@ use Rattle.solves.specs.declared.End.the-variants as Ends
 use Rattle.solves.specs.Region.{vecAt, Filled, Does}
 use Rattle.solves.specs.RegionLaws.{vec-at, kept-vec, vec-set, vec-more, filled-vec}
 use Rattle.solves.specs.Solver.{rowIn, crossMass}
-use Rattle.solves.specs.Path.{cell, reduced, Factor, rowOf, scaleAt, pathScale, pathEntry, pathRow, pathFactor, pathFactored}
+use Rattle.solves.specs.Path.{index, cell, reduced, Factor, rowOf, scaleAt, pathScale, pathEntry, pathRow, pathFactor, pathFactored}
 use Rattle.solves.specs.Answer.{ranAs}
-use Rattle.solves.specs.View.{rowOn, rowsOn, massesAt, listAt, bandAt, factorAt, Along, Factoring, Rows, MASSES, PATH-BAND, PATH-SCALE}
+use Rattle.solves.specs.View.{rowOn, rowsOn, massesAt, listAt, bandAt, factorAt, Along, Factoring, Rows, MASSES, PATH-BAND, PATH-SCALE, Beside, BAND}
 use Rattle.solves.specs.DoesLaws.{goes-on, returns-if}
 use Rattle.solves.specs.ViewLaws.{kept-rows, kept-masses, row-in}
 use Rattle.solves.proofs.BlockLaws.{list-at}
@@ -41,6 +40,20 @@ cell-first s n i h =
     let e : PATH-BAND + 12 * i ≡ PATH-BAND + (12 * i + 0) = omega arith in
     ap (at s) e ∙ vec-at s PATH-BAND (12 * n) (12 * i + 0) (omega arith)
 
+-- cross_at: rows a and b were loaded from places i and j of the order
+pub cross-at : {s : List Float} {ia ib : List ℕ} {rows n count : ℕ} → Rows s ia ib rows n count → (order : List ℕ) → Along order n → (i j : ℕ) → i < n → j < n
+    → {a b : EqualityRow} {d : Result Float} → a ≡ rowOn ia ib s rows (getD order i 0) → b ≡ rowOn ia ib s rows (getD order j 0)
+    → d ≡ crossMass a b (massesAt s MASSES count)
+    → d ≡ crossMass (rowIn (rowsOn ia ib s rows n) (index (listAt order n) i)) (rowIn (rowsOn ia ib s rows n) (index (listAt order n) j))
+    (massesAt s MASSES count)
+cross-at {s} {ia} {ib} {rows} {n} {count} pre order along i j hi hj ea eb e =
+    e ∙ λ x. crossMass (row-of i hi ea x) (row-of j hj eb x) (massesAt s MASSES count)
+  where
+    row-of : (k : ℕ) → k < n → {row : EqualityRow} → row ≡ rowOn ia ib s rows (getD order k 0) → row ≡ rowIn (rowsOn ia ib s rows n) (index (listAt order n) k)
+    row-of k h e =
+        row-in (kept-refl (λ _. Unit {0}) s) ia ib rows n (getD order k 0) (λ _ _ _. tt) (along k h) e
+        ∙ ap (rowIn (rowsOn ia ib s rows n)) (list-at order n k h)
+
 -- path_scale
 module _ {z : List Float} {ia ib : List ℕ} {rows n count : ℕ} (pre : Rows z ia ib rows n count) (order : List ℕ) (along : Along order n)
     (s₀ : List Float) where
@@ -53,33 +66,30 @@ module _ {z : List Float} {ia ib : List ℕ} {rows n count : ℕ} (pre : Rows z 
   abbrev O : List ℕ
   O = listAt order n
 
-  -- the row at i of the order, loaded from a scratch that keeps the table
-  pub row-of : {P : ℕ → Type 0} {s : List Float} {i : ℕ} {row : EqualityRow} → Kept P s₀ s → ((j : ℕ) → rows ≤ j → j < rows + 14 * n → P j) → i < n
-      → row ≡ rowOn ia ib s rows (getD order i 0) → row ≡ rowOf R M O i
-  row-of {P} {s} {i} {row} k w h e = row-in k ia ib rows n (getD order i 0) w (along i h) e ∙ ap (rowIn R) (list-at order n i h)
-
   abbrev pub ScaleSo : ℕ → List Float → Type 0
-  ScaleSo k s = Does (λ i. Out PATH-SCALE 96 i) s₀ s (go (vecAt s PATH-SCALE k)) (pathScale R M O k)
+  ScaleSo k s = Does (λ i. Beside PATH-SCALE i) s₀ s (go (vecAt s PATH-SCALE k)) (pathScale R M O k)
 
   pub scales-none : ScaleSo 0 s₀
   unfolding tab
   scales-none = record { kept = kept-refl _ s₀; is = each-none (scaleAt R M O) }
 
-  module _ {i : ℕ} {s : List Float} (inv : ScaleSo i s) (h : i < n) (l : length s ≡ length z) {row : EqualityRow}
-      (er : row ≡ rowOn ia ib s rows (getD order i 0)) where
-    is-row : row ≡ rowOf R M O i
-    is-row = row-of (inv .kept) (λ j x y. omega (arith, pre .table, pre .most)) h er
+  module _ {i : ℕ} {s : List Float} (inv : ScaleSo i s) (h : i < n) (l : length s ≡ length z) where
+    abbrev Cross : List Float → Result Float
+    Cross s = crossMass (rowOf (rowsOn ia ib s rows n) M O i) (rowOf (rowsOn ia ib s rows n) M O i) (massesAt s MASSES count)
 
-    cross-is : {d : Result Float} → d ≡ crossMass row row (massesAt s MASSES count) → d ≡ crossMass (rowOf R M O i) (rowOf R M O i) M
-    cross-is e = e ∙ λ j. crossMass (is-row j) (is-row j) (kept-masses (inv .kept) MASSES count (λ k x y. omega (arith, pre .bodies)) j)
+    cross-is : {d : Result Float} → d ≡ Cross s → d ≡ Cross s₀
+    cross-is e = e ∙ λ j. crossMass (rowOf (kept j) M O i) (rowOf (kept j) M O i) (kept-masses (inv .kept) MASSES count (λ k x y. omega (arith, pre .bodies)) j)
+      where
+        kept : rowsOn ia ib s rows n ≡ R
+        kept = kept-rows (inv .kept) ia ib rows n (λ k x y. omega (arith, pre .table, pre .most))
 
-    pub scales-lost : stop arithmeticOverflow ≡ crossMass row row (massesAt s MASSES count)
-        → Does (λ i. Out PATH-SCALE 96 i) s₀ s (stop arithmeticOverflow) (pathScale R M O n)
+    pub scales-lost : stop arithmeticOverflow ≡ Cross s
+        → Does (λ i. Beside PATH-SCALE i) s₀ s (stop arithmeticOverflow) (pathScale R M O n)
     unfolding scaleAt
     scales-lost e = record { kept = inv .kept; is = each-stop (scaleAt R M O) n h (inv .is) (then-stop _ (cross-is e)) }
 
-    module _ {value zero : Float} (ez : zero ≡ ratio 0 1) (e : go value ≡ crossMass row row (massesAt s MASSES count)) where
-      pub scales-refused : Ieee.le value zero ≡ true → Does (λ i. Out PATH-SCALE 96 i) s₀ s (stop nonConvergent) (pathScale R M O n)
+    module _ {value zero : Float} (ez : zero ≡ ratio 0 1) (e : go value ≡ Cross s) where
+      pub scales-refused : Ieee.le value zero ≡ true → Does (λ i. Beside PATH-SCALE i) s₀ s (stop nonConvergent) (pathScale R M O n)
       unfolding scaleAt
       scales-refused q = record {
         kept = inv .kept;
@@ -102,7 +112,7 @@ module _ {z : List Float} {ia ib : List ℕ} {rows n count : ℕ} (pre : Rows z 
 
 -- path_entry
 abbrev pub Banded : ℕ → Type 0
-Banded i = Out PATH-BAND 1152 i
+Banded i = Out PATH-BAND BAND i
 
 band-out : (n i d k : ℕ) → n ≤ 96 → i < n → d < 12 → Banded k → Out (PATH-BAND + 12 * i + d) 1 k
 band-out n i d k m h l x = omega arith
@@ -121,67 +131,65 @@ module _ {s : List Float} {ia ib : List ℕ} {rows n count : ℕ} (pre : Rows s 
   abbrev Entry : Result (List Float)
   Entry = pathEntry R₁ M₁ O₁ (vecAt s PATH-SCALE n) i j (bandAt s n)
 
-  module _ {a b : EqualityRow} (ea : a ≡ rowOn ia ib s rows (getD order i 0)) (eb : b ≡ rowOn ia ib s rows (getD order j 0)) where
-    cross₁ : {d : Result Float} → d ≡ crossMass a b M₁ → d ≡ crossMass (rowOf R₁ M₁ O₁ i) (rowOf R₁ M₁ O₁ j) M₁
-    cross₁ e = e ∙ λ x. crossMass (row-of pre order along s (kept-refl (λ _. Unit {0}) s) (λ _ _ _. tt) hi ea x)
-        (row-of pre order along s (kept-refl (λ _. Unit {0}) s) (λ _ _ _. tt) (omega arith) eb x) M₁
+  abbrev Cross₁ : Result Float
+  Cross₁ = crossMass (rowOf R₁ M₁ O₁ i) (rowOf R₁ M₁ O₁ j) M₁
 
-    pub entry-lost : stop arithmeticOverflow ≡ crossMass a b M₁ → Does Banded s s (stop arithmeticOverflow) Entry
-    unfolding pathEntry
-    entry-lost e = record { kept = kept-refl _ s; is = then-stop _ (cross₁ e) }
+  pub entry-lost : stop arithmeticOverflow ≡ Cross₁ → Does Banded s s (stop arithmeticOverflow) Entry
+  unfolding pathEntry
+  entry-lost e = record { kept = kept-refl _ s; is = then-stop _ e }
 
-    module _ {entry value : Float} (e : go entry ≡ crossMass a b M₁)
-        (ev : value ≡ reduced (bandAt s n) i j (entry ⊘ (at s (PATH-SCALE + i) ⊗ at s (PATH-SCALE + j)))) where
-      abbrev Val : Float
-      Val = reduced (bandAt s n) i j (entry ⊘ (at (vecAt s PATH-SCALE n) i ⊗ at (vecAt s PATH-SCALE n) j))
+  module _ {entry value : Float} (e : go entry ≡ Cross₁)
+      (ev : value ≡ reduced (bandAt s n) i j (entry ⊘ (at s (PATH-SCALE + i) ⊗ at s (PATH-SCALE + j)))) where
+    abbrev Val : Float
+    Val = reduced (bandAt s n) i j (entry ⊘ (at (vecAt s PATH-SCALE n) i ⊗ at (vecAt s PATH-SCALE n) j))
 
-      value-is : value ≡ Val
-      value-is = ev ∙ λ x. reduced (bandAt s n) i j (entry ⊘ (vec-at s PATH-SCALE n i hi x ⊗ vec-at s PATH-SCALE n j (omega arith) x))
+    value-is : value ≡ Val
+    value-is = ev ∙ λ x. reduced (bandAt s n) i j (entry ⊘ (vec-at s PATH-SCALE n i hi x ⊗ vec-at s PATH-SCALE n j (omega arith) x))
 
-      module _ (same : j ≡ i) {f : Bool} {zero : Float} (ef : f ≡ isFinite value) (ez : zero ≡ ratio 0 1) where
-        finite-is : isFinite Val ≡ f
-        finite-is = sym (ef ∙ ap isFinite value-is)
+    module _ (same : j ≡ i) {f : Bool} {zero : Float} (ef : f ≡ isFinite value) (ez : zero ≡ ratio 0 1) where
+      finite-is : isFinite Val ≡ f
+      finite-is = sym (ef ∙ ap isFinite value-is)
 
-        low-is : Ieee.le Val (ratio 0 1) ≡ Ieee.le value zero
-        low-is = sym (λ x. Ieee.le (value-is x) (ez x))
+      low-is : Ieee.le Val (ratio 0 1) ≡ Ieee.le value zero
+      low-is = sym (λ x. Ieee.le (value-is x) (ez x))
 
-        refused : not (isFinite Val) || Ieee.le Val (ratio 0 1) ≡ true → Does Banded s s (stop nonConvergent) Entry
-        unfolding pathEntry
-        refused q = record { kept = kept-refl _ s; is = cond-yes _ _ q ∙ cond-yes _ _ (eq-eqb j i same) ∙ then-go _ (cross₁ e) }
-
-        pub entry-wild : not f ≡ true → Does Banded s s (stop nonConvergent) Entry
-        entry-wild q = refused (λ x. (ap not finite-is ∙ q) x || Ieee.le Val (ratio 0 1))
-
-        pub entry-low : not f ≡ false → Ieee.le value zero ≡ true → Does Banded s s (stop nonConvergent) Entry
-        entry-low q w = refused ((λ x. (ap not finite-is ∙ q) x || Ieee.le Val (ratio 0 1)) ∙ low-is ∙ w)
-
-        pub entry-pivot : not f ≡ false → Ieee.le value zero ≡ false → {root : Float} → root ≡ sqrt binary64 value
-            → Does Banded s (set s (PATH-BAND + 12 * i) root) (go (bandAt (set s (PATH-BAND + 12 * i) root) n)) Entry
-        unfolding pathEntry
-        entry-pivot q w {root} er = record {
-          kept = kept-more (kept-set s (PATH-BAND + 12 * i) root) (λ k x. omega (arith, pre .most));
-          is = ap go (vec-set s PATH-BAND (12 * n) (12 * i) root (omega arith) (omega (arith, pre .whole, pre .most))
-              ∙ ap (set (bandAt s n) (12 * i)) (er ∙ ap (sqrt binary64) value-is))
-              ∙ cond-no _ _ ((λ x. (ap not finite-is ∙ q) x || Ieee.le Val (ratio 0 1)) ∙ low-is ∙ w) ∙ cond-yes _ _ (eq-eqb j i same) ∙ then-go _ (cross₁ e);
-        }
-
-      abbrev side : Float
-      side = value ⊘ at s (PATH-BAND + 12 * j)
-
-      abbrev after : List Float
-      after = set s (PATH-BAND + 12 * i + (i - j)) side
-
-      pub entry-side : (j ≡ i → ⊥) → Does Banded s after (go (bandAt after n)) Entry
+      refused : not (isFinite Val) || Ieee.le Val (ratio 0 1) ≡ true → Does Banded s s (stop nonConvergent) Entry
       unfolding pathEntry
-      entry-side q =
-          let p : PATH-BAND + 12 * i + (i - j) ≡ PATH-BAND + (12 * i + (i - j)) = omega arith in
-          record {
-            kept = kept-more (kept-set s (PATH-BAND + 12 * i + (i - j)) side) (λ k x. band-out n i (i - j) k (pre .most) hi (omega arith) x);
-            is = ap (λ (m : ℕ). go (bandAt (set s m side) n)) p
-                ∙ ap go (vec-set s PATH-BAND (12 * n) (12 * i + (i - j)) side (omega arith) (omega (arith, pre .whole, pre .most))
-                ∙ λ x. set (bandAt s n) (12 * i + (i - j)) (value-is x ⊘ cell-first s n j (omega arith) x))
-                ∙ cond-no _ _ (ne-eqb j i q) ∙ then-go _ (cross₁ e);
-          }
+      refused q = record { kept = kept-refl _ s; is = cond-yes _ _ q ∙ cond-yes _ _ (eq-eqb j i same) ∙ then-go _ e }
+
+      pub entry-wild : not f ≡ true → Does Banded s s (stop nonConvergent) Entry
+      entry-wild q = refused (λ x. (ap not finite-is ∙ q) x || Ieee.le Val (ratio 0 1))
+
+      pub entry-low : not f ≡ false → Ieee.le value zero ≡ true → Does Banded s s (stop nonConvergent) Entry
+      entry-low q w = refused ((λ x. (ap not finite-is ∙ q) x || Ieee.le Val (ratio 0 1)) ∙ low-is ∙ w)
+
+      pub entry-pivot : not f ≡ false → Ieee.le value zero ≡ false → {root : Float} → root ≡ sqrt binary64 value
+          → Does Banded s (set s (PATH-BAND + 12 * i) root) (go (bandAt (set s (PATH-BAND + 12 * i) root) n)) Entry
+      unfolding pathEntry
+      entry-pivot q w {root} er = record {
+        kept = kept-more (kept-set s (PATH-BAND + 12 * i) root) (λ k x. omega (arith, pre .most));
+        is = ap go (vec-set s PATH-BAND (12 * n) (12 * i) root (omega arith) (omega (arith, pre .whole, pre .most))
+            ∙ ap (set (bandAt s n) (12 * i)) (er ∙ ap (sqrt binary64) value-is))
+            ∙ cond-no _ _ ((λ x. (ap not finite-is ∙ q) x || Ieee.le Val (ratio 0 1)) ∙ low-is ∙ w) ∙ cond-yes _ _ (eq-eqb j i same) ∙ then-go _ e;
+      }
+
+    abbrev side : Float
+    side = value ⊘ at s (PATH-BAND + 12 * j)
+
+    abbrev after : List Float
+    after = set s (PATH-BAND + 12 * i + (i - j)) side
+
+    pub entry-side : (j ≡ i → ⊥) → Does Banded s after (go (bandAt after n)) Entry
+    unfolding pathEntry
+    entry-side q =
+        let p : PATH-BAND + 12 * i + (i - j) ≡ PATH-BAND + (12 * i + (i - j)) = omega arith in
+        record {
+          kept = kept-more (kept-set s (PATH-BAND + 12 * i + (i - j)) side) (λ k x. band-out n i (i - j) k (pre .most) hi (omega arith) x);
+          is = ap (λ (m : ℕ). go (bandAt (set s m side) n)) p
+              ∙ ap go (vec-set s PATH-BAND (12 * n) (12 * i + (i - j)) side (omega arith) (omega (arith, pre .whole, pre .most))
+              ∙ λ x. set (bandAt s n) (12 * i + (i - j)) (value-is x ⊘ cell-first s n j (omega arith) x))
+              ∙ cond-no _ _ (ne-eqb j i q) ∙ then-go _ e;
+        }
 
 -- ---- loops that write the band: k turns of f took s₀ to s
 abbrev pub BandSo : ℕ → (ℕ → List Float → Result (List Float)) → List Float → ℕ → List Float → Type 0
@@ -306,11 +314,11 @@ module _ {s : List Float} {ia ib : List ℕ} {rows n count : ℕ} (pre : Rows s 
   abbrev Scales : Result (List Float)
   Scales = pathScale (rowsOn ia ib s rows n) (massesAt s MASSES count) (listAt order n) n
 
-  pub factored-unscaled : {t : List Float} {f : Fault} → Does (λ i. Out PATH-SCALE 96 i) s t (stop f) Scales → Does Factoring s t (stop f) Factored
+  pub factored-unscaled : {t : List Float} {f : Fault} → Does (λ i. Beside PATH-SCALE i) s t (stop f) Scales → Does Factoring s t (stop f) Factored
   unfolding pathFactored
   factored-unscaled d = record { kept = kept-more (d .kept) (λ i x. x .1); is = then-stop _ (d .is) }
 
-  module _ {t : List Float} (d : Does (λ i. Out PATH-SCALE 96 i) s t (go (vecAt t PATH-SCALE n)) Scales) where
+  module _ {t : List Float} (d : Does (λ i. Beside PATH-SCALE i) s t (go (vecAt t PATH-SCALE n)) Scales) where
     abbrev FactorFrom : Result (List Float)
     FactorFrom = pathFactor (rowsOn ia ib t rows n) (massesAt t MASSES count) (listAt order n) (vecAt t PATH-SCALE n) n
 

@@ -14,7 +14,7 @@ use Rattle.solves.specs.declared.path.Line.{Line}
 use Rattle.solves.specs.Region.{vecAt, Does}
 use Rattle.solves.specs.RegionLaws.{vec-at, vec-in, kept-vec, vec-set, vec-more}
 use Rattle.solves.specs.Path.{index, cell, lessProducts, reduced, forwardSum, forwardTurn, forward, backwardSum, Back, backwardTurn, backward}
-use Rattle.solves.specs.View.{listAt, bandAt, Along, SOLUTION, RESIDUAL, PATH-BAND, PATH-SCALE, PATH-RHS}
+use Rattle.solves.specs.View.{listAt, bandAt, Along, SOLUTION, RESIDUAL, PATH-BAND, PATH-SCALE, PATH-RHS, Beside}
 use Rattle.solves.specs.PathView.{placeOf, lineAt, Lies, rowLine, columnLine, sideLine}
 use Rattle.solves.proofs.BlockLaws.{list-at}
 use Rattle.solves.proofs.FactorLaws.{cell-at, cell-first}
@@ -103,7 +103,7 @@ module _ (n : ℕ) (most : n ≤ 96) (order : List ℕ) (along : Along order n) 
   Re = vecAt s₀ RESIDUAL n
 
   abbrev pub ForwardSo : ℕ → List Float → Type 0
-  ForwardSo i s = Does (λ j. Out PATH-RHS 96 j) s₀ s (vecAt s PATH-RHS i) (turns (forwardTurn n O Sc Bd Re) i [])
+  ForwardSo i s = Does (Beside PATH-RHS) s₀ s (vecAt s PATH-RHS i) (turns (forwardTurn n O Sc Bd Re) i [])
 
   pub forwards-none : ForwardSo 0 s₀
   unfolding tab
@@ -133,7 +133,7 @@ module _ (n : ℕ) (most : n ≤ 96) (order : List ℕ) (along : Along order n) 
           ∙ turns-more (forwardTurn n O Sc Bd Re) i [] (inv .is);
     }
 
-  pub forwards-end : {i : ℕ} {s : List Float} → ForwardSo i s → i ≤ n → n ≤ i → Does (λ j. Out PATH-RHS 96 j) s₀ s (vecAt s PATH-RHS n) (forward n O Sc Bd Re)
+  pub forwards-end : {i : ℕ} {s : List Float} → ForwardSo i s → i ≤ n → n ≤ i → Does (Beside PATH-RHS) s₀ s (vecAt s PATH-RHS n) (forward n O Sc Bd Re)
   unfolding forward
   forwards-end {i} {s} inv a b =
       let same : i ≡ n = omega arith in
@@ -141,15 +141,15 @@ module _ (n : ℕ) (most : n ≤ 96) (order : List ℕ) (along : Along order n) 
 
 -- ---- backward
 abbrev pub Backs : ℕ → Type 0
-Backs i = (Out PATH-RHS 96 i) × (Out SOLUTION 96 i)
+Backs i = (Beside PATH-RHS i) × (Beside SOLUTION i)
 
 abbrev pub backAt : List Float → ℕ → Back
 backAt s n = record { y = vecAt s PATH-RHS n; solution = vecAt s SOLUTION n }
 
-backs-rhs : (i k : ℕ) → k < 96 → Out PATH-RHS 96 i → Out (PATH-RHS + k) 1 i
+backs-rhs : (i k : ℕ) → k < 96 → Beside PATH-RHS i → Out (PATH-RHS + k) 1 i
 backs-rhs i k h x = omega arith
 
-backs-solution : (i k : ℕ) → k < 96 → Out SOLUTION 96 i → Out (SOLUTION + k) 1 i
+backs-solution : (i k : ℕ) → k < 96 → Beside SOLUTION i → Out (SOLUTION + k) 1 i
 backs-solution i k h x = omega arith
 
 module _ (n : ℕ) (most : n ≤ 96) (order : List ℕ) (along : Along order n) (s₀ : List Float) where

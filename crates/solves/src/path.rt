@@ -32,12 +32,13 @@ ghost use Rattle.arith.specs.Flow.{loop};
 ghost use Rattle.arith.specs.Run.{upTo};
 ghost use Rattle.rows.specs.Fault.{nonConvergent};
 ghost use Rattle.rows.specs.View.{Out};
-ghost use Rattle.solves.specs.Path.{begins as beginsOf, addEdge, neighbor as neighborOf, follows as followsOf, nextBlock, pathOrder, pathScale, lessProducts, reduced as reducedOf, pathEntry, pathRow, pathFactor, pathFactored, forwardSum, forward as forwardOf, backwardSum, backward as backwardOf, refine as refineOf};
-ghost use Rattle.solves.specs.Answer.{ranAs, edgesAs, orderAs, Solves};
+ghost use Rattle.solves.specs.Solver.{crossMass};
+ghost use Rattle.solves.specs.Path.{begins as beginsOf, addEdge, neighbor as neighborOf, follows as followsOf, nextBlock, pathOrder, rowOf, pathScale, lessProducts, reduced as reducedOf, pathEntry, pathRow, pathFactor, pathFactored, forwardSum, forward as forwardOf, backwardSum, backward as backwardOf, refine as refineOf};
+ghost use Rattle.solves.specs.Answer.{sumAs, ranAs, edgesAs, orderAs, Solves};
 ghost use Rattle.solves.specs.Lent.{came, left};
 ghost use Rattle.solves.specs.PathView.{Bodies, blocksAt, rowsOf, Blocked, Parted, Linking, orderAt, seenOf, Listed, Appended, Free, edgesOn, walkOn, endOn, fromOn, walksOn, Walks, Orders, onPath, placeOf, lineAt, Stands, Lies, rowLine, columnLine, sideLine};
 ghost use Rattle.solves.specs.Region.{vecAt, Does};
-ghost use Rattle.solves.specs.View.{listAt, Along, Blank, noPath, bandAt, factorAt, refinedAt, Refining, Factoring, Rows, SOLUTION, RESIDUAL, PATH-BAND, PATH-SCALE, PATH-RHS, END};
+ghost use Rattle.solves.specs.View.{listAt, Along, Blank, noPath, bandAt, factorAt, refinedAt, Refining, Factoring, Rows, SOLUTION, RESIDUAL, PATH-BAND, PATH-SCALE, PATH-RHS, END, Beside, BAND};
 ghost use Rattle.solves.specs.Search.{refinement, pathAlong};
 ghost use Rattle.solves.specs.View.{systemIn, rhsOn, solutionOn, orderOn, Ready};
 
@@ -464,6 +465,26 @@ fn band_start(i: usize) -> usize
     i - (BAND_WIDTH - 1)
 }
 
+// The Schur matrix's entry at places i and j of the order.
+fn cross_at(
+    s: &[f64],
+    ia: &[usize; 96],
+    ib: &[usize; 96],
+    rows: usize,
+    order: &[usize; 96],
+    n: usize,
+    count: usize,
+    i: usize,
+    j: usize,
+) -> Sum
+    requires { ⌜ (Rows (now s) (now ia) (now ib) rows n count) × (Along (now order) n) × (i < n) × (j < n) ⌝ }
+    ensures { λ r. ⌜ sumAs r ≡ onPath s ia ib order rows n count (λ r m o. crossMass (rowOf r m o i) (rowOf r m o j) m) ⌝ }
+{
+    let a = load_row(s, ia, ib, rows, order[i]);
+    let b = load_row(s, ia, ib, rows, order[j]);
+    cross_mass(s, a, b, count)
+}
+
 fn path_scale(
     s: &mut [f64],
     ia: &[usize; 96],
@@ -475,12 +496,11 @@ fn path_scale(
 ) -> End
     requires { ⌜ (Rows (now s) (now ia) (now ib) rows n count) × (Along (now order) n) ⌝ }
     ensures { λ r. ⌜
-        Does (Out PATH-SCALE 96) (came s) (left s) (ranAs r (vecAt (left s) PATH-SCALE n))
+        Does (Beside PATH-SCALE) (came s) (left s) (ranAs r (vecAt (left s) PATH-SCALE n))
         (onPath s ia ib order rows n count pathScale n) ⌝ }
 {
     for i in 0..n {
-        let row = load_row(s, ia, ib, rows, order[i]);
-        let Sum::Value(value) = cross_mass(s, row, row, count) else {
+        let Sum::Value(value) = cross_at(s, ia, ib, rows, order, n, count, i, i) else {
             return End::ArithmeticOverflow;
         };
         if value <= 0.0 {
@@ -513,12 +533,10 @@ fn path_entry(
 ) -> End
     requires { ⌜ (Rows (now s) (now ia) (now ib) rows n count) × (Along (now order) n) × (i < n) × (j ≤ i) × (i ≤ j + 11) ⌝ }
     ensures { λ r. ⌜
-        Does (Out PATH-BAND 1152) (came s) (left s) (ranAs r (bandAt (left s) n))
+        Does (Out PATH-BAND BAND) (came s) (left s) (ranAs r (bandAt (left s) n))
         (onPath s ia ib order rows n count pathEntry (vecAt (came s) PATH-SCALE n) i j (bandAt (came s) n)) ⌝ }
 {
-    let a = load_row(s, ia, ib, rows, order[i]);
-    let b = load_row(s, ia, ib, rows, order[j]);
-    let Sum::Value(entry) = cross_mass(s, a, b, count) else {
+    let Sum::Value(entry) = cross_at(s, ia, ib, rows, order, n, count, i, j) else {
         return End::ArithmeticOverflow;
     };
     let value = reduced(s, entry / (s[PATH_SCALE + i] * s[PATH_SCALE + j]), i, j, n);
@@ -548,7 +566,7 @@ fn path_row(
 ) -> End
     requires { ⌜ (Rows (now s) (now ia) (now ib) rows n count) × (Along (now order) n) × (i < n) ⌝ }
     ensures { λ r. ⌜
-        Does (Out PATH-BAND 1152) (came s) (left s) (ranAs r (bandAt (left s) n))
+        Does (Out PATH-BAND BAND) (came s) (left s) (ranAs r (bandAt (left s) n))
         (onPath s ia ib order rows n count pathRow (vecAt (came s) PATH-SCALE n) i (bandAt (came s) n)) ⌝ }
 {
     for j in band_start(i)..i + 1 {
@@ -576,7 +594,7 @@ fn path_factor(
 ) -> End
     requires { ⌜ (Rows (now s) (now ia) (now ib) rows n count) × (Along (now order) n) ⌝ }
     ensures { λ r. ⌜
-        Does (Out PATH-BAND 1152) (came s) (left s) (ranAs r (bandAt (left s) n))
+        Does (Out PATH-BAND BAND) (came s) (left s) (ranAs r (bandAt (left s) n))
         (onPath s ia ib order rows n count pathFactor (vecAt (came s) PATH-SCALE n) n) ⌝ }
 {
     clear(s, PATH_BAND, BAND_WIDTH * n);
@@ -605,7 +623,7 @@ fn forward_sum(s: &[f64], start: f64, i: usize, n: usize) -> f64
 fn forward(s: &mut [f64], order: &[usize; 96], n: usize)
     requires { ⌜ (END ≤ length (now s)) × (n ≤ 96) × (Along (now order) n) ⌝ }
     ensures { λ _. ⌜
-        Does (Out PATH-RHS 96) (came s) (left s) (vecAt (left s) PATH-RHS n)
+        Does (Beside PATH-RHS) (came s) (left s) (vecAt (left s) PATH-RHS n)
         (forwardOf n (listAt (came order) n) (vecAt (came s) PATH-SCALE n) (bandAt (came s) n) (vecAt (came s) RESIDUAL n)) ⌝ }
 {
     for i in 0..n {
@@ -643,7 +661,7 @@ fn backward_sum(s: &[f64], start: f64, i: usize, n: usize) -> f64
 fn backward(s: &mut [f64], order: &[usize; 96], n: usize)
     requires { ⌜ (END ≤ length (now s)) × (n ≤ 96) × (Along (now order) n) ⌝ }
     ensures { λ _. ⌜
-        Does (λ i. (Out PATH-RHS 96 i) × (Out SOLUTION 96 i)) (came s) (left s) (vecAt (left s) SOLUTION n)
+        Does (λ i. (Beside PATH-RHS i) × (Beside SOLUTION i)) (came s) (left s) (vecAt (left s) SOLUTION n)
         (backwardOf n (listAt (came order) n) (vecAt (came s) PATH-SCALE n) (bandAt (came s) n) (vecAt (came s) PATH-RHS n)
         (vecAt (came s) SOLUTION n)) ⌝ }
 {

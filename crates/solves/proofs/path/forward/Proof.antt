@@ -6,17 +6,16 @@ use lib.ListN.{length, length-set}
 use denote.Ref.{now}
 use mathlib.Core.List.{[]}
 use Rattle.arith.specs.Flow.{turns}
-use Rattle.rows.specs.View.{Out}
 use Rattle.solves.specs.Path.{forwardTurn}
 use Rattle.solves.specs.Region.{vecAt, Does}
-use Rattle.solves.specs.View.{listAt, bandAt, PATH-SCALE, PATH-RHS, RESIDUAL}
+use Rattle.solves.specs.View.{listAt, bandAt, PATH-SCALE, PATH-RHS, RESIDUAL, Beside}
 use Rattle.solves.proofs.SweepLaws.{forwards-none, forwards-more, forwards-end}
 use Rattle.solves.proofs.path.forward.Statement.{statement}
 use Rattle.solves.proofs.path.forward.Tie as tie
 
 abbrev Inv-loop : tie.InvT-loop
 Inv-loop s₀ order n i₀ s i =
-    (i ≤ n) × (length s ≡ length s₀) × (Does (λ j. Out PATH-RHS 96 j) s₀ s (vecAt s PATH-RHS i)
+    (i ≤ n) × (length s ≡ length s₀) × (Does (λ j. Beside PATH-RHS j) s₀ s (vecAt s PATH-RHS i)
     (turns (forwardTurn n (listAt order n) (vecAt s₀ PATH-SCALE n) (bandAt s₀ n) (vecAt s₀ RESIDUAL n)) i []))
 
 abbrev μ-loop : tie.MeasureT-loop

@@ -7,19 +7,18 @@ use lib.ListN.{length, length-set}
 use denote.Ref.{now}
 use Rattle.arith.specs.Laws.Constants.{zero-is}
 use Rattle.arith.specs.Flow.{go}
-use Rattle.rows.specs.View.{Out}
 use Rattle.solves.specs.Path.{pathScale}
 use Rattle.solves.specs.Region.{vecAt, Does}
-use Rattle.solves.specs.View.{rowsOn, massesAt, listAt, MASSES, PATH-SCALE}
+use Rattle.solves.specs.View.{rowsOn, massesAt, listAt, MASSES, PATH-SCALE, Beside}
 use Rattle.solves.specs.DoesLaws.{sum-there, sum-over}
-use Rattle.solves.proofs.OperatorLaws.{on-a, on-b}
+use Rattle.solves.proofs.OperatorLaws.{rows-kept}
 use Rattle.solves.proofs.FactorLaws.{scales-none, scales-lost, scales-refused, scales-more, scales-end}
 use Rattle.solves.proofs.path.path_scale.Statement.{statement}
 use Rattle.solves.proofs.path.path_scale.Tie as tie
 
 abbrev Inv-loop : tie.InvT-loop
 Inv-loop s₀ ia ib rows order n count i₀ s i =
-    (i ≤ n) × (length s ≡ length s₀) × (Does (λ j. Out PATH-SCALE 96 j) s₀ s (go (vecAt s PATH-SCALE i))
+    (i ≤ n) × (length s ≡ length s₀) × (Does (λ j. Beside PATH-SCALE j) s₀ s (go (vecAt s PATH-SCALE i))
     (pathScale (rowsOn ia ib s₀ rows n) (massesAt s₀ MASSES count) (listAt order n) i))
 
 abbrev μ-loop : tie.MeasureT-loop
@@ -31,38 +30,12 @@ loop-holds c =
     let pre = start .pre in
     (omega arith, refl, scales-none (pre .0) (now (start .args .order)) (pre .1) _)
 
-mul-load-row : tie.Need-mul-load-row Inv-loop μ-loop
-mul-load-row c = omega arith
-
-element-copy-out-load-row : tie.Need-element-copy-out-load-row Inv-loop μ-loop
-element-copy-out-load-row c = omega arith
-
-load-row-requires : tie.Need-load-row-requires Inv-loop μ-loop
-load-row-requires c κs =
-    let at-loop-test = c .before .before in
+cross-at-requires : tie.Need-cross-at-requires Inv-loop μ-loop
+cross-at-requires c κs =
+    let at-loop-test = c .before in
     let at-loop = at-loop-test .before in
     let pre = at-loop .before .before .pre in
-    omega (
-      arith,
-      pre .1 (at-loop .loop .i) (at-loop-test .loop-test .taken),
-      pre .0 .whole,
-      pre .0 .most,
-      pre .0 .table,
-      at-loop .loop .inv .1,
-      at-loop-test .loop-test .taken,
-    )
-
-cross-mass-requires : tie.Need-cross-mass-requires Inv-loop μ-loop
-cross-mass-requires c κs =
-    let at-load-row = c .before in
-    let at-loop-test = at-load-row .before .before .before in
-    let at-loop = at-loop-test .before in
-    let pre = at-loop .before .before .pre in (
-      omega (arith, pre .0 .whole, pre .0 .most, pre .0 .table, at-loop .loop .inv .1, at-loop-test .loop-test .taken),
-      on-a (pre .0) (pre .1 (at-loop .loop .i) (at-loop-test .loop-test .taken)) (at-loop .loop .s) (at-load-row .load-row .ensures),
-      on-b (pre .0) (pre .1 (at-loop .loop .i) (at-loop-test .loop-test .taken)) (at-loop .loop .s) (at-load-row .load-row .ensures),
-      pre .0 .bodies,
-    )
+    (rows-kept (pre .0) (at-loop .loop .inv .1), pre .1, at-loop-test .loop-test .taken, at-loop-test .loop-test .taken)
 
 enum-known-value : tie.Need-enum-known-value Inv-loop μ-loop
 enum-known-value c = search needs
@@ -72,37 +45,34 @@ enum-told c = search needs
 
 same-length : tie.Need-same-length Inv-loop μ-loop
 same-length c =
-    let at-load-row-arg = c .before .before .before .before .before .before in
-    at-load-row-arg .before .before .loop .inv .1
+    let at-loop = c .before .before .before .before .before in
+    at-loop .loop .inv .1
 
 returns : tie.Need-returns Inv-loop μ-loop
 returns c =
-    let at-cross-mass = c .before .before in
-    let at-load-row = at-cross-mass .before .before in
-    let at-loop-test = at-load-row .before .before .before in
+    let at-cross-at = c .before .before in
+    let at-loop-test = at-cross-at .before .before in
     let at-loop = at-loop-test .before in
     let start = at-loop .before .before in
     let pre = start .pre in
     scales-lost (pre .0) (now (start .args .order)) (pre .1) _ (at-loop .loop .inv .2) (at-loop-test .loop-test .taken) (at-loop .loop .inv .1)
-    (at-load-row .load-row .ensures) (sum-over (at-cross-mass .cross-mass .ensures) (c .enum-told .given .1))
+    (sum-over (at-cross-at .cross-at .ensures) (c .enum-told .given .1))
 
 same-length-2 : tie.Need-same-length-2 Inv-loop μ-loop
 same-length-2 c =
-    let at-load-row = c .before .before .before .before .before .before in
-    let at-loop = at-load-row .before .before .before .before in
-    at-loop .loop .inv .1
+    let at-loop-test = c .before .before .before .before .before .before in
+    at-loop-test .before .loop .inv .1
 
 returns-2 : tie.Need-returns-2 Inv-loop μ-loop
 returns-2 c =
     let at-value = c .before .before in
-    let at-cross-mass = at-value .before .before in
-    let at-load-row = at-cross-mass .before .before in
-    let at-loop-test = at-load-row .before .before .before in
+    let at-cross-at = at-value .before .before in
+    let at-loop-test = at-cross-at .before .before in
     let at-loop = at-loop-test .before in
     let start = at-loop .before .before in
     let pre = start .pre in
     scales-refused (pre .0) (now (start .args .order)) (pre .1) _ (at-loop .loop .inv .2) (at-loop-test .loop-test .taken) (at-loop .loop .inv .1)
-    (at-load-row .load-row .ensures) zero-is (sum-there (at-cross-mass .cross-mass .ensures) (at-value .value .given .1)) (c .if1 .taken)
+    zero-is (sum-there (at-cross-at .cross-at .ensures) (at-value .value .given .1)) (c .if1 .taken)
 
 sqrt-requires : tie.Need-sqrt-requires Inv-loop μ-loop
 sqrt-requires c κs = search needs
@@ -126,17 +96,15 @@ loop-again : tie.Need-loop-again Inv-loop μ-loop
 loop-again c =
     let at-if1 = c .before in
     let at-value = at-if1 .before .before in
-    let at-cross-mass = at-value .before .before in
-    let at-load-row = at-cross-mass .before .before in
-    let at-loop-test = at-load-row .before .before .before in
+    let at-cross-at = at-value .before .before in
+    let at-loop-test = at-cross-at .before .before in
     let at-loop = at-loop-test .before in
     let start = at-loop .before .before in
     let pre = start .pre in (
       omega (arith, at-loop-test .loop-test .taken),
       simp length-set (at-loop .loop .inv .1),
       scales-more (pre .0) (now (start .args .order)) (pre .1) _ (at-loop .loop .inv .2) (at-loop-test .loop-test .taken) (at-loop .loop .inv .1)
-          (at-load-row .load-row .ensures) zero-is (sum-there (at-cross-mass .cross-mass .ensures) (at-value .value .given .1)) (at-if1 .if1 .left)
-          (c .sqrt .ensures .is),
+          zero-is (sum-there (at-cross-at .cross-at .ensures) (at-value .value .given .1)) (at-if1 .if1 .left) (c .sqrt .ensures .is),
     )
 
 same-length-3 : tie.Need-same-length-3 Inv-loop μ-loop
@@ -156,10 +124,7 @@ path-scale-spec =
     Inv-loop
     μ-loop
     loop-holds
-    mul-load-row
-    element-copy-out-load-row
-    load-row-requires
-    cross-mass-requires
+    cross-at-requires
     enum-known-value
     enum-told
     same-length

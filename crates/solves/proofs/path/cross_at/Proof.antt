@@ -1,0 +1,66 @@
+-- `cross_at` meets its contract: by FactorLaws `cross-at` from the two rows that were loaded.
+use native.Mathlib.Omega.{arith}
+use denote.Ref.{now}
+use Rattle.solves.proofs.OperatorLaws.{on-a, on-b}
+use Rattle.solves.proofs.FactorLaws.{cross-at}
+use Rattle.solves.proofs.path.cross_at.Statement.{statement}
+use Rattle.solves.proofs.path.cross_at.Tie as tie
+
+mul-load-row : tie.Need-mul-load-row
+mul-load-row c = omega arith
+
+element-copy-out-load-row : tie.Need-element-copy-out-load-row
+element-copy-out-load-row c = omega arith
+
+load-row-requires : tie.Need-load-row-requires
+load-row-requires c κs =
+    let start = c .before .before in
+    let pre = start .pre in
+    omega (arith, pre .1 (start .args .i) (pre .2), pre .0 .whole, pre .0 .most, pre .0 .table)
+
+mul-load-row-2 : tie.Need-mul-load-row-2
+mul-load-row-2 c = omega arith
+
+element-copy-out-load-row-2 : tie.Need-element-copy-out-load-row-2
+element-copy-out-load-row-2 c = omega arith
+
+load-row-requires-2 : tie.Need-load-row-requires-2
+load-row-requires-2 c κs =
+    let start = c .before .before .before .before in
+    let pre = start .pre in
+    omega (arith, pre .1 (start .args .j) (pre .3), pre .0 .whole, pre .0 .most, pre .0 .table)
+
+cross-mass-requires : tie.Need-cross-mass-requires
+cross-mass-requires c κs =
+    let at-load-row = c .before .before in
+    let start = at-load-row .before .before .before in
+    let args = start .args in
+    let pre = start .pre in (
+      pre .0 .whole,
+      on-a (pre .0) (pre .1 (args .i) (pre .2)) (now (args .s)) (at-load-row .load-row .ensures),
+      on-b (pre .0) (pre .1 (args .i) (pre .2)) (now (args .s)) (at-load-row .load-row .ensures),
+      pre .0 .bodies,
+    )
+
+returns : tie.Need-returns
+returns c =
+    let at-load-row2 = c .before in
+    let at-load-row = at-load-row2 .before .before in
+    let start = at-load-row .before .before .before in
+    let args = start .args in
+    let pre = start .pre in
+    cross-at (pre .0) (now (args .order)) (pre .1) (args .i) (args .j) (pre .2) (pre .3) (at-load-row .load-row .ensures)
+    (at-load-row2 .load-row2 .ensures) (c .cross-mass .ensures)
+
+pub cross-at-spec : {M : Type 1} → statement M
+cross-at-spec =
+    tie.close
+    (tie.spec
+    mul-load-row
+    element-copy-out-load-row
+    load-row-requires
+    mul-load-row-2
+    element-copy-out-load-row-2
+    load-row-requires-2
+    cross-mass-requires
+    returns)
