@@ -39,10 +39,7 @@ returns c =
     (failed _ end (at-done .done .ensures) (at-operator .operator .ensures) (c .if1 .taken)))
 
 dot-requires : tie.Need-dot-requires
-dot-requires c κs =
-    let at-operator = c .before .before .before .before .before in
-    let start = at-operator .before .before .before in
-    omega (arith, at-operator .operator .ensures .kept .size, start .pre .whole, start .pre .most)
+dot-requires c κs = omega arith
 
 enum-known-curvature : tie.Need-enum-known-curvature
 enum-known-curvature c = search needs
@@ -102,21 +99,10 @@ returns-4 c =
     (c .before .is-finite .ensures) (c .if3 .taken)
 
 add-scaled-requires : tie.Need-add-scaled-requires
-add-scaled-requires c κs =
-    let at-match-keys1 = c .before .before .before .before .before .before in
-    let at-s = at-match-keys1 .before .before .before .before .before .before in
-    let at-operator = at-s .before in
-    let start = at-operator .before .before .before in
-    omega (arith, at-operator .operator .ensures .kept .size, start .pre .whole, start .pre .most)
+add-scaled-requires c κs = omega arith
 
 sub-scaled-requires : tie.Need-sub-scaled-requires
-sub-scaled-requires c κs =
-    let at-add-scaled = c .before .before .before in
-    let at-curvature = at-add-scaled .before .before .before .before .before .before in
-    let at-slice-known2 = at-curvature .before .before .before .before .before .before in
-    let at-operator = at-slice-known2 .before .before in
-    let start = at-operator .before .before .before in
-    omega (arith, at-add-scaled .add-scaled .ensures .kept .size, at-operator .operator .ensures .kept .size, start .pre .whole, start .pre .most)
+sub-scaled-requires c κs = omega arith
 
 same-length-5 : tie.Need-same-length-5
 same-length-5 c =

@@ -11,9 +11,7 @@ use Rattle.solves.proofs.gradients.gradient_pass.Statement.{statement}
 use Rattle.solves.proofs.gradients.gradient_pass.Tie as tie
 
 residual-test-requires : tie.Need-residual-test-requires
-residual-test-requires c κs =
-    let start = c .before .before in
-    omega (arith, start .pre .whole, start .pre .most)
+residual-test-requires c κs = omega arith
 
 enum-known-end : tie.Need-enum-known-end
 enum-known-end c = search needs

@@ -42,10 +42,7 @@ returns c =
     (at-prepare .prepare .ensures)))
 
 tolerance-for-requires : tie.Need-tolerance-for-requires
-tolerance-for-requires c κs =
-    let at-prepare = c .before .before .before .before .before .before in
-    let start = at-prepare .before .before .before in
-    omega (arith, at-prepare .prepare .ensures .kept .size, start .pre .whole, start .pre .most)
+tolerance-for-requires c κs = omega arith
 
 enum-known-tolerance : tie.Need-enum-known-tolerance
 enum-known-tolerance c = search needs

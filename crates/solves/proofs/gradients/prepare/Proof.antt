@@ -83,60 +83,28 @@ returns-2 c =
     (c .before .before .is-finite .ensures) zero-is (c .before .if1 .left) (c .if2 .taken)
 
 add-r : tie.Need-add-r Inv-loop μ-loop
-add-r c =
-    let at-load-mass = c .before .before .before .before .before .before in
-    let in-loop = at-load-mass .before .before .before .before in
-    let start = in-loop .before .before .before in
-    omega (arith, start .pre .whole, start .pre .most, in-loop .before .loop .inv .1, in-loop .loop-test .taken)
+add-r c = omega arith
 
 mul-r : tie.Need-mul-r Inv-loop μ-loop
-mul-r c =
-    let at-load-mass = c .before .before .before .before .before .before in
-    let in-loop = at-load-mass .before .before .before .before in
-    let start = in-loop .before .before .before in
-    omega (arith, start .pre .whole, start .pre .most, in-loop .before .loop .inv .1, in-loop .loop-test .taken)
+mul-r c = omega arith
 
 slice-read-r : tie.Need-slice-read-r Inv-loop μ-loop
-slice-read-r c =
-    let at-load-mass-arg2 = c .before .before .before .before .before .before in
-    let in-loop = at-load-mass-arg2 .before .before .before .before .before in
-    let start = in-loop .before .before .before in
-    omega (arith, start .pre .whole, start .pre .most, in-loop .before .loop .inv .1, in-loop .loop-test .taken)
+slice-read-r c = omega arith
 
 add-s : tie.Need-add-s Inv-loop μ-loop
-add-s c =
-    let at-load-mass-arg2 = c .before .before .before .before .before .before in
-    let in-loop = at-load-mass-arg2 .before .before .before .before .before in
-    let start = in-loop .before .before .before in
-    omega (arith, start .pre .whole, start .pre .most, in-loop .before .loop .inv .1, in-loop .loop-test .taken)
+add-s c = omega arith
 
 mul-s : tie.Need-mul-s Inv-loop μ-loop
-mul-s c =
-    let at-load-mass-arg2 = c .before .before .before .before .before .before in
-    let in-loop = at-load-mass-arg2 .before .before .before .before .before in
-    let start = in-loop .before .before .before in
-    omega (arith, start .pre .whole, start .pre .most, in-loop .before .loop .inv .1, in-loop .loop-test .taken)
+mul-s c = omega arith
 
 slice-write-s : tie.Need-slice-write-s Inv-loop μ-loop
-slice-write-s c =
-    let at-load-mass-arg2 = c .before .before .before .before .before .before in
-    let in-loop = at-load-mass-arg2 .before .before .before .before .before in
-    let start = in-loop .before .before .before in
-    omega (arith, start .pre .whole, start .pre .most, in-loop .before .loop .inv .1, in-loop .loop-test .taken)
+slice-write-s c = omega arith
 
 add-s-2 : tie.Need-add-s-2 Inv-loop μ-loop
-add-s-2 c =
-    let at-load-mass-arg2 = c .before .before .before .before .before .before in
-    let in-loop = at-load-mass-arg2 .before .before .before .before .before in
-    let start = in-loop .before .before .before in
-    omega (arith, start .pre .whole, start .pre .most, in-loop .before .loop .inv .1, in-loop .loop-test .taken)
+add-s-2 c = omega arith
 
 mul-s-2 : tie.Need-mul-s-2 Inv-loop μ-loop
-mul-s-2 c =
-    let at-load-mass-arg2 = c .before .before .before .before .before .before in
-    let in-loop = at-load-mass-arg2 .before .before .before .before .before in
-    let start = in-loop .before .before .before in
-    omega (arith, start .pre .whole, start .pre .most, in-loop .before .loop .inv .1, in-loop .loop-test .taken)
+mul-s-2 c = omega arith
 
 slice-write-s-2 : tie.Need-slice-write-s-2 Inv-loop μ-loop
 slice-write-s-2 c =
@@ -146,18 +114,10 @@ slice-write-s-2 c =
     simp length-set (omega (arith, start .pre .whole, start .pre .most, in-loop .before .loop .inv .1, in-loop .loop-test .taken))
 
 add-k : tie.Need-add-k Inv-loop μ-loop
-add-k c =
-    let at-load-mass-arg2 = c .before .before .before .before .before .before in
-    let in-loop = at-load-mass-arg2 .before .before .before .before .before in
-    let start = in-loop .before .before .before in
-    omega (arith, start .pre .whole, start .pre .most, in-loop .before .loop .inv .1, in-loop .loop-test .taken)
+add-k c = omega arith
 
 loop-less : tie.Need-loop-less Inv-loop μ-loop
-loop-less c =
-    let at-load-mass-arg2 = c .before .before .before .before .before .before in
-    let in-loop = at-load-mass-arg2 .before .before .before .before .before in
-    let start = in-loop .before .before .before in
-    omega (arith, start .pre .whole, start .pre .most, in-loop .before .loop .inv .1, in-loop .loop-test .taken)
+loop-less c = omega arith
 
 loop-again : tie.Need-loop-again Inv-loop μ-loop
 loop-again c =

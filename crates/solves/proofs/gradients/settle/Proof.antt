@@ -30,17 +30,10 @@ enum-told : tie.Need-enum-told
 enum-told c = search needs
 
 scaled-square-requires : tie.Need-scaled-square-requires
-scaled-square-requires c κs =
-    let at-true-residual = c .before .before .before .before .before in
-    let start = at-true-residual .before .before .before in
-    omega (arith, at-true-residual .true-residual .ensures .kept .size, start .pre .whole, start .pre .most)
+scaled-square-requires c κs = omega arith
 
 next-direction-requires : tie.Need-next-direction-requires
-next-direction-requires c κs =
-    let at-s = c .before .before .before .before .before .before in
-    let at-true-residual = at-s .before in
-    let start = at-true-residual .before .before .before in
-    omega (arith, at-true-residual .true-residual .ensures .kept .size, start .pre .whole, start .pre .most)
+next-direction-requires c κs = omega arith
 
 same-length-2 : tie.Need-same-length-2
 same-length-2 c =

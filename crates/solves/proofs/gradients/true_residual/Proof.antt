@@ -14,9 +14,7 @@ use Rattle.solves.proofs.gradients.true_residual.Statement.{statement}
 use Rattle.solves.proofs.gradients.true_residual.Tie as tie
 
 residual-test-requires : tie.Need-residual-test-requires
-residual-test-requires c κs =
-    let start = c .before .before in
-    omega (arith, start .pre .whole, start .pre .most)
+residual-test-requires c κs = omega arith
 
 enum-known-near : tie.Need-enum-known-near
 enum-known-near c = search needs
@@ -81,19 +79,10 @@ returns-3 c =
     (failed _ end (at-done2 .done2 .ensures) (at-operator .operator .ensures) (c .if2 .taken)))
 
 difference-requires : tie.Need-difference-requires
-difference-requires c κs =
-    let at-operator = c .before .before .before .before .before in
-    let at-match-keys1 = at-operator .before .before .before .before .before .before in
-    let start = at-match-keys1 .before .before .before .before in
-    omega (arith, at-operator .operator .ensures .kept .size, start .pre .whole, start .pre .most)
+difference-requires c κs = omega arith
 
 residual-test-requires-2 : tie.Need-residual-test-requires-2
-residual-test-requires-2 c κs =
-    let at-difference = c .before .before .before in
-    let at-operator = at-difference .before .before .before .before .before .before in
-    let at-match-keys1 = at-operator .before .before .before .before .before .before in
-    let start = at-match-keys1 .before .before .before .before in
-    omega (arith, at-difference .difference .ensures .kept .size, at-operator .operator .ensures .kept .size, start .pre .whole, start .pre .most)
+residual-test-requires-2 c κs = omega arith
 
 same-length-4 : tie.Need-same-length-4
 same-length-4 c =

@@ -51,10 +51,7 @@ returns-2 c =
     (failed _ end (at-done .done .ensures) (at-operator .operator .ensures) (c .if2 .taken)))
 
 dot-requires : tie.Need-dot-requires
-dot-requires c κs =
-    let at-operator = c .before .before .before .before .before in
-    let start = at-operator .before .before .before .before .before in
-    omega (arith, at-operator .operator .ensures .kept .size, start .pre .whole, start .pre .most)
+dot-requires c κs = omega arith
 
 enum-known-denominator : tie.Need-enum-known-denominator
 enum-known-denominator c = search needs
@@ -98,19 +95,10 @@ returns-4 c =
     zero-is (sum-there (at-dot .dot .ensures) (c .before .before .denominator .given .1)) (c .if3 .taken)
 
 add-scaled-requires : tie.Need-add-scaled-requires
-add-scaled-requires c κs =
-    let at-dot-arg = c .before .before .before .before .before .before in
-    let at-operator = at-dot-arg .before .before .before .before .before in
-    let start = at-operator .before .before .before .before .before in
-    omega (arith, at-operator .operator .ensures .kept .size, start .pre .whole, start .pre .most)
+add-scaled-requires c κs = omega arith
 
 sub-scaled-requires : tie.Need-sub-scaled-requires
-sub-scaled-requires c κs =
-    let at-add-scaled = c .before .before .before in
-    let at-dot = at-add-scaled .before .before .before .before .before .before in
-    let at-operator = at-dot .before .before .before .before .before .before in
-    let start = at-operator .before .before .before .before .before in
-    omega (arith, at-add-scaled .add-scaled .ensures .kept .size, at-operator .operator .ensures .kept .size, start .pre .whole, start .pre .most)
+sub-scaled-requires c κs = omega arith
 
 operator-requires-2 : tie.Need-operator-requires-2
 operator-requires-2 c κs =

@@ -48,10 +48,7 @@ returns c =
     (least-unmoved (start .args .t) (start .pre) (failed _ end (at-done .done .ensures) (at-operator .operator .ensures) (at-if1 .if1 .taken))))
 
 dot-requires : tie.Need-dot-requires
-dot-requires c κs =
-    let at-operator = c .before .before .before .before .before in
-    let start = at-operator .before .before .before in
-    omega (arith, at-operator .operator .ensures .kept .size, start .pre .whole, start .pre .most)
+dot-requires c κs = omega arith
 
 enum-known-norm : tie.Need-enum-known-norm
 enum-known-norm c = search needs
@@ -80,11 +77,7 @@ returns-2 c =
     (sum-over (at-dot .dot .ensures) (c .before .enum-told .given .1)))
 
 tolerance-for-requires : tie.Need-tolerance-for-requires
-tolerance-for-requires c κs =
-    let at-if1 = c .before .before .before .before .before .before in
-    let at-operator = at-if1 .before .before .before .before in
-    let start = at-operator .before .before .before in
-    omega (arith, at-operator .operator .ensures .kept .size, start .pre .whole, start .pre .most)
+tolerance-for-requires c κs = omega arith
 
 enum-known-tolerance : tie.Need-enum-known-tolerance
 enum-known-tolerance c = search needs
@@ -117,12 +110,7 @@ returns-3 c =
     (λ (x : Float). toleranceFor x (vecAt (at-operator .operator .last .0) RHS (start .args .t .rows))) tenth-14))
 
 copy-requires : tie.Need-copy-requires
-copy-requires c κs =
-    let at-known-told = c .before .before .before .before .before .before in
-    let at-done = at-known-told .before .before .before .before .before .before in
-    let at-operator = at-done .before .before .before in
-    let start = at-operator .before .before .before in
-    omega (arith, at-operator .operator .ensures .kept .size, start .pre .whole, start .pre .most)
+copy-requires c κs = omega arith
 
 search-requires : tie.Need-search-requires
 search-requires c κs =

@@ -31,10 +31,7 @@ returns c =
     (failed _ end (at-done .done .ensures) (at-transpose .transpose .ensures) (c .if1 .taken)))
 
 scale-all-requires : tie.Need-scale-all-requires
-scale-all-requires c κs =
-    let at-transpose = c .before .before .before .before .before in
-    let start = at-transpose .before .before .before in
-    omega (arith, at-transpose .transpose .ensures .kept .size, start .pre .0 .whole, start .pre .0 .bodies)
+scale-all-requires c κs = omega arith
 
 done-requires-2 : tie.Need-done-requires-2
 done-requires-2 c κs = omega arith

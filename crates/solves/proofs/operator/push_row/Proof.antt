@@ -28,9 +28,7 @@ returns c =
     (failed _ (at-push-into .push-into .result) (at-done .done .ensures) (at-push-into .push-into .ensures) (c .if1 .taken)))
 
 push-into-requires-2 : tie.Need-push-into-requires-2
-push-into-requires-2 c κs =
-    let at-push-into = c .before .before .before .before .before in
-    omega (arith, at-push-into .push-into .ensures .kept .size)
+push-into-requires-2 c κs = omega arith
 
 same-length-2 : tie.Need-same-length-2
 same-length-2 c =

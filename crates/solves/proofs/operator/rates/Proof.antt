@@ -96,10 +96,7 @@ add-k c =
     omega (arith, in-loop .loop-test .taken, in-loop .before .before .before .pre .0 .most)
 
 loop-less : tie.Need-loop-less Inv-loop μ-loop
-loop-less c =
-    let at-load-generalized-arg = c .before .before .before .before .before .before in
-    let in-loop = at-load-generalized-arg .before .before .before in
-    omega (arith, in-loop .loop-test .taken)
+loop-less c = omega arith
 
 loop-again : tie.Need-loop-again Inv-loop μ-loop
 loop-again c =

@@ -111,11 +111,7 @@ done-requires : tie.Need-done-requires Inv-loop μ-loop
 done-requires c κs = omega arith
 
 same-length : tie.Need-same-length Inv-loop μ-loop
-same-length c =
-    let at-push-row = c .before .before .before .before in
-    let at-loop = at-push-row .before .before .before .before .before .before in
-    let at-clear = at-loop .before .before .before in
-    omega (arith, at-clear .clear .ensures .kept .size, at-loop .loop .inv .1, at-push-row .push-row .ensures .kept .size)
+same-length c = omega arith
 
 returns : tie.Need-returns Inv-loop μ-loop
 returns c =
@@ -133,18 +129,10 @@ returns c =
     (failed _ end (at-done .done .ensures) (at-push-row .push-row .ensures) (c .if1 .taken))))
 
 add-k : tie.Need-add-k Inv-loop μ-loop
-add-k c =
-    let at-slice-known3 = c .before .before .before .before .before .before in
-    let in-loop = at-slice-known3 .before .before .before in
-    let at-slice-known = in-loop .before .before .before .before .before .before in
-    let start = at-slice-known .before in
-    omega (arith, in-loop .loop-test .taken, start .pre .0 .most)
+add-k c = omega arith
 
 loop-less : tie.Need-loop-less Inv-loop μ-loop
-loop-less c =
-    let at-slice-known3 = c .before .before .before .before .before .before in
-    let in-loop = at-slice-known3 .before .before .before in
-    omega (arith, in-loop .loop-test .taken)
+loop-less c = omega arith
 
 loop-again : tie.Need-loop-again Inv-loop μ-loop
 loop-again c =
@@ -160,9 +148,7 @@ loop-again c =
     )
 
 same-length-2 : tie.Need-same-length-2 Inv-loop μ-loop
-same-length-2 c =
-    let at-clear = c .before .before .before .before in
-    omega (arith, at-clear .clear .ensures .kept .size, c .before .loop .inv .1)
+same-length-2 c = omega arith
 
 returns-2 : tie.Need-returns-2 Inv-loop μ-loop
 returns-2 c =

@@ -43,10 +43,7 @@ returns c =
     (failed _ end (at-done .done .ensures) (at-path-factored .path-factored .ensures) (at-if1 .if1 .taken))))
 
 tolerance-for-requires : tie.Need-tolerance-for-requires
-tolerance-for-requires c κs =
-    let at-path-factored = c .before .before .before .before .before in
-    let start = at-path-factored .before .before .before in
-    omega (arith, at-path-factored .path-factored .ensures .kept .size, start .pre .0 .whole, start .pre .0 .most)
+tolerance-for-requires c κs = omega arith
 
 enum-known-tolerance : tie.Need-enum-known-tolerance
 enum-known-tolerance c = search needs
@@ -77,11 +74,7 @@ returns-2 c =
     (λ (x : Float). toleranceFor x (vecAt (at-path-factored .path-factored .last .0) RHS (start .args .t .rows))) tenth-12))
 
 copy-requires : tie.Need-copy-requires
-copy-requires c κs =
-    let at-if1 = c .before .before .before .before .before .before in
-    let at-path-factored = at-if1 .before .before .before .before in
-    let start = at-path-factored .before .before .before in
-    omega (arith, at-path-factored .path-factored .ensures .kept .size, start .pre .0 .whole, start .pre .0 .most)
+copy-requires c κs = omega arith
 
 refinements-requires : tie.Need-refinements-requires
 refinements-requires c κs =

@@ -69,20 +69,13 @@ returns c =
     (failed _ end (at-done .done .ensures) (at-refine .refine .ensures) (at-if1 .if1 .taken)))))
 
 residual-test-requires : tie.Need-residual-test-requires Inv-loop μ-loop
-residual-test-requires c κs =
-    let at-refine = c .before .before .before .before .before in
-    let at-loop = at-refine .before .before .before in
-    let start = at-loop .before .before in
-    omega (arith, at-refine .refine .ensures .kept .size, at-loop .loop .inv .kept .size, start .pre .0 .whole, start .pre .0 .most)
+residual-test-requires c κs = omega arith
 
 enum-known-end : tie.Need-enum-known-end Inv-loop μ-loop
 enum-known-end c = search needs
 
 add-new : tie.Need-add-new Inv-loop μ-loop
-add-new c =
-    let at-done = c .before .before .before .before .before .before in
-    let in-loop = at-done .before .before .before .before .before in
-    omega (arith, in-loop .loop-test .taken)
+add-new c = omega arith
 
 new-requires-2 : tie.Need-new-requires-2 Inv-loop μ-loop
 new-requires-2 c κs = search needs
@@ -113,16 +106,10 @@ enum-told : tie.Need-enum-told Inv-loop μ-loop
 enum-told c = search needs
 
 add-k : tie.Need-add-k Inv-loop μ-loop
-add-k c =
-    let at-slice-known2 = c .before .before .before .before .before .before in
-    let in-loop = at-slice-known2 .before .before .before .before in
-    omega (arith, in-loop .loop-test .taken)
+add-k c = omega arith
 
 loop-less : tie.Need-loop-less Inv-loop μ-loop
-loop-less c =
-    let at-slice-known2 = c .before .before .before .before .before .before in
-    let in-loop = at-slice-known2 .before .before .before .before in
-    omega (arith, in-loop .loop-test .taken)
+loop-less c = omega arith
 
 loop-again : tie.Need-loop-again Inv-loop μ-loop
 loop-again c =

@@ -75,17 +75,10 @@ returns c =
     (at-limit .limit .ensures)))
 
 add-k : tie.Need-add-k Inv-loop μ-loop
-add-k c =
-    let at-search-pass-arg = c .before .before .before .before .before .before in
-    let in-loop = at-search-pass-arg .before in
-    let start = in-loop .before .before .before .before in
-    omega (arith, in-loop .loop-test .taken, in-loop .before .before .limit .ensures, start .pre .most)
+add-k c = omega arith
 
 loop-less : tie.Need-loop-less Inv-loop μ-loop
-loop-less c =
-    let at-search-pass-arg = c .before .before .before .before .before .before in
-    let in-loop = at-search-pass-arg .before in
-    omega (arith, in-loop .loop-test .taken)
+loop-less c = omega arith
 
 loop-again : tie.Need-loop-again Inv-loop μ-loop
 loop-again c =

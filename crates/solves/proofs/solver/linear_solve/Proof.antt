@@ -9,15 +9,10 @@ use Rattle.solves.proofs.solver.linear_solve.Statement.{statement}
 use Rattle.solves.proofs.solver.linear_solve.Tie as tie
 
 clear-requires : tie.Need-clear-requires
-clear-requires c κs =
-    let start = c .before .before in
-    omega (arith, start .pre .whole, start .pre .most)
+clear-requires c κs = omega arith
 
 copy-requires : tie.Need-copy-requires
-copy-requires c κs =
-    let at-clear = c .before .before .before in
-    let start = at-clear .before .before .before in
-    omega (arith, at-clear .clear .ensures .kept .size, start .pre .whole, start .pre .most)
+copy-requires c κs = omega arith
 
 least-squares-requires : tie.Need-least-squares-requires
 least-squares-requires c κs =
