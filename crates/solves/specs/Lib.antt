@@ -8,6 +8,7 @@ pub mod Search
 pub mod Layout
 pub mod Region
 pub mod View
+pub mod Checked
 pub mod Answer
 pub mod RegionLaws
 pub mod DoesLaws
