@@ -43,7 +43,7 @@ def rod(a, b, length):
 
 
 def plans():
-    # Document 01's example.
+    # The example of SPECIFICATION §15.
     yield "moving", step(1, body(ZERO, [1, 0, 0], mass=2))
     # Turns about an axis of its inertia by a quarter radian: sine and cosine.
     yield "turning", step(0.5, body([1, 2, 3], [0, -4, 0], spin=[0, 0, 0.5], inertia=(4, 4, 1)))

@@ -1,4 +1,4 @@
--- A remainder by d that is doubled n times: what may be taken off before the doubling is done. Assumes nothing.
+-- A remainder by d that is doubled n times: what may be taken off before the doubling is done.
 use mathlib.Core.Path.{_≡_, sym, ap, _∙_}
 use Prim.Native.Nat.{ℕ, _+_, _-_, _*_, _/_, _%_, _^_, _≤_, _<_}
 use native.Mathlib.Nat.{add-mul, mul-assoc, mul-right-comm, mul-add-mod-self-right, div-add-mod'}

@@ -1,5 +1,5 @@
 -- The check of src/near_one.rt: where it says yes, q is nearest to the root (`checked`), and a double from 1 to 2 whose digits are
--- nearest to the root of another's is its square root (`root-of-digits`). Assumes nothing.
+-- nearest to the root of another's is its square root (`root-of-digits`).
 use mathlib.Core.Path.{_≡_, sym, ap, _∙_, subst}
 use mathlib.Core.Bool.{true, not}
 use Prim.Native.Nat.{ℕ, _+_, _-_, _*_, _/_, _%_, _^_, _≤_, _<_}

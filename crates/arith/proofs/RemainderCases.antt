@@ -1,5 +1,4 @@
 -- The cases of `remainder::unsigned_remainder`: an x below TAU, a finite x from TAU on, and no finite x; and an x below 0.
--- Assumes nothing.
 use mathlib.Core.Path.{_≡_, refl, sym, ap, _∙_, subst}
 use mathlib.Core.Bool.{Bool, true, false, not, true≢false}
 use Prim.Native.Nat.{ℕ, zero, suc, _+_, _-_, _*_, _/_, _%_, _^_, _≤_, _<_}

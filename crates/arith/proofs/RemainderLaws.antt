@@ -1,5 +1,5 @@
 -- Laws of `lib.Ieee`'s `rem`, at any format: the remainder of whole numbers of units (`rem-units`), of a smaller magnitude
--- (`rem-small`) and of the value with the other sign (`rem-neg`). Assumes nothing.
+-- (`rem-small`) and of the value with the other sign (`rem-neg`).
 use mathlib.Core.Path.{_≡_, refl, sym, ap, _∙_, subst}
 use mathlib.Core.Bool.{Bool, true, false, cond}
 use Prim.Native.Nat.{ℕ, zero, suc, _+_, _*_, _%_, _^_, _<_}

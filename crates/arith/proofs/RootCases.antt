@@ -1,4 +1,4 @@
--- The cases of `root::sqrt`: which values pass the tests `0.0 < x` and `x == 0.0`, and what their bits are. Assumes nothing.
+-- The cases of `root::sqrt`: which values pass the tests `0.0 < x` and `x == 0.0`, and what their bits are.
 use mathlib.Core.Path.{_≡_, refl, sym, ap, _∙_, subst}
 use mathlib.Core.Bool.{Bool, true, false, not, cond, true≢false}
 use Prim.Native.Nat.{ℕ, zero, suc, _+_, _-_, _*_, _/_, _%_, _≤_, _<_}
@@ -56,7 +56,9 @@ plain-cond false x y h k = k
 plain-minus : (x t : ℕ) → plain (ofFields binary64 true x t) ≡ false
 unfolding ofFields
 plain-minus zero t = plain-odd 53 t 0 1074
-plain-minus (suc x) t = plain-cond (eqb (suc x) 2047) (cond (eqb t 0) (inf true) nan) (odd 53 true (4503599627370496 + t) x 1074) (plain-cond (eqb t 0) (inf true) nan refl refl) (plain-odd 53 (4503599627370496 + t) x 1074)
+plain-minus (suc x) t =
+    plain-cond (eqb (suc x) 2047) (cond (eqb t 0) (inf true) nan) (odd 53 true (4503599627370496 + t) x 1074)
+    (plain-cond (eqb t 0) (inf true) nan refl refl) (plain-odd 53 (4503599627370496 + t) x 1074)
 
 plain-ones : (t : ℕ) → plain (ofFields binary64 false 2047 t) ≡ false
 unfolding ofFields
@@ -72,7 +74,9 @@ plain-high b h = go (leb (top binary64) b) (nleb→lt (top binary64) b)
 
     go : (s : Bool) → (T (not s) → b < top binary64) → plain (ofFields binary64 s (b % top binary64 / hid binary64) (b % hid binary64)) ≡ false
     go true k = plain-minus (b % top binary64 / hid binary64) (b % hid binary64)
-    go false k = ap (λ (x : ℕ). plain (ofFields binary64 false x (b % hid binary64))) (ap (λ (x : ℕ). x / hid binary64) (mod-eq-of-lt (k tt)) ∙ field b h (k tt)) ∙ plain-ones (b % hid binary64)
+    go false k =
+        ap (λ (x : ℕ). plain (ofFields binary64 false x (b % hid binary64)))
+        (ap (λ (x : ℕ). x / hid binary64) (mod-eq-of-lt (k tt)) ∙ field b h (k tt)) ∙ plain-ones (b % hid binary64)
 
 infinite-at : (x : Float) → lt (fin false 0 (pos 0)) x ≡ true → plain x ≡ false → x ≡ sqrt binary64 x
 unfolding lt sqrt
@@ -90,7 +94,8 @@ pub no-nan-bits : (n : ℕ) → n < 9218868437227405312 → T (not (nanBits bina
 no-nan-bits n h =
     subst (λ (b : Bool). T (not b)) (sym (nanBits-above binary64 n))
     (not-T (ltb (ones binary64 * hid binary64) (n % top binary64)) (λ t.
-    not-le-of-lt (lt-of-le-of-lt (mod-le n (top binary64)) h) (le-trans (le-suc 9218868437227405312) (ltb→lt (ones binary64 * hid binary64) (n % top binary64) t))))
+    not-le-of-lt (lt-of-le-of-lt (mod-le n (top binary64)) h)
+    (le-trans (le-suc 9218868437227405312) (ltb→lt (ones binary64 * hid binary64) (n % top binary64) t))))
 
 -- ---- zero, and what is left
 
@@ -103,7 +108,9 @@ invalid = refl
 
 pub above-left : (m : ℕ) (e : ℤ) → lt (fin false 0 (pos 0)) (fin false (suc m) e) ≡ true
 unfolding lt
-above-left m e = ap (λ (x : ℕ). ltb x (suc m * up e * 1)) (zero-mul (down e)) ∙ is-true (ltb 0 (suc m * up e * 1)) (lt→ltb 0 (suc m * up e * 1) (mul-pos (mul-pos (zero-lt-suc m) (up-pos e)) (zero-lt-suc 0)))
+above-left m e =
+    ap (λ (x : ℕ). ltb x (suc m * up e * 1)) (zero-mul (down e))
+    ∙ is-true (ltb 0 (suc m * up e * 1)) (lt→ltb 0 (suc m * up e * 1) (mul-pos (mul-pos (zero-lt-suc m) (up-pos e)) (zero-lt-suc 0)))
 
 nowhere-at : (x : Float) → lt (fin false 0 (pos 0)) x ≡ false → eq x (fin false 0 (pos 0)) ≡ false → nan ≡ sqrt binary64 x
 unfolding sqrt
@@ -114,5 +121,6 @@ nowhere-at (fin s zero e) h k = absurd (true≢false (sym (zero-left e s) ∙ k)
 nowhere-at (fin true (suc m) e) h k = refl
 nowhere-at (fin false (suc m) e) h k = absurd (true≢false (sym (above-left m e) ∙ h))
 
-pub nowhere : (x : Float) → lt (ofBits binary64 0) x ≡ false → eq x (ofBits binary64 0) ≡ false → div binary64 (ofBits binary64 0) (ofBits binary64 0) ≡ sqrt binary64 x
+pub nowhere : (x : Float) → lt (ofBits binary64 0) x ≡ false → eq x (ofBits binary64 0) ≡ false
+    → div binary64 (ofBits binary64 0) (ofBits binary64 0) ≡ sqrt binary64 x
 nowhere x h k = invalid ∙ nowhere-at x (above x false h) (same x false k)

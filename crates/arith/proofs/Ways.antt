@@ -13,7 +13,7 @@ use Rattle.arith.specs.RealLaws.{finite-is, zero-left, not-zero-left, ze
 use Rattle.arith.specs.Laws.Rounding.{round-self}
 use Rattle.exact.specs.Compare.{lt-val, le-val}
 use Rattle.arith.specs.FlowLaws.{not-yes, not-no, cond-yes, cond-no}
-use Prim.Native.Nat.{ℕ, zero, suc, _+_, _*_}
+use Prim.Native.Nat.{ℕ, zero, suc, _+_, _-_, _*_}
 use Rattle.arith.specs.Real.{_⊕_, _⊖_, _⊗_, _⊘_, F, isFinite, absOf}
 use Rattle.arith.specs.Root.{sqrt}
 use Rattle.arith.specs.Hypot.{hypotOf, scaledRoot}
@@ -40,17 +40,23 @@ pub half-turn-is : (x : Float) {s c : Float} → s ≡ sineSum x → c ≡ cosin
 unfolding halfTurn
 half-turn-is x {c = c} e f = ap (λ (s : Float). record { s = s; c = c }) e ∙ ap (λ (c : Float). record { s = sineSum x; c = c }) f
 
-pub turn-none : (x : Float) → halfTurn x ≡ turnOf 0 x
-unfolding turnOf
-turn-none x = refl
+module _ (x : Float) where
+  pub turn-none : {k : ℕ} → k ≡ 0 → halfTurn x ≡ turnOf k x
+  unfolding turnOf
+  turn-none h = ap (λ (k : ℕ). turnOf k x) (sym h)
 
-pub turn-small : (k : ℕ) (x : Float) → Ieee.le x (F 0x3fe0_0000_0000_0000) ≡ true → halfTurn x ≡ turnOf (suc k) x
-unfolding ofBits round turnOf
-turn-small k x h = cond-yes _ _ h
+  pub turn-small : (k : ℕ) → (k ≡ 0 → ⊥) → Ieee.le x (F 0x3fe0_0000_0000_0000) ≡ true → halfTurn x ≡ turnOf k x
+  unfolding ofBits round turnOf
+  turn-small zero n h = absurd (n refl)
+  turn-small (suc k) n h = cond-yes _ _ h
 
-pub turn-large : (k : ℕ) (x : Float) {t : Turn} → Ieee.le x (F 0x3fe0_0000_0000_0000) ≡ false → t ≡ turnOf k (x ⊗ F 0x3fe0_0000_0000_0000) → doubled t ≡ turnOf (suc k) x
-unfolding ofBits round turnOf
-turn-large k x h e = ap doubled e ∙ cond-no _ _ h
+  pub turn-large : (k : ℕ) {t : Turn} → (k ≡ 0 → ⊥) → Ieee.le x (F 0x3fe0_0000_0000_0000) ≡ false
+      → t ≡ turnOf (k - 1) (x ⊗ F 0x3fe0_0000_0000_0000) → doubled t ≡ turnOf k x
+  unfolding ofBits round turnOf
+  turn-large zero n h e = absurd (n refl)
+  turn-large (suc k) n h e =
+      let one-less : suc k - 1 ≡ k = omega arith in
+      ap doubled (e ∙ ap (λ (j : ℕ). turnOf j (x ⊗ F 0x3fe0_0000_0000_0000)) one-less) ∙ cond-no _ _ h
 
 pub sines-low : (h : Float) → Ieee.lt h (F 0) ≡ true → Sines.Refused ≡ sinCosOf h
 unfolding ofBits round sinCosOf
@@ -76,7 +82,8 @@ within-four (fin s m e) =
     let low : not (Ieee.lt h (F 0)) ≡ Ieee.le (F 0) h = ap not (lt-val h (F 0) tt tt) ∙ Bool·not-not _ ∙ sym (le-val (F 0) h tt tt) in
     ap (λ (b : Bool). b && test) low
 
-numbered-turn : (a b : Bool) (t : Turn) → sinCosNumber (cond a Sines.Refused (cond b (Sines.Value t) Sines.Refused)) ≡ cond (not a && b) 0 (number arithmeticOverflow)
+numbered-turn : (a b : Bool) (t : Turn)
+    → sinCosNumber (cond a Sines.Refused (cond b (Sines.Value t) Sines.Refused)) ≡ cond (not a && b) 0 (number arithmeticOverflow)
 numbered-turn true b t = refl
 numbered-turn false true t = refl
 numbered-turn false false t = refl
@@ -172,23 +179,30 @@ finite-no x {big} e h = ap (λ (b : Bool). b && Ieee.lt x big) (sym h) ∙ ap (�
 -- ---- hypot, by the tests on its arguments
 pub hypot-first : (x y : Float) {a : Bool} → a ≡ isFinite x → not a ≡ true → inf false ≡ hypotOf x y
 unfolding hypotOf
-hypot-first x y e h = ap (λ (b : Bool). cond (b && isFinite y) (cond (Ieee.lt (absOf x) (absOf y)) (scaledRoot (absOf y) (absOf x)) (scaledRoot (absOf x) (absOf y))) (inf false)) (sym (not-yes _ h) ∙ e)
+hypot-first x y e h =
+    ap (λ (b : Bool). cond (b && isFinite y) (cond (Ieee.lt (absOf x) (absOf y)) (scaledRoot (absOf y) (absOf x)) (scaledRoot (absOf x) (absOf y)))
+    (inf false)) (sym (not-yes _ h) ∙ e)
 
 pub hypot-second : (x y : Float) {a b : Bool} → a ≡ isFinite x → not a ≡ false → b ≡ isFinite y → not b ≡ true → inf false ≡ hypotOf x y
 unfolding hypotOf
 hypot-second x y e h f g = cond-no _ _ (ap (λ (b : Bool). b && isFinite y) (sym e ∙ not-no _ h) ∙ sym f ∙ not-yes _ g)
 
-module _ (x y : Float) {a b : Bool} {p q : Float} (e : a ≡ isFinite x) (h : not a ≡ false) (f : b ≡ isFinite y) (g : not b ≡ false) (i : p ≡ absOf x) (j : q ≡ absOf y) where
+module _ (x y : Float) {a b : Bool} {p q : Float} (e : a ≡ isFinite x) (h : not a ≡ false)
+    (f : b ≡ isFinite y) (g : not b ≡ false) (i : p ≡ absOf x) (j : q ≡ absOf y) where
   both : isFinite x && isFinite y ≡ true
   both = ap (λ (b : Bool). b && isFinite y) (sym e ∙ not-no _ h) ∙ sym f ∙ not-no _ g
 
   pub hypot-less : {r : Float} → Ieee.lt p q ≡ true → r ≡ scaledRoot q p → r ≡ hypotOf x y
   unfolding hypotOf
-  hypot-less t k = k ∙ cond-yes _ _ t ∙ ap (λ (p : Float). cond (Ieee.lt p q) (scaledRoot q p) (scaledRoot p q)) i ∙ ap (λ (q : Float). cond (Ieee.lt (absOf x) q) (scaledRoot q (absOf x)) (scaledRoot (absOf x) q)) j ∙ cond-yes _ _ both
+  hypot-less t k =
+      k ∙ cond-yes _ _ t ∙ ap (λ (p : Float). cond (Ieee.lt p q) (scaledRoot q p) (scaledRoot p q)) i
+      ∙ ap (λ (q : Float). cond (Ieee.lt (absOf x) q) (scaledRoot q (absOf x)) (scaledRoot (absOf x) q)) j ∙ cond-yes _ _ both
 
   pub hypot-more : {r : Float} → Ieee.lt p q ≡ false → r ≡ scaledRoot p q → r ≡ hypotOf x y
   unfolding hypotOf
-  hypot-more t k = k ∙ cond-no _ _ t ∙ ap (λ (p : Float). cond (Ieee.lt p q) (scaledRoot q p) (scaledRoot p q)) i ∙ ap (λ (q : Float). cond (Ieee.lt (absOf x) q) (scaledRoot q (absOf x)) (scaledRoot (absOf x) q)) j ∙ cond-yes _ _ both
+  hypot-more t k =
+      k ∙ cond-no _ _ t ∙ ap (λ (p : Float). cond (Ieee.lt p q) (scaledRoot q p) (scaledRoot p q)) i
+      ∙ ap (λ (q : Float). cond (Ieee.lt (absOf x) q) (scaledRoot q (absOf x)) (scaledRoot (absOf x) q)) j ∙ cond-yes _ _ both
 
 -- ---- arc tangent
 pub half-tangent-is : (q : Float) {s : Float} → s ≡ sqrt binary64 (F 0x3ff0_0000_0000_0000 ⊕ q ⊗ q) → q ⊘ (F 0x3ff0_0000_0000_0000 ⊕ s) ≡ halfTangent q

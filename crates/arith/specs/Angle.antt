@@ -1,4 +1,4 @@
--- Sine and cosine of an angle from 0 to 4, the arc tangent of a quotient and the remainder by a whole turn, by document 01's words.
+-- Sine and cosine of an angle from 0 to 4, the arc tangent of a quotient and the remainder by a whole turn: SPECIFICATION §2.3 to §2.5.
 use lib.Ieee as Ieee
 use lib.Ieee.{Float, binary64, neg}
 use mathlib.Core.Path.{_≡_}
@@ -41,12 +41,14 @@ minus n = neg (ratio 1 n)
 -- x - x³/3! + .. + x¹³/13!: Horner in x², then times x
 unfoldable pub sineSum : Float → Float
 sineSum x =
-    horner (x ⊗ x) (plus (factorial 13)) (minus (factorial 11) ∷ plus (factorial 9) ∷ minus (factorial 7) ∷ plus (factorial 5) ∷ minus (factorial 3) ∷ plus 1 ∷ []) ⊗ x
+    horner (x ⊗ x) (plus (factorial 13))
+    (minus (factorial 11) ∷ plus (factorial 9) ∷ minus (factorial 7) ∷ plus (factorial 5) ∷ minus (factorial 3) ∷ plus 1 ∷ []) ⊗ x
 
 -- 1 - x²/2! + .. - x¹⁴/14!
 unfoldable pub cosineSum : Float → Float
 cosineSum x =
-    horner (x ⊗ x) (minus (factorial 14)) (plus (factorial 12) ∷ minus (factorial 10) ∷ plus (factorial 8) ∷ minus (factorial 6) ∷ plus (factorial 4) ∷ minus (factorial 2) ∷ plus 1 ∷ [])
+    horner (x ⊗ x) (minus (factorial 14))
+    (plus (factorial 12) ∷ minus (factorial 10) ∷ plus (factorial 8) ∷ minus (factorial 6) ∷ plus (factorial 4) ∷ minus (factorial 2) ∷ plus 1 ∷ [])
 
 unfoldable pub halfTurn : Float → Turn
 halfTurn x = record { s = sineSum x; c = cosineSum x }
@@ -64,7 +66,7 @@ turnOf (suc k) x = cond (Ieee.le x (ratio 1 2)) (halfTurn x) (doubled (turnOf k 
 unfoldable pub sinCosOf : Float → SinCos
 sinCosOf h = cond (Ieee.lt h (ratio 0 1)) Sines.Refused (cond (Ieee.le h (ratio 4 1)) (Sines.Value (turnOf 3 h)) Sines.Refused)
 
--- document 01's number of an answer: 0 for a value
+-- the number of an answer (SPECIFICATION §1.5): 0 for a value
 abbrev pub sinCosNumber : SinCos → ℕ
 sinCosNumber (Sines.Value t) = 0
 sinCosNumber Sines.Refused = number arithmeticOverflow

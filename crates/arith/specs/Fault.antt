@@ -1,4 +1,4 @@
--- How a call of the solver fails, as far as the Rust's CollisionError occurs, with document 01's number of each.
+-- How a call of the solver fails, as far as the Rust's CollisionError occurs, with the number of each (SPECIFICATION §7.2).
 use Prim.Native.Nat.{ℕ}
 
 pub data Fault : Type 0 where

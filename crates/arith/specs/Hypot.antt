@@ -1,4 +1,4 @@
--- The hypotenuse, by document 01's words.
+-- The hypotenuse: SPECIFICATION §2.2.
 use lib.Ieee as Ieee
 use lib.Ieee.{Float, inf, binary64}
 use mathlib.Core.Bool.{false, cond, _&&_}

@@ -40,7 +40,9 @@ zero-left e s = go (0 * up e * 1) (0 * 1 * down e) (ap (λ (x : ℕ). x * 1) (ze
     or-true false = refl
 
     go : (a b : ℕ) → a ≡ 0 → b ≡ 0 → (eqb a b && (Bool·beq s false || eqb a 0)) ≡ true
-    go a b p q = ap (λ (x : ℕ). eqb x b && (Bool·beq s false || eqb x 0)) p ∙ ap (λ (x : ℕ). eqb 0 x && (Bool·beq s false || true)) q ∙ or-true (Bool·beq s false)
+    go a b p q =
+        ap (λ (x : ℕ). eqb x b && (Bool·beq s false || eqb x 0)) p
+        ∙ ap (λ (x : ℕ). eqb 0 x && (Bool·beq s false || true)) q ∙ or-true (Bool·beq s false)
 
 pub not-zero-left : (m : ℕ) (e : ℤ) (s : Bool) → eq (fin s (suc m) e) (fin false 0 (pos 0)) ≡ false
 unfolding eq

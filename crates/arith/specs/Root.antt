@@ -1,7 +1,7 @@
 -- The square root by its digits, in the manner of `lib.Ieee`. Definitions only. That `sqrt binary64` is IEEE 754's squareRoot, said in
 -- fractions in `SquareRoot`, is proved (Laws/SquareRoot.antt `square-root`).
 -- `root n` is the largest r with r * r ≤ n (`root-is`). `sqrt f x` is the value of the format f that is nearest to the square root of x, a
--- tie to the even one: NaN and what is below zero give `nan`, and ±0 and +infinity give themselves. Assumes nothing.
+-- tie to the even one: NaN and what is below zero give `nan`, and ±0 and +infinity give themselves.
 use Prim.Native.Nat.{ℕ, zero, suc, _+_, _-_, _*_, _/_, _^_, _<_, _≤_, compare}
 use mathlib.Core.Bool.{false, cond}
 use lib.Dec.{leb}

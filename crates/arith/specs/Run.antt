@@ -1,6 +1,7 @@
 -- A run with its two counters. `Run A E` is a Turn that counted: `go a` or `stop e`, with the nonlinear passes begun and the linear passes
 -- counted on the way.
--- In a `do` block of a file that imports these `_>>=_` and `_>>_`, `x ← e` is `let x = e?` and the counts add up; a failure leaves with the counts as they stand.
+-- In a `do` block of a file that imports these `_>>=_` and `_>>_`, `x ← e` is `let x = e?` and the counts add up; a failure leaves with the
+-- counts as they stand.
 use Prim.Native.Nat.{ℕ, zero, suc, _+_}
 use mathlib.Core.Bool.{Bool, cond}
 use Rattle.arith.specs.Flow.{Turn, go, stop}

@@ -5,7 +5,7 @@ use mathlib.Core.Bool.{Bool, true, false}
 use native.Mathlib.Nat.{zero-add, add-assoc}
 use native.Mathlib.Omega.{arith}
 use Rattle.arith.specs.Flow.{Turn, go, stop}
-use Rattle.arith.specs.Run.{Run, ran, after, fail, try, onward, _>>=_, failIf, leave, leaveIf, over, next, upTo}
+use Rattle.arith.specs.Run.{Run, ran, after, fail, try, onward, _>>=_, _>>_, tick, failIf, leave, leaveIf, over, next, upTo}
 
 -- equal in its three parts
 pub run-is : {A E : Type 0} {t : Turn A E} {n m l k : ℕ} → n ≡ m → l ≡ k → ran t n l ≡ ran t m k
@@ -37,6 +37,11 @@ module _ {A B E : Type 0} where
   unfolding _>>=_
   try-stop f e = ap (λ (r : Turn A E). try r >>= f) e
 
+-- linear_iterations += 1, before the rest
+pub ticks : {A E : Type 0} (r : Run A E) → after 0 1 r ≡ (tick >> r)
+unfolding _>>=_
+ticks r = refl
+
 module _ {A E : Type 0} {test : Bool} (e : E) (f : Unit {0} → Run A E) where
   pub fail-yes : test ≡ true → fail e ≡ (failIf test e >>= f)
   unfolding _>>=_ failIf
@@ -54,6 +59,7 @@ module _ {A B E : Type 0} {test : Bool} (b : B) (rest : Run (Turn A B) E) where
   pub leave-no : test ≡ false → rest ≡ leaveIf test b rest
   unfolding leaveIf
   leave-no h = ap (λ (test : Bool). leaveIf test b rest) (sym h)
+
 -- ---- the loop law. Before turn k stands a, after n nonlinear and l linear passes: the loop comes to what is left of it from there
 module _ {A B E : Type 0} (most : ℕ) (e : E) (pass : A → Run (Turn A B) E) (start : A) where
   pub record Reached (k : ℕ) (a : A) (n l : ℕ) : Type 0 where

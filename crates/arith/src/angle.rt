@@ -86,35 +86,17 @@ fn doubled(t: Turn) -> Turn
     }
 }
 
-// Angles up to 1, up to 2, and up to 4: one more halving and doubling each.
-fn turn_to_one(x: f64) -> Turn
-    ensures { λ r. ⌜ r ≡ turnOf 1 x ⌝ }
+// The angle halved until it is at most 0.5, but at most `halvings` times; each halving is undone by a doubling.
+fn halved(halvings: usize, x: f64) -> Turn
+    ensures { λ r. ⌜ r ≡ turnOf halvings x ⌝ }
 {
-    if x <= 0.5 {
-        half_turn(x)
-    } else {
-        doubled(half_turn(x * 0.5))
+    if halvings == 0 {
+        return half_turn(x);
     }
-}
-
-fn turn_to_two(x: f64) -> Turn
-    ensures { λ r. ⌜ r ≡ turnOf 2 x ⌝ }
-{
     if x <= 0.5 {
-        half_turn(x)
-    } else {
-        doubled(turn_to_one(x * 0.5))
+        return half_turn(x);
     }
-}
-
-fn turn_to_four(x: f64) -> Turn
-    ensures { λ r. ⌜ r ≡ turnOf 3 x ⌝ }
-{
-    if x <= 0.5 {
-        half_turn(x)
-    } else {
-        doubled(turn_to_two(x * 0.5))
-    }
+    doubled(halved(halvings - 1, x * 0.5))
 }
 
 pub fn sin_cos(h: f64) -> SinCos
@@ -124,7 +106,7 @@ pub fn sin_cos(h: f64) -> SinCos
         return SinCos::Refused;
     }
     if h <= 4.0 {
-        return SinCos::Value(turn_to_four(h));
+        return SinCos::Value(halved(3, h));
     }
     SinCos::Refused
 }

@@ -3,7 +3,7 @@
 use crate::root::sqrt;
 ghost use mathlib.Core.Path.{_≡_};
 ghost use mathlib.Core.Bool.{true};
-ghost use Prim.Native.Nat.{_*_, _^_, _≤_, _<_};
+ghost use Prim.Native.Nat.{_*_, _^_, _<_};
 ghost use lib.Ieee.{binary64};
 ghost use Rattle.arith.specs.Root as Root;
 ghost use Rattle.arith.specs.Root.{NearRoot};

@@ -7,7 +7,7 @@ ghost use Rattle.arith.specs.Root as Root;
 ghost use Rattle.arith.specs.Hypot.{hypotOf};
 ghost use Rattle.arith.specs.Angle.{sinCosOf, atan2Of, remTauOf};
 ghost use Rattle.io.specs.Counts.{Counts};
-ghost use Rattle.plan.specs.Pose as Pose;
+ghost use Rattle.report.specs.Pose as Pose;
 ghost use Rattle.bench_c.specs.Exported.{sineIn, cosineIn, angleIn};
 
 #[no_mangle]
@@ -68,5 +68,5 @@ pub extern "C" fn pose_report(file: &[u8], out: &mut [u8]) -> usize
     ensures { λ _. ⌜ now (out .exit) ≡ Pose.poseOut (now (file .entry)) Pose.fresh (now (out .entry)) ⌝ }
 {
     let mut scratch = [0.0f64; 6144];
-    plan::pose(file, &mut scratch, out)
+    report::pose(file, &mut scratch, out)
 }

@@ -52,7 +52,9 @@ mulUp a b = a * b / U + 1
 
 pub iv-mul : (a b : ℕ) → iv a *q iv b ≤q iv (mulUp a b)
 unfolding iv
-iv-mul a b = subst (λ z. z ≤q mk (ivF (mulUp a b))) (sym (*q-mk (ivF a) (ivF b))) (≤-mk (mulF (ivF a) (ivF b)) (ivF (mulUp a b)) (core (a * b) (a * b / U) U (lt-div-mul-add U-pos) a b refl))
+iv-mul a b =
+    subst (λ z. z ≤q mk (ivF (mulUp a b))) (sym (*q-mk (ivF a) (ivF b)))
+    (≤-mk (mulF (ivF a) (ivF b)) (ivF (mulUp a b)) (core (a * b) (a * b / U) U (lt-div-mul-add U-pos) a b refl))
   where
     core : (c q u : ℕ) → c < q * u + u → (a b : ℕ) → a * b ≡ c → (a * b + 0 * 0) * u + 0 * (u * u) ≤ (q + 1) * (u * u) + (a * 0 + 0 * b) * u
     core c q u h a b e = omega (arith, mul-le-mul-right u (le-of-lt h), ap (λ (x : ℕ). x * u) e)
@@ -95,8 +97,10 @@ pub abs-add : (x y : ℚ) (a b : ℕ) → Abs x a → Abs y b → Abs (x +q y) (
 unfolding same
 abs-add x y a b h k =
     let ρ = iv a ∷ iv b ∷ x ∷ y ∷ [] in (
-      subst 0≤ (ring ρ ((var 0 :- var 2) :+ (var 1 :- var 3)) ((var 0 :+ var 1) :- (var 2 :+ var 3)) tt ∙ ap (λ z. z -q (x +q y)) (sym (iv-add a b))) (0≤-add (iv a -q x) (iv b -q y) (h .0) (k .0)),
-      subst 0≤ (ring ρ ((var 0 :+ var 2) :+ (var 1 :+ var 3)) ((var 0 :+ var 1) :+ (var 2 :+ var 3)) tt ∙ ap (λ z. z +q (x +q y)) (sym (iv-add a b))) (0≤-add (iv a +q x) (iv b +q y) (h .1) (k .1)),
+      subst 0≤ (ring ρ ((var 0 :- var 2) :+ (var 1 :- var 3)) ((var 0 :+ var 1) :- (var 2 :+ var 3)) tt ∙ ap (λ z. z -q (x +q y)) (sym (iv-add a b)))
+          (0≤-add (iv a -q x) (iv b -q y) (h .0) (k .0)),
+      subst 0≤ (ring ρ ((var 0 :+ var 2) :+ (var 1 :+ var 3)) ((var 0 :+ var 1) :+ (var 2 :+ var 3)) tt ∙ ap (λ z. z +q (x +q y)) (sym (iv-add a b)))
+          (0≤-add (iv a +q x) (iv b +q y) (h .1) (k .1)),
     )
 
 pub abs-sub : (x y : ℚ) (a b : ℕ) → Abs x a → Abs y b → Abs (x -q y) (a + b)
@@ -110,10 +114,14 @@ abs-mul x y a b h k =
     let m = ≤q-sub (A *q B) (iv (mulUp a b)) (iv-mul a b) in
     let u = 0≤-add ((A -q x) *q (B +q y)) ((A +q x) *q (B -q y)) (0≤-mul (A -q x) (B +q y) (h .0) (k .1)) (0≤-mul (A +q x) (B -q y) (h .1) (k .0)) in
     let v = 0≤-add ((A -q x) *q (B -q y)) ((A +q x) *q (B +q y)) (0≤-mul (A -q x) (B -q y) (h .0) (k .0)) (0≤-mul (A +q x) (B +q y) (h .1) (k .1)) in
-    let u' = halve (A *q B -q x *q y) (subst 0≤ (ring ρ ((var 0 :- var 2) :* (var 1 :+ var 3) :+ (var 0 :+ var 2) :* (var 1 :- var 3)) (con 2 :* (var 0 :* var 1 :- var 2 :* var 3)) tt) u) in
-    let v' = halve (A *q B +q x *q y) (subst 0≤ (ring ρ ((var 0 :- var 2) :* (var 1 :- var 3) :+ (var 0 :+ var 2) :* (var 1 :+ var 3)) (con 2 :* (var 0 :* var 1 :+ var 2 :* var 3)) tt) v) in (
-      subst 0≤ (ring ρ (var 0 :* var 1 :- var 2 :* var 3 :+ (var 4 :- var 0 :* var 1)) (var 4 :- var 2 :* var 3) tt) (0≤-add (A *q B -q x *q y) (iv (mulUp a b) -q A *q B) u' m),
-      subst 0≤ (ring ρ (var 0 :* var 1 :+ var 2 :* var 3 :+ (var 4 :- var 0 :* var 1)) (var 4 :+ var 2 :* var 3) tt) (0≤-add (A *q B +q x *q y) (iv (mulUp a b) -q A *q B) v' m),
+    let u' = halve (A *q B -q x *q y) (subst 0≤
+    (ring ρ ((var 0 :- var 2) :* (var 1 :+ var 3) :+ (var 0 :+ var 2) :* (var 1 :- var 3)) (con 2 :* (var 0 :* var 1 :- var 2 :* var 3)) tt) u) in
+    let v' = halve (A *q B +q x *q y) (subst 0≤
+    (ring ρ ((var 0 :- var 2) :* (var 1 :- var 3) :+ (var 0 :+ var 2) :* (var 1 :+ var 3)) (con 2 :* (var 0 :* var 1 :+ var 2 :* var 3)) tt) v) in (
+      subst 0≤ (ring ρ (var 0 :* var 1 :- var 2 :* var 3 :+ (var 4 :- var 0 :* var 1)) (var 4 :- var 2 :* var 3) tt)
+          (0≤-add (A *q B -q x *q y) (iv (mulUp a b) -q A *q B) u' m),
+      subst 0≤ (ring ρ (var 0 :* var 1 :+ var 2 :* var 3 :+ (var 4 :- var 0 :* var 1)) (var 4 :+ var 2 :* var 3) tt)
+          (0≤-add (A *q B +q x *q y) (iv (mulUp a b) -q A *q B) v' m),
     )
 
 -- ---- quotients by what is at least l / U
@@ -133,7 +141,9 @@ divUp a l = a * U / l + 1
 
 iv-div : (a l : ℕ) → 0 < l → iv a ≤q iv l *q iv (divUp a l)
 unfolding iv
-iv-div a l p = subst (λ z. mk (ivF a) ≤q z) (sym (*q-mk (ivF l) (ivF (divUp a l)))) (≤-mk (ivF a) (mulF (ivF l) (ivF (divUp a l))) (core (a * U) (a * U / l) U (lt-div-mul-add p) a l refl))
+iv-div a l p =
+    subst (λ z. mk (ivF a) ≤q z) (sym (*q-mk (ivF l) (ivF (divUp a l))))
+    (≤-mk (ivF a) (mulF (ivF l) (ivF (divUp a l))) (core (a * U) (a * U / l) U (lt-div-mul-add p) a l refl))
   where
     core : (c q u : ℕ) (h : c < q * l + l) (a l' : ℕ) → a * u ≡ c → a * (u * u) + (l * 0 + 0 * (q + 1)) * u ≤ (l * (q + 1) + 0 * 0) * u + 0 * (u * u)
     core c q u h a l' e = omega (arith, mul-le-mul-right u (le-of-lt h), ap (λ (x : ℕ). x * u) e)
@@ -151,6 +161,8 @@ abs-div x y a l p h g =
     let v = 0≤-add ((y -q L) *q C +q (L *q C -q A)) (A +q x) r (h .1) in
     let e = sym (inv-ok y P) in
     let X = var 2 in let Y = var 0 in let c = var 1 in let Z = var 3 in let k = var 4 in let b = var 5 in (
-      cancel-nn y (C -q x *q inv y) P (subst 0≤ (ring ρ ((Y :- k) :* c :+ (k :* c :- b) :+ (b :- X)) (Y :* c :- X :* con 1) tt ∙ ap (λ o. y *q C -q x *q o) e ∙ ring ρ (Y :* c :- X :* (Y :* Z)) (Y :* (c :- X :* Z)) tt) u),
-      cancel-nn y (C +q x *q inv y) P (subst 0≤ (ring ρ ((Y :- k) :* c :+ (k :* c :- b) :+ (b :+ X)) (Y :* c :+ X :* con 1) tt ∙ ap (λ o. y *q C +q x *q o) e ∙ ring ρ (Y :* c :+ X :* (Y :* Z)) (Y :* (c :+ X :* Z)) tt) v),
+      cancel-nn y (C -q x *q inv y) P (subst 0≤ (ring ρ ((Y :- k) :* c :+ (k :* c :- b) :+ (b :- X)) (Y :* c :- X :* con 1) tt
+          ∙ ap (λ o. y *q C -q x *q o) e ∙ ring ρ (Y :* c :- X :* (Y :* Z)) (Y :* (c :- X :* Z)) tt) u),
+      cancel-nn y (C +q x *q inv y) P (subst 0≤ (ring ρ ((Y :- k) :* c :+ (k :* c :- b) :+ (b :+ X)) (Y :* c :+ X :* con 1) tt
+          ∙ ap (λ o. y *q C +q x *q o) e ∙ ring ρ (Y :* c :+ X :* (Y :* Z)) (Y :* (c :+ X :* Z)) tt) v),
     )

@@ -95,8 +95,11 @@ den-nn ρ H h (num a b) = over-nn a b
 den-nn ρ H h (c ⊞ d) = 0≤-add (evR ρ (den H c)) (evR ρ (den H d)) (den-nn ρ H h c) (den-nn ρ H h d)
 den-nn ρ H h (c ⊠ d) = 0≤-mul (evR ρ (den H c)) (evR ρ (den H d)) (den-nn ρ H h c) (den-nn ρ H h d)
 
-pub by-cert : (ρ : List ℚ) (E : List (Rx × Rx)) → Eqs ρ E → (H : List Rx) → Nns ρ H → (cs : List Rx) (c : Ct) (a b : Rx) → T (sameQ ρ (b ⊖ a) (den H c ⊕ comb E cs)) → evR ρ a ≤q evR ρ b
-by-cert ρ E e H h cs c a b t = sub-≤q (evR ρ a) (evR ρ b) (subst 0≤ (sym (ringQ ρ (b ⊖ a) (den H c ⊕ comb E cs) t ∙ ap (λ z. evR ρ (den H c) +q z) (comb-zero ρ E e cs) ∙ +q-zero (evR ρ (den H c)))) (den-nn ρ H h c))
+pub by-cert : (ρ : List ℚ) (E : List (Rx × Rx)) → Eqs ρ E → (H : List Rx) → Nns ρ H
+    → (cs : List Rx) (c : Ct) (a b : Rx) → T (sameQ ρ (b ⊖ a) (den H c ⊕ comb E cs)) → evR ρ a ≤q evR ρ b
+by-cert ρ E e H h cs c a b t =
+    sub-≤q (evR ρ a) (evR ρ b) (subst 0≤ (sym (ringQ ρ (b ⊖ a) (den H c ⊕ comb E cs) t
+    ∙ ap (λ z. evR ρ (den H c) +q z) (comb-zero ρ E e cs) ∙ +q-zero (evR ρ (den H c)))) (den-nn ρ H h c))
 
 -- ---- a bound on a polynomial
 abbrev pub Within : List ℚ → List ℕ → Type 0
@@ -178,5 +181,8 @@ bound σ β h e N t = go (bnd β e) (bnd-ok σ β h e) t
     go : (o : Bn) → Holds (evR σ e) o → T (fits o && leb (top o) N) → Abs (evR σ e) N
     go (bn m o) k t = let s = and-both o (leb m N) t in abs-mono (evR σ e) m N (leb→le m N (s .1)) (k (s .0))
 
-pub by-nn : (ρ : List ℚ) (E : List (Rx × Rx)) → Eqs ρ E → (H : List Rx) → Nns ρ H → (cs : List Rx) (c : Ct) (a : Rx) → T (sameQ ρ a (den H c ⊕ comb E cs)) → 0≤ (evR ρ a)
-by-nn ρ E e H h cs c a t = subst 0≤ (sym (ringQ ρ a (den H c ⊕ comb E cs) t ∙ ap (λ z. evR ρ (den H c) +q z) (comb-zero ρ E e cs) ∙ +q-zero (evR ρ (den H c)))) (den-nn ρ H h c)
+pub by-nn : (ρ : List ℚ) (E : List (Rx × Rx)) → Eqs ρ E → (H : List Rx) → Nns ρ H
+    → (cs : List Rx) (c : Ct) (a : Rx) → T (sameQ ρ a (den H c ⊕ comb E cs)) → 0≤ (evR ρ a)
+by-nn ρ E e H h cs c a t =
+    subst 0≤
+    (sym (ringQ ρ a (den H c ⊕ comb E cs) t ∙ ap (λ z. evR ρ (den H c) +q z) (comb-zero ρ E e cs) ∙ +q-zero (evR ρ (den H c)))) (den-nn ρ H h c)

@@ -144,8 +144,12 @@ finish : (z : Float) (v x : ℚ) (m e f : ℕ) (o : Bool) → Abs x m → Abs (v
 unfolding rounded limit same
 finish z v x m e f o h k t r =
     let s = split o (limit f) t in
-    let w = r (leb→le f (U * huge) (s .1)) in
-    (w .0, h, abs-eq ((v -q x) +q (val z -q v)) (val z -q x) (e + rnd f) (ring (val z ∷ v ∷ x ∷ []) ((var 1 :- var 2) :+ (var 0 :- var 1)) (var 0 :- var 2) tt) (abs-add (v -q x) (val z -q v) e (rnd f) k (w .1)))
+    let w = r (leb→le f (U * huge) (s .1)) in (
+      w .0,
+      h,
+      abs-eq ((v -q x) +q (val z -q v)) (val z -q x) (e + rnd f)
+          (ring (val z ∷ v ∷ x ∷ []) ((var 1 :- var 2) :+ (var 0 :- var 1)) (var 0 :- var 2) tt) (abs-add (v -q x) (val z -q v) e (rnd f) k (w .1)),
+    )
 
 add-rel : (f g : Float) (x y : ℚ) (a b : Bd) → T (ok (addB a b)) → (T (ok a) → Rel f x a) → (T (ok b) → Rel g y b) → Rel (add binary64 f g) (x +q y) (addB a b)
 unfolding addB rounded same
@@ -154,7 +158,8 @@ add-rel f g x y (bd m e o) (bd n d p) t ha hb =
     let s' = split o p (s .0) in
     let A = ha (s' .0) in let B = hb (s' .1) in
     let ρ = val f ∷ val g ∷ x ∷ y ∷ [] in
-    let D = abs-eq ((val f -q x) +q (val g -q y)) (val f +q val g -q (x +q y)) (e + d) (ring ρ ((var 0 :- var 2) :+ (var 1 :- var 3)) (var 0 :+ var 1 :- (var 2 :+ var 3)) tt) (abs-add (val f -q x) (val g -q y) e d (A .2) (B .2)) in
+    let D = abs-eq ((val f -q x) +q (val g -q y)) (val f +q val g -q (x +q y)) (e + d)
+    (ring ρ ((var 0 :- var 2) :+ (var 1 :- var 3)) (var 0 :+ var 1 :- (var 2 :+ var 3)) tt) (abs-add (val f -q x) (val g -q y) e d (A .2) (B .2)) in
     let X = abs-add x y m n (A .1) (B .1) in
     finish (add binary64 f g) (val f +q val g) (x +q y) (m + n) (e + d) (m + n + (e + d)) (o && p) X D t
     (add-err f g (m + n + (e + d)) (A .0) (B .0) (own (val f +q val g) (x +q y) (m + n) (e + d) X D))
@@ -166,7 +171,8 @@ sub-rel f g x y (bd m e o) (bd n d p) t ha hb =
     let s' = split o p (s .0) in
     let A = ha (s' .0) in let B = hb (s' .1) in
     let ρ = val f ∷ val g ∷ x ∷ y ∷ [] in
-    let D = abs-eq ((val f -q x) -q (val g -q y)) (val f -q val g -q (x -q y)) (e + d) (ring ρ ((var 0 :- var 2) :- (var 1 :- var 3)) (var 0 :- var 1 :- (var 2 :- var 3)) tt) (abs-sub (val f -q x) (val g -q y) e d (A .2) (B .2)) in
+    let D = abs-eq ((val f -q x) -q (val g -q y)) (val f -q val g -q (x -q y)) (e + d)
+    (ring ρ ((var 0 :- var 2) :- (var 1 :- var 3)) (var 0 :- var 1 :- (var 2 :- var 3)) tt) (abs-sub (val f -q x) (val g -q y) e d (A .2) (B .2)) in
     let X = abs-sub x y m n (A .1) (B .1) in
     finish (sub binary64 f g) (val f -q val g) (x -q y) (m + n) (e + d) (m + n + (e + d)) (o && p) X D t
     (sub-err f g (m + n + (e + d)) (A .0) (B .0) (own (val f -q val g) (x -q y) (m + n) (e + d) X D))
@@ -182,8 +188,10 @@ mul-rel f g x y (bd m e o) (bd n d p) t ha hb =
     let ρ = val f ∷ val g ∷ x ∷ y ∷ [] in
     let Fa = own (val f) x m e (A .1) (A .2) in
     let Ga = own (val g) y n d (B .1) (B .2) in
-    let D = abs-eq (val f *q (val g -q y) +q (val f -q x) *q y) (val f *q val g -q x *q y) E (ring ρ (var 0 :* (var 1 :- var 3) :+ (var 0 :- var 2) :* var 3) (var 0 :* var 1 :- var 2 :* var 3) tt)
-    (abs-add (val f *q (val g -q y)) ((val f -q x) *q y) (mulUp (m + e) d) (mulUp e n) (abs-mul (val f) (val g -q y) (m + e) d Fa (B .2)) (abs-mul (val f -q x) y e n (A .2) (B .1))) in
+    let D = abs-eq (val f *q (val g -q y) +q (val f -q x) *q y) (val f *q val g -q x *q y) E
+    (ring ρ (var 0 :* (var 1 :- var 3) :+ (var 0 :- var 2) :* var 3) (var 0 :* var 1 :- var 2 :* var 3) tt)
+    (abs-add (val f *q (val g -q y)) ((val f -q x) *q y) (mulUp (m + e) d) (mulUp e n)
+    (abs-mul (val f) (val g -q y) (m + e) d Fa (B .2)) (abs-mul (val f -q x) y e n (A .2) (B .1))) in
     finish (mul binary64 f g) (val f *q val g) (x *q y) (mulUp m n) E F (o && p) (abs-mul x y m n (A .1) (B .1)) D t
     (mul-err f g F (A .0) (B .0) (abs-mul (val f) (val g) (m + e) (n + d) Fa Ga))
 
@@ -194,7 +202,8 @@ lower g y l d h k a =
     let e : iv l ≡ iv (l - d) +q iv d = ap iv (omega arith) ∙ iv-add (l - d) d in
     let s = ≤q-sub (iv l) y k in
     let u = 0≤-add (y -q iv l) (iv d +q (g -q y)) s (a .1) in
-    sub-≤q (iv (l - d)) g (subst 0≤ (ap (λ z. y -q z +q (iv d +q (g -q y))) e ∙ ring (g ∷ y ∷ iv (l - d) ∷ iv d ∷ []) (var 1 :- (var 2 :+ var 3) :+ (var 3 :+ (var 0 :- var 1))) (var 0 :- var 2) tt) u)
+    sub-≤q (iv (l - d)) g (subst 0≤ (ap (λ z. y -q z +q (iv d +q (g -q y))) e
+    ∙ ring (g ∷ y ∷ iv (l - d) ∷ iv d ∷ []) (var 1 :- (var 2 :+ var 3) :+ (var 3 :+ (var 0 :- var 1))) (var 0 :- var 2) tt) u)
 
 gap : (d l : ℕ) → d < l → 0 < l - d
 gap d l h = omega arith
@@ -212,7 +221,8 @@ quotients f g x y i j a b =
     ∙ ap₂ (λ u v. f *q i -q x *q j *q u +q x *q i *q v -q x *q i) a b
     ∙ ring ρ (F :* I :- X :* J :* con 1 :+ X :* I :* con 1 :- X :* I) (F :* I :- X :* J) tt
 
-div-rel : (l : ℕ) (f g : Float) (x y : ℚ) (a b : Bd) → T (ok (divB l a b)) → iv l ≤q y → (T (ok a) → Rel f x a) → (T (ok b) → Rel g y b) → Rel (div binary64 f g) (x *q inv y) (divB l a b)
+div-rel : (l : ℕ) (f g : Float) (x y : ℚ) (a b : Bd) → T (ok (divB l a b)) → iv l ≤q y
+    → (T (ok a) → Rel f x a) → (T (ok b) → Rel g y b) → Rel (div binary64 f g) (x *q inv y) (divB l a b)
 unfolding divB rounded
 div-rel l f g x y (bd m e o) (bd n d p) t k ha hb =
     let q = divUp m l in
@@ -228,7 +238,8 @@ div-rel l f g x y (bd m e o) (bd n d p) t k ha hb =
     let yp = positive y l lp k in
     let Q = abs-div x y m l lp (A .1) k in
     let N = abs-sub (val f -q x) ((x *q inv y) *q (val g -q y)) e (mulUp q d) (A .2) (abs-mul (x *q inv y) (val g -q y) q d Q (B .2)) in
-    let D = abs-eq (((val f -q x) -q (x *q inv y) *q (val g -q y)) *q inv (val g)) (val f *q inv (val g) -q x *q inv y) w (quotients (val f) (val g) x y (inv (val g)) (inv y) (inv-ok (val g) gp) (inv-ok y yp))
+    let D = abs-eq (((val f -q x) -q (x *q inv y) *q (val g -q y)) *q inv (val g)) (val f *q inv (val g) -q x *q inv y) w
+    (quotients (val f) (val g) x y (inv (val g)) (inv y) (inv-ok (val g) gp) (inv-ok y yp))
     (abs-div ((val f -q x) -q (x *q inv y) *q (val g -q y)) (val g) (e + mulUp q d) (l - d) (gap d l dl) N gl) in
     finish (div binary64 f g) (val f *q inv (val g)) (x *q inv y) q w (q + w) (o && p && ltb d l) Q D t
     (div-err f g (q + w) (A .0) (B .0) gp (own (val f *q inv (val g)) (x *q inv y) q w Q D))
@@ -247,7 +258,10 @@ var-rel (f ∷ ρ) (x ∷ σ) (b ∷ β) g (suc i) t = var-rel ρ σ β (g .1) i
 
 pub absUp-ok : (x : Fr) → Abs (mk x) (absUp x)
 unfolding absUp iv _+q_ negq
-absUp-ok x = (≤-mk (whole 0 0) (addF (ivF (absUp x)) (negF x)) (core₁ (x .p) (x .n) (x .d) U c h), ≤-mk (whole 0 0) (addF (ivF (absUp x)) x) (core₂ (x .p) (x .n) (x .d) U c h))
+absUp-ok x = (
+  ≤-mk (whole 0 0) (addF (ivF (absUp x)) (negF x)) (core₁ (x .p) (x .n) (x .d) U c h),
+  ≤-mk (whole 0 0) (addF (ivF (absUp x)) x) (core₂ (x .p) (x .n) (x .d) U c h),
+)
   where
     c : ℕ
     c = ((x .p - x .n) + (x .n - x .p)) * U / x .d
@@ -280,7 +294,12 @@ valF-ok (inf s) = refl
 valF-ok (fin s m e) = refl
 
 con-rel : (c : Float) (q : Fr) → T (finite c) → Rel c (mk q) (bd (absUp q) (absUp (addF (valF c) (negF q))) (finite c))
-con-rel c q t = (t, absUp-ok q, abs-eq (mk (addF (valF c) (negF q))) (val c -q mk q) (absUp (addF (valF c) (negF q))) (sym (ap (λ z. z -q mk q) (sym (valF-ok c)) ∙ ap (λ z. mk (valF c) +q z) (negq-mk q) ∙ +q-mk (valF c) (negF q))) (absUp-ok (addF (valF c) (negF q))))
+con-rel c q t = (
+  t,
+  absUp-ok q,
+  abs-eq (mk (addF (valF c) (negF q))) (val c -q mk q) (absUp (addF (valF c) (negF q))) (sym (ap (λ z. z -q mk q) (sym (valF-ok c))
+      ∙ ap (λ z. mk (valF c) +q z) (negq-mk q) ∙ +q-mk (valF c) (negF q))) (absUp-ok (addF (valF c) (negF q))),
+)
 
 pub sound : (ρ : List Float) (σ : List ℚ) (β : List (ℕ × ℕ)) → Good ρ σ β → (e : Fx) → Known σ e → T (ok (chk β e)) → Rel (run ρ e) (exact σ e) (chk β e)
 unfolding chk
@@ -289,7 +308,8 @@ sound ρ σ β g (fc c q) k t = con-rel c q t
 sound ρ σ β g (a +f b) k t = add-rel (run ρ a) (run ρ b) (exact σ a) (exact σ b) (chk β a) (chk β b) t (sound ρ σ β g a (k .0)) (sound ρ σ β g b (k .1))
 sound ρ σ β g (a -f b) k t = sub-rel (run ρ a) (run ρ b) (exact σ a) (exact σ b) (chk β a) (chk β b) t (sound ρ σ β g a (k .0)) (sound ρ σ β g b (k .1))
 sound ρ σ β g (a *f b) k t = mul-rel (run ρ a) (run ρ b) (exact σ a) (exact σ b) (chk β a) (chk β b) t (sound ρ σ β g a (k .0)) (sound ρ σ β g b (k .1))
-sound ρ σ β g (fdiv l a b) k t = div-rel l (run ρ a) (run ρ b) (exact σ a) (exact σ b) (chk β a) (chk β b) t (k .2) (sound ρ σ β g a (k .0)) (sound ρ σ β g b (k .1))
+sound ρ σ β g (fdiv l a b) k t =
+    div-rel l (run ρ a) (run ρ b) (exact σ a) (exact σ b) (chk β a) (chk β b) t (k .2) (sound ρ σ β g a (k .0)) (sound ρ σ β g b (k .1))
 sound ρ σ β g (cap m a) k t = cap-rel (run ρ a) (exact σ a) m (chk β a) t (k .1) (sound ρ σ β g a (k .0))
 
 -- ---- an expression with no quotient is a polynomial

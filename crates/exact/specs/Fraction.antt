@@ -45,8 +45,11 @@ abbrev pub whole : ℕ → ℕ → Fr
 whole a b = record { p = a; n = b; d = 1; dp = zero-lt-suc 0 }
 
 -- ---- lifting
-unfoldable pub lift₂ : {β : Type 0} (βset : IsSet β) (f : Fr → Fr → β) → ((a a' b : Fr) → Same a a' → f a b ≡ f a' b) → ((a b b' : Fr) → Same b b' → f a b ≡ f a b') → ℚ → ℚ → β
-lift₂ βset f l r q₁ q₂ = Quot·lift βset (λ a. Quot·lift βset (f a) (r a) q₂) (λ a a' h. ind {r = Same} (λ q. βset (Quot·lift βset (f a) (r a) q) (Quot·lift βset (f a') (r a') q)) (λ b. l a a' b h) q₂) q₁
+unfoldable pub lift₂ : {β : Type 0} (βset : IsSet β) (f : Fr → Fr → β)
+    → ((a a' b : Fr) → Same a a' → f a b ≡ f a' b) → ((a b b' : Fr) → Same b b' → f a b ≡ f a b') → ℚ → ℚ → β
+lift₂ βset f l r q₁ q₂ =
+    Quot·lift βset (λ a. Quot·lift βset (f a) (r a) q₂)
+    (λ a a' h. ind {r = Same} (λ q. βset (Quot·lift βset (f a) (r a) q) (Quot·lift βset (f a') (r a') q)) (λ b. l a a' b h) q₂) q₁
 
 pub add-l : (a a' b : Fr) → Same a a' → Same (addF a b) (addF a' b)
 add-l a a' b h = omega (arith, ap (λ (x : ℕ). x * (b .d * b .d)) h)
@@ -113,8 +116,10 @@ le-out x y h = leb→le (x .p * y .d + y .n * x .d) (y .p * x .d + x .n * y .d) 
 unfoldable pub leq : ℚ → ℚ → Bool
 unfolding lift₂
 leq = lift₂ Bool-set lebF
-    (λ a a' b h. iff→≡ (lebF a b) (lebF a' b) (λ t. le-in a' b (le-transF a' a b (same-ge a a' h) (le-out a b t))) (λ t. le-in a b (le-transF a a' b (same-le a a' h) (le-out a' b t))))
-    (λ a b b' h. iff→≡ (lebF a b) (lebF a b') (λ t. le-in a b' (le-transF a b b' (le-out a b t) (same-le b b' h))) (λ t. le-in a b (le-transF a b' b (le-out a b' t) (same-ge b b' h))))
+    (λ a a' b h. iff→≡ (lebF a b) (lebF a' b) (λ t. le-in a' b (le-transF a' a b (same-ge a a' h) (le-out a b t)))
+    (λ t. le-in a b (le-transF a a' b (same-le a a' h) (le-out a' b t))))
+    (λ a b b' h. iff→≡ (lebF a b) (lebF a b') (λ t. le-in a b' (le-transF a b b' (le-out a b t) (same-le b b' h)))
+    (λ t. le-in a b (le-transF a b' b (le-out a b' t) (same-ge b b' h))))
 
 infix 50 _≤q_
 abbrev pub _≤q_ : ℚ → ℚ → Type 0

@@ -13,12 +13,13 @@ use lib.Ieee.Digits.{size-reaches}
 use lib.Ieee.Nearest.{closest}
 use lib.Ieee.Order.{drop, kept}
 
-abbrev Cmp : Ordering → ℕ → ℕ → Type 0
+-- what `compare` says
+abbrev pub Cmp : Ordering → ℕ → ℕ → Type 0
 Cmp Ordering·lt a b = a < b
 Cmp Ordering·eq a b = a ≡ b
 Cmp Ordering·gt a b = b < a
 
-cmp : (a b : ℕ) → Cmp (compare a b) a b
+pub cmp : (a b : ℕ) → Cmp (compare a b) a b
 cmp a b = go (compare a b) (leb→le a b) (nleb→lt a b) (eqb→eq a b) (λ (e : a ≡ b). subst (λ (x : ℕ). T (eqb a x)) e (eqb-refl a))
   where
     go : (o : Ordering) → (T (isLe o) → a ≤ b) → (T (not (isLe o)) → b < a) → (T (isEq o) → a ≡ b) → (a ≡ b → T (isEq o)) → Cmp o a b
@@ -56,7 +57,9 @@ drop-le p w P = go (eq-zero-or-pos (size w - p))
 
     go : (size w - p ≡ 0) ⊎ (0 < size w - p) → 2 ^ (size w - p) * 2 ^ (p - 1) ≤ w + 2 ^ (p - 1)
     go (inl e) = subst (λ (k : ℕ). 2 ^ k * 2 ^ (p - 1) ≤ w + 2 ^ (p - 1)) (sym e) (le₁ (2 ^ (p - 1)))
-    go (inr h) = le₂ (2 ^ (size w - p) * 2 ^ (p - 1)) (2 ^ (p - 1)) (le-trans (le-of-eq (sym (pow-add 2 (size w - p) (p - 1)))) (size-reaches w (size w - p + (p - 1)) (lt₃ (size w) h)))
+    go (inr h) =
+        le₂ (2 ^ (size w - p) * 2 ^ (p - 1)) (2 ^ (p - 1))
+        (le-trans (le-of-eq (sym (pow-add 2 (size w - p) (p - 1)))) (size-reaches w (size w - p + (p - 1)) (lt₃ (size w) h)))
 
 -- the result, g = kept * 2 ^ drop, times den is within n / 2 ^ p + den / 2 of n
 abbrev pub Near : ℕ → ℕ → ℕ → ℕ → Type 0
@@ -71,4 +74,5 @@ join h n den c k w x d e =
 
 pub kept-near : (p n den : ℕ) → 0 < p → 0 < den → Near (2 ^ (p - 1)) n den (kept p n den * 2 ^ drop p n den)
 kept-near p n den P D =
-    join (2 ^ (p - 1)) n den (kept p n den) (2 ^ drop p n den) (n / den) (closest-near n (den * 2 ^ drop p n den) (mul-pos D (pow-pos (drop p n den)))) (drop-le p (n / den) P) (div-mul-le-self n den)
+    join (2 ^ (p - 1)) n den (kept p n den) (2 ^ drop p n den) (n / den)
+    (closest-near n (den * 2 ^ drop p n den) (mul-pos D (pow-pos (drop p n den)))) (drop-le p (n / den) P) (div-mul-le-self n den)

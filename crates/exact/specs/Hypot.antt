@@ -45,19 +45,25 @@ root-small x r hx lo =
     by-nn (x ∷ r ∷ []) [] tt
     ((rat xTop ⊖ rv 0) ∷ (rv 0 ⊖ (rv 1 ⊖ rat hF) ⊗ (rv 1 ⊖ rat hF)) ∷ [])
     (hx, (≤q-sub ((r -q mk hF) *q (r -q mk hF)) x lo, tt)) []
-    (num 4503599627370496 18014398509481982 ⊠ (hyp 1 ⊞ sqr (rv 1 ⊖ nat 2) ⊞ hyp 0 ⊞ num 3486039150627603621411937058817 81129638414606681695789005144063)) (rat rTop ⊖ rv 1) tt
+    (num 4503599627370496 18014398509481982
+    ⊠ (hyp 1 ⊞ sqr (rv 1 ⊖ nat 2) ⊞ hyp 0 ⊞ num 3486039150627603621411937058817 81129638414606681695789005144063)) (rat rTop ⊖ rv 1) tt
 
 root-abs : (r : ℚ) → 0≤ r → 0≤ (mk rTop -q r) → Abs r rmax
 unfolding sameQ den comb iv U
-root-abs r p q = (by-nn (r ∷ []) [] tt (rv 0 ∷ (rat rTop ⊖ rv 0) ∷ []) (p, (q, tt)) [] (hyp 1) (rat (ivF rmax) ⊖ rv 0) tt, by-nn (r ∷ []) [] tt (rv 0 ∷ (rat rTop ⊖ rv 0) ∷ []) (p, (q, tt)) [] (hyp 0 ⊞ num 387 255) (rat (ivF rmax) ⊕ rv 0) tt)
+root-abs r p q = (
+  by-nn (r ∷ []) [] tt (rv 0 ∷ (rat rTop ⊖ rv 0) ∷ []) (p, (q, tt)) [] (hyp 1) (rat (ivF rmax) ⊖ rv 0) tt,
+  by-nn (r ∷ []) [] tt (rv 0 ∷ (rat rTop ⊖ rv 0) ∷ []) (p, (q, tt)) [] (hyp 0 ⊞ num 387 255) (rat (ivF rmax) ⊕ rv 0) tt,
+)
 
 root-sq : (x r : ℚ) → 0≤ (mk rTop -q r) → (r -q mk hF) *q (r -q mk hF) ≤q x → x ≤q (r +q mk hF) *q (r +q mk hF) → Abs (r *q r -q x) (2 ^ (256 - 51))
 unfolding sameQ den comb iv U
 root-sq x r s lo hi =
     let H : List Rx = (rat rTop ⊖ rv 1) ∷ (rv 0 ⊖ (rv 1 ⊖ rat hF) ⊗ (rv 1 ⊖ rat hF)) ∷ ((rv 1 ⊕ rat hF) ⊗ (rv 1 ⊕ rat hF) ⊖ rv 0) ∷ [] in
     let P : Nns (x ∷ r ∷ []) H = (s, (≤q-sub ((r -q mk hF) *q (r -q mk hF)) x lo, (≤q-sub x ((r +q mk hF) *q (r +q mk hF)) hi, tt))) in (
-      by-nn (x ∷ r ∷ []) [] tt H P [] (hyp 1 ⊞ num 1 4503599627370495 ⊠ hyp 0 ⊞ num 8796093022208001 81129638414606681695789005144063) (rat (ivF (2 ^ (256 - 51))) ⊖ (rv 1 ⊗ rv 1 ⊖ rv 0)) tt,
-      by-nn (x ∷ r ∷ []) [] tt H P [] (hyp 2 ⊞ num 1 4503599627370495 ⊠ hyp 0 ⊞ num 8796093022207999 81129638414606681695789005144063) (rat (ivF (2 ^ (256 - 51))) ⊕ (rv 1 ⊗ rv 1 ⊖ rv 0)) tt,
+      by-nn (x ∷ r ∷ []) [] tt H P [] (hyp 1 ⊞ num 1 4503599627370495 ⊠ hyp 0 ⊞ num 8796093022208001 81129638414606681695789005144063)
+          (rat (ivF (2 ^ (256 - 51))) ⊖ (rv 1 ⊗ rv 1 ⊖ rv 0)) tt,
+      by-nn (x ∷ r ∷ []) [] tt H P [] (hyp 2 ⊞ num 1 4503599627370495 ⊠ hyp 0 ⊞ num 8796093022207999 81129638414606681695789005144063)
+          (rat (ivF (2 ^ (256 - 51))) ⊕ (rv 1 ⊗ rv 1 ⊖ rv 0)) tt,
     )
 
 -- ---- b / a for 0 ≤ b ≤ a and 0 < a, at any magnitude
@@ -87,7 +93,8 @@ sumE = oneF +f fv 0 *f fv 0
 prodE : Fx
 prodE = fv 0 *f fv 1
 
-square : (a b t x r h : ℚ) → a *q t ≡ b → h *q h -q (a *q a +q b *q b) ≡ (h -q a *q r) *q (h +q a *q r) +q a *q a *q (r *q r -q x) +q a *q a *q (x -q (qn 1 +q t *q t))
+square : (a b t x r h : ℚ) → a *q t ≡ b
+    → h *q h -q (a *q a +q b *q b) ≡ (h -q a *q r) *q (h +q a *q r) +q a *q a *q (r *q r -q x) +q a *q a *q (x -q (qn 1 +q t *q t))
 unfolding sameQ comb
 square a b t x r h e =
     let A = rv 0 in let B = rv 1 in let S = rv 2 in let X = rv 3 in let R = rv 4 in let H = rv 5 in
@@ -129,7 +136,9 @@ scaled a b fa fb pa nb l =
       quotient = q;
       back = back-again (val a) (val b) pa;
       x-finite = S .0;
-      x-top = abs-mono (val x) (mag (chk sumβ sumE) + err (chk sumβ sumE)) (513 * 2 ^ 248) (leb→le (mag (chk sumβ sumE) + err (chk sumβ sumE)) (513 * 2 ^ 248) tt) (own (val x) (qn 1 +q q *q q) (mag (chk sumβ sumE)) (err (chk sumβ sumE)) (S .1) (S .2));
+      x-top = abs-mono (val x) (mag (chk sumβ sumE) + err (chk sumβ sumE)) (513 * 2 ^ 248)
+          (leb→le (mag (chk sumβ sumE) + err (chk sumβ sumE)) (513 * 2 ^ 248) tt)
+          (own (val x) (qn 1 +q q *q q) (mag (chk sumβ sumE)) (err (chk sumβ sumE)) (S .1) (S .2));
       x-near = abs-mono (val x -q (qn 1 +q q *q q)) (err (chk sumβ sumE)) sumErr (leb→le (err (chk sumβ sumE)) sumErr tt) (S .2);
     }
 
@@ -163,7 +172,8 @@ unfoldable pub hyp-fits : ℕ → ℕ → Bool
 unfolding bounds offE offβ
 hyp-fits A N = bounds (offβ A) offE N && ok (chk (prodβ A) prodE)
 
-pub hypot-ok : (A N : ℕ) → T (hyp-fits A N) → (a b r : Float) → T (finite a) → T (finite b) → T (not (leq (val a) (qn 0))) → 0≤ (val b) → val b ≤q val a → Abs (val a) A
+pub hypot-ok : (A N : ℕ) → T (hyp-fits A N) → (a b r : Float) → T (finite a) → T (finite b)
+    → T (not (leq (val a) (qn 0))) → 0≤ (val b) → val b ≤q val a → Abs (val a) A
     → Root (add binary64 one (mul binary64 (div binary64 b a) (div binary64 b a))) r
     → T (finite (mul binary64 a r)) × Abs (val (mul binary64 a r) *q val (mul binary64 a r) -q (val a *q val a +q val b *q val b)) N
 unfolding hyp-fits prodE offE offβ hTop prodβ chk
@@ -178,7 +188,8 @@ hypot-ok A N T₀ a b r fa fb pa nb l ha R =
     let hs = own (val h) (val a *q val r) (mag (chk (prodβ A) prodE)) (err (chk (prodβ A) prodE)) (P .1) (P .2) in
     let e = square (val a) (val b) q (val x) (val r) (val h) (S .back) in (
       P .0,
-      abs-eq ((val h -q val a *q val r) *q (val h +q val a *q val r) +q val a *q val a *q (val r *q val r -q val x) +q val a *q val a *q (val x -q (qn 1 +q q *q q))) (val h *q val h -q (val a *q val a +q val b *q val b)) N (sym e)
+      abs-eq ((val h -q val a *q val r) *q (val h +q val a *q val r) +q val a *q val a *q (val r *q val r -q val x)
+          +q val a *q val a *q (val x -q (qn 1 +q q *q q))) (val h *q val h -q (val a *q val a +q val b *q val b)) N (sym e)
           (bound ((val h -q val a *q val r) ∷ val h ∷ val a ∷ val r ∷ (val r *q val r -q val x) ∷ (val x -q (qn 1 +q q *q q)) ∷ []) (offβ A)
           (P .2, (hs, (ha, (X .r-abs, (X .r-near, (S .x-near, tt)))))) offE N (and-l (bounds (offβ A) offE N) (ok (chk (prodβ A) prodE)) T₀)),
     )
@@ -190,9 +201,14 @@ pub record Hyp (N : ℕ) (p q h : Float) : Type 0 where
   pub near : Abs (val h *q val h -q (val p *q val p +q val q *q val q)) N
 
 -- by p = ±a, q = ±b, or the other way round: only their squares count
-pub hyp-intro : (A N : ℕ) → T (hyp-fits A N) → (a b r p q : Float) → T (finite a) → T (finite b) → T (not (leq (val a) (qn 0))) → 0≤ (val b) → val b ≤q val a → Abs (val a) A
+pub hyp-intro : (A N : ℕ) → T (hyp-fits A N) → (a b r p q : Float) → T (finite a)
+    → T (finite b) → T (not (leq (val a) (qn 0))) → 0≤ (val b) → val b ≤q val a → Abs (val a) A
     → Root (add binary64 one (mul binary64 (div binary64 b a) (div binary64 b a))) r
     → val a *q val a +q val b *q val b ≡ val p *q val p +q val q *q val q → Hyp N p q (mul binary64 a r)
 hyp-intro A N t a b r p q fa fb pa nb l ha R e =
     let k = hypot-ok A N t a b r fa fb pa nb l ha R in
-    record { fine = k .0; not-neg = mul-nn a r fa (R .is-finite) (≤q-total (val a) (qn 0) pa) (R .not-neg); near = subst (λ z. Abs (val (mul binary64 a r) *q val (mul binary64 a r) -q z) N) e (k .1) }
+    record {
+      fine = k .0;
+      not-neg = mul-nn a r fa (R .is-finite) (≤q-total (val a) (qn 0) pa) (R .not-neg);
+      near = subst (λ z. Abs (val (mul binary64 a r) *q val (mul binary64 a r) -q z) N) e (k .1);
+    }

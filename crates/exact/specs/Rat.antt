@@ -49,11 +49,14 @@ add-assocF x y z = omega arith
 mul-assocF : (x y z : Fr) → Same (mulF (mulF x y) z) (mulF x (mulF y z))
 mul-assocF x y z = omega arith
 
-dist : (a b c e f g d2 d3 d1 : ℕ) → (a * (c * d3 + f * d2) + b * (e * d3 + g * d2)) * (d1 * d2 * (d1 * d3)) ≡ ((a * c + b * e) * (d1 * d3) + (a * f + b * g) * (d1 * d2)) * (d1 * (d2 * d3))
+dist : (a b c e f g d2 d3 d1 : ℕ) → (a * (c * d3 + f * d2) + b * (e * d3 + g * d2)) * (d1 * d2 * (d1 * d3))
+    ≡ ((a * c + b * e) * (d1 * d3) + (a * f + b * g) * (d1 * d2)) * (d1 * (d2 * d3))
 dist a b c e f g d2 d3 d1 = omega arith
 
 mul-addF : (x y z : Fr) → Same (mulF x (addF y z)) (addF (mulF x y) (mulF x z))
-mul-addF x y z = ap₂ _+_ (dist (x .p) (x .n) (y .p) (y .n) (z .p) (z .n) (y .d) (z .d) (x .d)) (sym (dist (x .p) (x .n) (y .n) (y .p) (z .n) (z .p) (y .d) (z .d) (x .d)))
+mul-addF x y z =
+    ap₂ _+_ (dist (x .p) (x .n) (y .p) (y .n) (z .p) (z .n) (y .d) (z .d) (x .d))
+    (sym (dist (x .p) (x .n) (y .n) (y .p) (z .n) (z .p) (y .d) (z .d) (x .d)))
 
 mul-commF : (x y : Fr) → Same (mulF x y) (mulF y x)
 mul-commF x y = omega arith
@@ -102,23 +105,41 @@ pub ≤q-refl : (x : ℚ) → x ≤q x
 ≤q-refl = ind {r = Same} (λ q. T-prop (leq q q)) (λ a. ≤-mk a a (omega arith))
 
 imp₂ : (P Q : ℚ → ℚ → Bool) → ((a b : Fr) → T (P (mk a) (mk b)) → T (Q (mk a) (mk b))) → (x y : ℚ) → T (P x y) → T (Q x y)
-imp₂ P Q h x y = indp (λ q. T (P q y) → T (Q q y)) (λ q. T→prop (T (P q y)) (Q q y)) (λ a. indp (λ q. T (P (mk a) q) → T (Q (mk a) q)) (λ q. T→prop (T (P (mk a) q)) (Q (mk a) q)) (λ b. h a b) y) x
+imp₂ P Q h x y =
+    indp (λ q. T (P q y) → T (Q q y)) (λ q. T→prop (T (P q y)) (Q q y))
+    (λ a. indp (λ q. T (P (mk a) q) → T (Q (mk a) q)) (λ q. T→prop (T (P (mk a) q)) (Q (mk a) q)) (λ b. h a b) y) x
+
+trans-mk : (a b c : Fr) → T (leq (mk a) (mk b) && leq (mk b) (mk c)) → mk a ≤q mk c
+trans-mk a b c t =
+    let ab = leq (mk a) (mk b) in
+    let bc = leq (mk b) (mk c) in
+    ≤-mk a c (le-transF a b c (mk-≤ a b (and-l ab bc t)) (mk-≤ b c (and-r ab bc t)))
 
 pub ≤q-trans : (x y z : ℚ) → x ≤q y → y ≤q z → x ≤q z
-≤q-trans x y z h k = indp (λ q. T (leq x q && leq q z) → x ≤q z) (λ q. T→prop (T (leq x q && leq q z)) (leq x z)) (λ b. imp₂ (λ x z. leq x (mk b) && leq (mk b) z) leq (λ a c t. ≤-mk a c (le-transF a b c (mk-≤ a b (and-l (leq (mk a) (mk b)) (leq (mk b) (mk c)) t)) (mk-≤ b c (and-r (leq (mk a) (mk b)) (leq (mk b) (mk c)) t)))) x z) y (and-i (leq x y) (leq y z) h k)
+≤q-trans x y z h k =
+    indp (λ q. T (leq x q && leq q z) → x ≤q z) (λ q. T→prop (T (leq x q && leq q z)) (leq x z))
+    (λ b. imp₂ (λ x z. leq x (mk b) && leq (mk b) z) leq (λ a c. trans-mk a b c) x z) y (and-i (leq x y) (leq y z) h k)
+
+antisymm-mk : (a b : Fr) → T (leq (mk a) (mk b) && leq (mk b) (mk a)) → mk a ≡ mk b
+antisymm-mk a b t =
+    let ab = leq (mk a) (mk b) in
+    let ba = leq (mk b) (mk a) in
+    Quot·sound (le-antisymm (mk-≤ a b (and-l ab ba t)) (mk-≤ b a (and-r ab ba t)))
 
 pub ≤q-antisymm : (x y : ℚ) → x ≤q y → y ≤q x → x ≡ y
-≤q-antisymm x y h k = indp (λ x. T (leq x y && leq y x) → x ≡ y) (λ q. →prop q y) (λ a. indp (λ y. T (leq (mk a) y && leq y (mk a)) → mk a ≡ y) (λ q. →prop (mk a) q) (λ b t. Quot·sound (le-antisymm (mk-≤ a b (and-l (leq (mk a) (mk b)) (leq (mk b) (mk a)) t)) (mk-≤ b a (and-r (leq (mk a) (mk b)) (leq (mk b) (mk a)) t)))) y) x (and-i (leq x y) (leq y x) h k)
+≤q-antisymm x y h k =
+    indp (λ x. T (leq x y && leq y x) → x ≡ y) (λ q. →prop q y)
+    (λ a. indp (λ y. T (leq (mk a) y && leq y (mk a)) → mk a ≡ y) (λ q. →prop (mk a) q) (antisymm-mk a) y) x (and-i (leq x y) (leq y x) h k)
   where
     →prop : (x y : ℚ) → IsProp (T (leq x y && leq y x) → x ≡ y)
     →prop x y = Π-prop (λ t. ℚ-set x y)
 
-tot·1 : (a b : Fr) → T (not (leq (mk a) (mk b))) → LeF b a
+other-way : (a b : Fr) → T (not (leq (mk a) (mk b))) → LeF b a
 unfolding leq
-tot·1 a b t = let h = nleb→lt (a .p * b .d + b .n * a .d) (b .p * a .d + a .n * b .d) t in omega arith
+other-way a b t = let h = nleb→lt (a .p * b .d + b .n * a .d) (b .p * a .d + a .n * b .d) t in omega arith
 
 pub ≤q-total : (x y : ℚ) → T (not (leq x y)) → y ≤q x
-≤q-total = imp₂ (λ x y. not (leq x y)) (λ x y. leq y x) (λ a b t. ≤-mk b a (tot·1 a b t))
+≤q-total = imp₂ (λ x y. not (leq x y)) (λ x y. leq y x) (λ a b t. ≤-mk b a (other-way a b t))
 
 -- x ≤ y exactly where y - x is not negative
 sub-in : (a b : Fr) → LeF a b → LeF (whole 0 0) (addF b (negF a))
@@ -127,19 +148,19 @@ sub-in a b h = omega arith
 sub-out : (a b : Fr) → LeF (whole 0 0) (addF b (negF a)) → LeF a b
 sub-out a b h = omega arith
 
-go·2 : (a b : Fr) → mk a ≤q mk b → qn 0 ≤q mk b -q mk a
+sub-mk : (a b : Fr) → mk a ≤q mk b → qn 0 ≤q mk b -q mk a
 unfolding _+q_ negq
-go·2 a b t = ≤-mk (whole 0 0) (addF b (negF a)) (sub-in a b (mk-≤ a b t))
+sub-mk a b t = ≤-mk (whole 0 0) (addF b (negF a)) (sub-in a b (mk-≤ a b t))
 
 pub ≤q-sub : (x y : ℚ) → x ≤q y → qn 0 ≤q y -q x
-≤q-sub = imp₂ leq (λ x y. leq (qn 0) (y -q x)) go·2
+≤q-sub = imp₂ leq (λ x y. leq (qn 0) (y -q x)) sub-mk
 
-go·3 : (a b : Fr) → qn 0 ≤q mk b -q mk a → mk a ≤q mk b
+mk-sub : (a b : Fr) → qn 0 ≤q mk b -q mk a → mk a ≤q mk b
 unfolding _+q_ negq
-go·3 a b t = ≤-mk a b (sub-out a b (mk-≤ (whole 0 0) (addF b (negF a)) t))
+mk-sub a b t = ≤-mk a b (sub-out a b (mk-≤ (whole 0 0) (addF b (negF a)) t))
 
 pub sub-≤q : (x y : ℚ) → qn 0 ≤q y -q x → x ≤q y
-sub-≤q = imp₂ (λ x y. leq (qn 0) (y -q x)) leq go·3
+sub-≤q = imp₂ (λ x y. leq (qn 0) (y -q x)) leq mk-sub
 
 -- sums and products of what is not negative
 nn-add : (a b : Fr) → LeF (whole 0 0) a → LeF (whole 0 0) b → LeF (whole 0 0) (addF a b)
@@ -154,22 +175,27 @@ nn-mul a b h k =
     let k' : b .n ≤ b .p = omega arith in
     let u = le-dest h' in
     let v = le-dest k' in
-    let w : a .p * b .n + a .n * b .p ≤ a .p * b .p + a .n * b .n = subst (λ (x : ℕ). x * b .n + a .n * b .p ≤ x * b .p + a .n * b .n) (u .1) (subst (λ (x : ℕ). (a .n + u .0) * b .n + a .n * x ≤ (a .n + u .0) * x + a .n * b .n) (v .1) (four (a .n) (u .0) (b .n) (v .0))) in
+    let w : a .p * b .n + a .n * b .p ≤ a .p * b .p + a .n * b .n = subst (λ (x : ℕ). x * b .n + a .n * b .p ≤ x * b .p + a .n * b .n) (u .1)
+    (subst (λ (x : ℕ). (a .n + u .0) * b .n + a .n * x ≤ (a .n + u .0) * x + a .n * b .n) (v .1) (four (a .n) (u .0) (b .n) (v .0))) in
     omega arith
 
-go·4 : (a b : Fr) → T (leq (qn 0) (mk a) && leq (qn 0) (mk b)) → qn 0 ≤q mk a +q mk b
+add-mk-nn : (a b : Fr) → T (leq (qn 0) (mk a) && leq (qn 0) (mk b)) → qn 0 ≤q mk a +q mk b
 unfolding _+q_
-go·4 a b t = ≤-mk (whole 0 0) (addF a b) (nn-add a b (mk-≤ (whole 0 0) a (and-l (leq (qn 0) (mk a)) (leq (qn 0) (mk b)) t)) (mk-≤ (whole 0 0) b (and-r (leq (qn 0) (mk a)) (leq (qn 0) (mk b)) t)))
+add-mk-nn a b t =
+    ≤-mk (whole 0 0) (addF a b) (nn-add a b (mk-≤ (whole 0 0) a (and-l (leq (qn 0) (mk a)) (leq (qn 0) (mk b)) t))
+    (mk-≤ (whole 0 0) b (and-r (leq (qn 0) (mk a)) (leq (qn 0) (mk b)) t)))
 
 pub 0≤-add : (x y : ℚ) → qn 0 ≤q x → qn 0 ≤q y → qn 0 ≤q x +q y
-0≤-add x y h k = imp₂ (λ x y. leq (qn 0) x && leq (qn 0) y) (λ x y. leq (qn 0) (x +q y)) go·4 x y (and-i (leq (qn 0) x) (leq (qn 0) y) h k)
+0≤-add x y h k = imp₂ (λ x y. leq (qn 0) x && leq (qn 0) y) (λ x y. leq (qn 0) (x +q y)) add-mk-nn x y (and-i (leq (qn 0) x) (leq (qn 0) y) h k)
 
-go·5 : (a b : Fr) → T (leq (qn 0) (mk a) && leq (qn 0) (mk b)) → qn 0 ≤q mk a *q mk b
+mul-mk-nn : (a b : Fr) → T (leq (qn 0) (mk a) && leq (qn 0) (mk b)) → qn 0 ≤q mk a *q mk b
 unfolding _*q_
-go·5 a b t = ≤-mk (whole 0 0) (mulF a b) (nn-mul a b (mk-≤ (whole 0 0) a (and-l (leq (qn 0) (mk a)) (leq (qn 0) (mk b)) t)) (mk-≤ (whole 0 0) b (and-r (leq (qn 0) (mk a)) (leq (qn 0) (mk b)) t)))
+mul-mk-nn a b t =
+    ≤-mk (whole 0 0) (mulF a b) (nn-mul a b (mk-≤ (whole 0 0) a (and-l (leq (qn 0) (mk a)) (leq (qn 0) (mk b)) t))
+    (mk-≤ (whole 0 0) b (and-r (leq (qn 0) (mk a)) (leq (qn 0) (mk b)) t)))
 
 pub 0≤-mul : (x y : ℚ) → qn 0 ≤q x → qn 0 ≤q y → qn 0 ≤q x *q y
-0≤-mul x y h k = imp₂ (λ x y. leq (qn 0) x && leq (qn 0) y) (λ x y. leq (qn 0) (x *q y)) go·5 x y (and-i (leq (qn 0) x) (leq (qn 0) y) h k)
+0≤-mul x y h k = imp₂ (λ x y. leq (qn 0) x && leq (qn 0) y) (λ x y. leq (qn 0) (x *q y)) mul-mk-nn x y (and-i (leq (qn 0) x) (leq (qn 0) y) h k)
 
 pub +q-left-comm : (x y z : ℚ) → x +q (y +q z) ≡ y +q (x +q z)
 +q-left-comm x y z = sym (+q-assoc x y z) ∙ ap (λ w. w +q z) (+q-comm x y) ∙ +q-assoc y x z
@@ -248,7 +274,8 @@ cancelF a b t u =
     let v = leb→le (0 * (a .d * b .d) + (a .p * b .n + a .n * b .p) * 1) ((a .p * b .p + a .n * b .n) * 1 + 0 * (a .d * b .d)) u in
     let e : a .n + suc (k .0) ≡ a .p = omega (arith, k .1) in
     let w : a .p * b .n + a .n * b .p ≤ a .n * b .n + a .p * b .p = omega arith in
-    ≤-mk (whole 0 0) b (fin' (b .n) (b .p) (b .d) (cancel-ℕ (a .n) (k .0) (b .p) (b .n) (subst (λ (x : ℕ). x * b .n + a .n * b .p ≤ a .n * b .n + x * b .p) (sym e) w)))
+    ≤-mk (whole 0 0) b
+    (fin' (b .n) (b .p) (b .d) (cancel-ℕ (a .n) (k .0) (b .p) (b .n) (subst (λ (x : ℕ). x * b .n + a .n * b .p ≤ a .n * b .n + x * b .p) (sym e) w)))
   where
     fin' : (m p d : ℕ) → m ≤ p → 0 * d + m * 1 ≤ p * 1 + 0 * d
     fin' m p d h = omega arith

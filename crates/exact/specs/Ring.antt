@@ -113,7 +113,8 @@ zero-+q x = +q-comm (qn 0) x ∙ +q-zero x
 sum4 : (a b x p q : ℚ) → a +q b +q x *q (p +q q) ≡ a +q x *q p +q (b +q x *q q)
 sum4 a b x p q = simp (*q-add, +q-assoc, +q-left-comm)
 
-addL-ok : {A : Type 0} (e : A → ℚ) (x : ℚ) (f : A → A → A) → ((a b : A) → e (f a b) ≡ e a +q e b) → (p q : List A) → evL e x (addL f p q) ≡ evL e x p +q evL e x q
+addL-ok : {A : Type 0} (e : A → ℚ) (x : ℚ) (f : A → A → A) → ((a b : A) → e (f a b) ≡ e a +q e b)
+    → (p q : List A) → evL e x (addL f p q) ≡ evL e x p +q evL e x q
 unfolding evL addL
 addL-ok e x f h [] q = sym (zero-+q (evL e x q))
 addL-ok e x f h (a ∷ p) [] = sym (+q-zero (e a +q x *q evL e x p))
@@ -127,7 +128,8 @@ negL-ok e x f h (a ∷ p) = ap₂ (λ u v. u +q x *q v) (h a) (negL-ok e x f h p
 scale : (a b x q : ℚ) → a *q b +q x *q (a *q q) ≡ a *q (b +q x *q q)
 scale a b x q = simp (*q-add, *q-left-comm)
 
-mapL-ok : {A : Type 0} (e : A → ℚ) (x : ℚ) (g : A → A → A) → ((a b : A) → e (g a b) ≡ e a *q e b) → (a : A) (q : List A) → evL e x (mapL (g a) q) ≡ e a *q evL e x q
+mapL-ok : {A : Type 0} (e : A → ℚ) (x : ℚ) (g : A → A → A) → ((a b : A) → e (g a b) ≡ e a *q e b)
+    → (a : A) (q : List A) → evL e x (mapL (g a) q) ≡ e a *q evL e x q
 unfolding evL mapL
 mapL-ok e x g h a [] = sym (*q-zero (e a))
 mapL-ok e x g h a (b ∷ q) = ap₂ (λ u v. u +q x *q v) (h a b) (mapL-ok e x g h a q) ∙ scale (e a) (e b) x (evL e x q)
@@ -138,7 +140,8 @@ zero-*q x = *q-comm (qn 0) x ∙ *q-zero x
 step : (a x p q : ℚ) → a *q q +q (qn 0 +q x *q (p *q q)) ≡ (a +q x *q p) *q q
 step a x p q = ap (λ z. a *q q +q z) (zero-+q (x *q (p *q q)) ∙ sym (*q-assoc x p q)) ∙ sym (add-*q a (x *q p) q)
 
-mulL-ok : {A : Type 0} (e : A → ℚ) (x : ℚ) (z : A) (f g : A → A → A) → e z ≡ qn 0 → ((a b : A) → e (f a b) ≡ e a +q e b) → ((a b : A) → e (g a b) ≡ e a *q e b) → (p q : List A)
+mulL-ok : {A : Type 0} (e : A → ℚ) (x : ℚ) (z : A) (f g : A → A → A) → e z ≡ qn 0
+    → ((a b : A) → e (f a b) ≡ e a +q e b) → ((a b : A) → e (g a b) ≡ e a *q e b) → (p q : List A)
     → evL e x (mulL z f g p q) ≡ evL e x p *q evL e x q
 unfolding evL mulL
 mulL-ok e x z f g hz hf hg [] q = sym (zero-*q (evL e x q))
@@ -178,7 +181,9 @@ con-ok (x ∷ ρ) c = one-more (evP ρ (conP ρ c)) x ∙ con-ok ρ c
 pub var-ok : (ρ : List ℚ) (i : ℕ) → evP ρ (varP ρ i) ≡ at ρ i
 unfolding evP varP
 var-ok [] i = refl
-var-ok (x ∷ ρ) zero = ap₂ (λ u v. u +q x *q (v +q x *q qn 0)) (zero-ok ρ) (con-ok ρ 1) ∙ zero-+q (x *q (qn 1 +q x *q qn 0)) ∙ ap (λ z. x *q z) (one-more (qn 1) x) ∙ *q-one x
+var-ok (x ∷ ρ) zero =
+    ap₂ (λ u v. u +q x *q (v +q x *q qn 0)) (zero-ok ρ) (con-ok ρ 1)
+    ∙ zero-+q (x *q (qn 1 +q x *q qn 0)) ∙ ap (λ z. x *q z) (one-more (qn 1) x) ∙ *q-one x
 var-ok (x ∷ ρ) (suc i) = one-more (evP ρ (varP ρ i)) x ∙ var-ok ρ i
 
 norm-ok : (ρ : List ℚ) (e : Ex) → evP ρ (norm ρ e) ≡ eval ρ e

@@ -76,11 +76,15 @@ scale-ok ρ c p = mul-ok ρ (conP ρ c) p ∙ ap (λ z. z *q evP ρ p) (con-ok �
 
 cross : (d e x y u v : ℚ) → d *q x ≡ u → e *q y ≡ v → d *q e *q (x +q y) ≡ e *q u +q d *q v
 unfolding same
-cross d e x y u v h k = ring (d ∷ e ∷ x ∷ y ∷ []) (var 0 :* var 1 :* (var 2 :+ var 3)) (var 1 :* (var 0 :* var 2) :+ var 0 :* (var 1 :* var 3)) tt ∙ ap₂ (λ s t. e *q s +q d *q t) h k
+cross d e x y u v h k =
+    ring (d ∷ e ∷ x ∷ y ∷ []) (var 0 :* var 1 :* (var 2 :+ var 3)) (var 1 :* (var 0 :* var 2) :+ var 0 :* (var 1 :* var 3)) tt
+    ∙ ap₂ (λ s t. e *q s +q d *q t) h k
 
 along : (c d x y u v : ℚ) → d *q x ≡ u → c *q d *q y ≡ v → c *q d *q (x +q y) ≡ c *q u +q v
 unfolding same
-along c d x y u v h k = ring (c ∷ d ∷ x ∷ y ∷ []) (var 0 :* var 1 :* (var 2 :+ var 3)) (var 0 :* (var 1 :* var 2) :+ var 0 :* var 1 :* var 3) tt ∙ ap₂ (λ s t. c *q s +q t) h k
+along c d x y u v h k =
+    ring (c ∷ d ∷ x ∷ y ∷ []) (var 0 :* var 1 :* (var 2 :+ var 3)) (var 0 :* (var 1 :* var 2) :+ var 0 :* var 1 :* var 3) tt
+    ∙ ap₂ (λ s t. c *q s +q t) h k
 
 exactly : (D E : ℕ) → E % D ≡ 0 → E / D * D ≡ E
 exactly D E h = go (E / D * D) (E % D) h (div-add-mod' E D)
@@ -92,7 +96,8 @@ addO-ok : (ρ : List ℚ) (x y : ℚ) (a b : Ov ρ) → Is ρ x a → Is ρ y b 
 unfolding addO
 addO-ok ρ x y (ov D p) (ov E q) h k = go (eqb (E % D) 0) (eqb→eq (E % D) 0)
   where
-    go : (t : Bool) → (T t → E % D ≡ 0) → Is ρ (x +q y) (elim t [ true ↦ ov E (addP ρ (scaleP ρ (E / D) p) q) | false ↦ ov (D * E) (addP ρ (scaleP ρ E p) (scaleP ρ D q)) ])
+    go : (t : Bool) → (T t → E % D ≡ 0)
+        → Is ρ (x +q y) (elim t [ true ↦ ov E (addP ρ (scaleP ρ (E / D) p) q) | false ↦ ov (D * E) (addP ρ (scaleP ρ E p) (scaleP ρ D q)) ])
     go true z =
         let e : qn E ≡ qn (E / D) *q qn D = ap qn (sym (exactly D E (z tt))) ∙ qn-mul (E / D) D in (
           k .0,
@@ -115,7 +120,8 @@ prod d e x y u v h k = ring (d ∷ e ∷ x ∷ y ∷ []) (var 0 :* var 1 :* (var
 
 mulO-ok : (ρ : List ℚ) (x y : ℚ) (a b : Ov ρ) → Is ρ x a → Is ρ y b → Is ρ (x *q y) (mulO ρ a b)
 unfolding mulO
-mulO-ok ρ x y (ov D p) (ov E q) h k = (mul-pos (h .0) (k .0), ap (λ w. w *q (x *q y)) (qn-mul D E) ∙ prod (qn D) (qn E) x y (evP ρ p) (evP ρ q) (h .1) (k .1) ∙ sym (mul-ok ρ p q))
+mulO-ok ρ x y (ov D p) (ov E q) h k =
+    (mul-pos (h .0) (k .0), ap (λ w. w *q (x *q y)) (qn-mul D E) ∙ prod (qn D) (qn E) x y (evP ρ p) (evP ρ q) (h .1) (k .1) ∙ sym (mul-ok ρ p q))
 
 rat-is : (q : Fr) → qn (q .d) *q mk q ≡ qn (q .p) -q qn (q .n)
 unfolding _+q_ _*q_ negq
@@ -124,7 +130,11 @@ rat-is q = Quot·sound (omega arith)
 pub normO-ok : (ρ : List ℚ) (e : Rx) → Is ρ (evR ρ e) (normO ρ e)
 unfolding normO conQ
 normO-ok ρ (rv i) = (zero-lt-suc 0, *q-comm (qn 1) (at ρ i) ∙ *q-one (at ρ i) ∙ sym (var-ok ρ i))
-normO-ok ρ (rat q) = (q .dp, rat-is q ∙ sym (add-ok ρ (conP ρ (q .p)) (negP ρ (conP ρ (q .n))) ∙ ap₂ _+q_ (con-ok ρ (q .p)) (neg-ok ρ (conP ρ (q .n)) ∙ ap negq (con-ok ρ (q .n)))))
+normO-ok ρ (rat q) = (
+  q .dp,
+  rat-is q
+      ∙ sym (add-ok ρ (conP ρ (q .p)) (negP ρ (conP ρ (q .n))) ∙ ap₂ _+q_ (con-ok ρ (q .p)) (neg-ok ρ (conP ρ (q .n)) ∙ ap negq (con-ok ρ (q .n)))),
+)
 normO-ok ρ (a ⊕ b) = addO-ok ρ (evR ρ a) (evR ρ b) (normO ρ a) (normO ρ b) (normO-ok ρ a) (normO-ok ρ b)
 normO-ok ρ (a ⊖ b) = addO-ok ρ (evR ρ a) (negq (evR ρ b)) (normO ρ a) (negO ρ (normO ρ b)) (normO-ok ρ a) (negO-ok ρ (evR ρ b) (normO ρ b) (normO-ok ρ b))
 normO-ok ρ (a ⊗ b) = mulO-ok ρ (evR ρ a) (evR ρ b) (normO ρ a) (normO ρ b) (normO-ok ρ a) (normO-ok ρ b)
@@ -140,7 +150,9 @@ qn-pos D h = lt→nleb (D * 1 + 0 * 1) (0 * 1 + 0 * 1) (omega arith)
 
 zero-div : (d x : ℚ) → T (not (leq d (qn 0))) → d *q x ≡ qn 0 → x ≡ qn 0
 unfolding same
-zero-div d x t h = sym (*q-one x) ∙ ap (λ w. x *q w) (sym (inv-ok d t)) ∙ ring (d ∷ x ∷ inv d ∷ []) (var 1 :* (var 0 :* var 2)) (var 0 :* var 1 :* var 2) tt ∙ ap (λ w. w *q inv d) h ∙ ring (inv d ∷ []) (con 0 :* var 0) (con 0) tt
+zero-div d x t h =
+    sym (*q-one x) ∙ ap (λ w. x *q w) (sym (inv-ok d t)) ∙ ring (d ∷ x ∷ inv d ∷ []) (var 1 :* (var 0 :* var 2)) (var 0 :* var 1 :* var 2) tt
+    ∙ ap (λ w. w *q inv d) h ∙ ring (inv d ∷ []) (con 0 :* var 0) (con 0) tt
 
 unfoldable pub sameQ : List ℚ → Rx → Rx → Bool
 unfolding normO zeroO
@@ -161,7 +173,10 @@ bndL X (c ∷ p) = ((c .0 - c .1) + (c .1 - c .0)) * U + mulUp X (bndL X p)
 
 whole-bound : (p n : ℕ) → Abs (mk (whole p n)) (((p - n) + (n - p)) * U)
 unfolding iv _+q_ negq
-whole-bound p n = (≤-mk (whole 0 0) (addF (ivF (((p - n) + (n - p)) * U)) (negF (whole p n))) (go ((p - n) + (n - p)) U (omega arith)), ≤-mk (whole 0 0) (addF (ivF (((p - n) + (n - p)) * U)) (whole p n)) (go' ((p - n) + (n - p)) U (omega arith)))
+whole-bound p n = (
+  ≤-mk (whole 0 0) (addF (ivF (((p - n) + (n - p)) * U)) (negF (whole p n))) (go ((p - n) + (n - p)) U (omega arith)),
+  ≤-mk (whole 0 0) (addF (ivF (((p - n) + (n - p)) * U)) (whole p n)) (go' ((p - n) + (n - p)) U (omega arith)),
+)
   where
     go : (k u : ℕ) → p ≤ n + k → 0 * (u * 1) + (0 * 1 + p * u) * 1 ≤ (k * u * 1 + n * u) * 1 + 0 * (u * 1)
     go k u h = omega (arith, mul-le-mul-right u h)
@@ -176,7 +191,9 @@ zero-bound = (≤-mk (whole 0 0) (addF (ivF 0) (negF (whole 0 0))) (omega arith)
 bndL-ok : (x : ℚ) (X : ℕ) → Abs x X → (p : List (ℕ × ℕ)) → Abs (evP (x ∷ []) p) (bndL X p)
 unfolding evP evL bndL
 bndL-ok x X h [] = zero-bound
-bndL-ok x X h (c ∷ p) = abs-add (mk (whole (c .0) (c .1))) (x *q evP (x ∷ []) p) (((c .0 - c .1) + (c .1 - c .0)) * U) (mulUp X (bndL X p)) (whole-bound (c .0) (c .1)) (abs-mul x (evP (x ∷ []) p) X (bndL X p) h (bndL-ok x X h p))
+bndL-ok x X h (c ∷ p) =
+    abs-add (mk (whole (c .0) (c .1))) (x *q evP (x ∷ []) p) (((c .0 - c .1) + (c .1 - c .0)) * U) (mulUp X (bndL X p))
+    (whole-bound (c .0) (c .1)) (abs-mul x (evP (x ∷ []) p) X (bndL X p) h (bndL-ok x X h p))
 
 iv-scale : (D c : ℕ) → qn D *q iv c ≡ iv (D * c)
 unfolding iv
@@ -189,9 +206,14 @@ abs-quot D v w R Dp e h =
     let l : R ≤ D * c = le-up (R / D) (lt-div-mul-add Dp) in
     let k = ≤q-sub (iv R) (iv (D * c)) (iv-le R (D * c) l) in
     let ρ = iv R ∷ iv (D * c) ∷ w ∷ [] in
-    let t = qn-pos D Dp in (
-      cancel-nn (qn D) (iv c -q v) t (subst 0≤ (ring ρ ((var 1 :- var 0) :+ (var 0 :- var 2)) (var 1 :- var 2) tt ∙ ap₂ (λ a b. a -q b) (sym (iv-scale D c)) (sym e) ∙ ring (qn D ∷ iv c ∷ v ∷ []) (var 0 :* var 1 :- var 0 :* var 2) (var 0 :* (var 1 :- var 2)) tt) (0≤-add (iv (D * c) -q iv R) (iv R -q w) k (h .0))),
-      cancel-nn (qn D) (iv c +q v) t (subst 0≤ (ring ρ ((var 1 :- var 0) :+ (var 0 :+ var 2)) (var 1 :+ var 2) tt ∙ ap₂ (λ a b. a +q b) (sym (iv-scale D c)) (sym e) ∙ ring (qn D ∷ iv c ∷ v ∷ []) (var 0 :* var 1 :+ var 0 :* var 2) (var 0 :* (var 1 :+ var 2)) tt) (0≤-add (iv (D * c) -q iv R) (iv R +q w) k (h .1))),
+    let σ = qn D ∷ iv c ∷ v ∷ [] in
+    let t = qn-pos D Dp in
+    let below = ring ρ ((var 1 :- var 0) :+ (var 0 :- var 2)) (var 1 :- var 2) tt
+    ∙ ap₂ (λ a b. a -q b) (sym (iv-scale D c)) (sym e) ∙ ring σ (var 0 :* var 1 :- var 0 :* var 2) (var 0 :* (var 1 :- var 2)) tt in
+    let above = ring ρ ((var 1 :- var 0) :+ (var 0 :+ var 2)) (var 1 :+ var 2) tt
+    ∙ ap₂ (λ a b. a +q b) (sym (iv-scale D c)) (sym e) ∙ ring σ (var 0 :* var 1 :+ var 0 :* var 2) (var 0 :* (var 1 :+ var 2)) tt in (
+      cancel-nn (qn D) (iv c -q v) t (subst 0≤ below (0≤-add (iv (D * c) -q iv R) (iv R -q w) k (h .0))),
+      cancel-nn (qn D) (iv c +q v) t (subst 0≤ above (0≤-add (iv (D * c) -q iv R) (iv R +q w) k (h .1))),
     )
   where
     le-up : (q : ℕ) → R < q * D + D → R ≤ D * (q + 1)

@@ -11,13 +11,15 @@ q4 a b c d = a :* a :+ b :* b :+ c :* c :+ d :* d
 abbrev s4 : ℚ → ℚ → ℚ → ℚ → ℚ
 s4 a b c d = a *q a +q b *q b +q c *q c +q d *q d
 
-euler : (a b c d e f g h : ℚ) → s4 a b c d *q s4 e f g h ≡ s4 (a *q e -q b *q f -q c *q g -q d *q h) (a *q f +q b *q e +q c *q h -q d *q g) (a *q g -q b *q h +q c *q e +q d *q f) (a *q h +q b *q g -q c *q f +q d *q e)
+euler : (a b c d e f g h : ℚ) → s4 a b c d *q s4 e f g h ≡ s4 (a *q e -q b *q f -q c *q g -q d *q h)
+    (a *q f +q b *q e +q c *q h -q d *q g) (a *q g -q b *q h +q c *q e +q d *q f) (a *q h +q b *q g -q c *q f +q d *q e)
 unfolding same
 euler a b c d e f g h =
     let A = var 0 in let B = var 1 in let C = var 2 in let D = var 3 in let E = var 4 in let F = var 5 in let G = var 6 in let H = var 7 in
     ring (a ∷ b ∷ c ∷ d ∷ e ∷ f ∷ g ∷ h ∷ [])
     (q4 A B C D :* q4 E F G H)
-    (q4 (A :* E :- B :* F :- C :* G :- D :* H) (A :* F :+ B :* E :+ C :* H :- D :* G) (A :* G :- B :* H :+ C :* E :+ D :* F) (A :* H :+ B :* G :- C :* F :+ D :* E)) tt
+    (q4 (A :* E :- B :* F :- C :* G :- D :* H) (A :* F :+ B :* E :+ C :* H :- D :* G)
+    (A :* G :- B :* H :+ C :* E :+ D :* F) (A :* H :+ B :* G :- C :* F :+ D :* E)) tt
 
 -- rotation: N^2 |v|^2 = |N v + 2 (w (u x v) + u x (u x v))|^2
 abbrev cr : Ex → Ex → Ex → Ex → Ex

@@ -50,7 +50,8 @@ grid-zero den D = go (2 ^ 52) (grid binary64 0 den) (kept-near 53 (0 * 2 ^ 1074)
 
 round-zero : (s : Bool) (den : ℕ) → 0 < den → val (round binary64 s 0 den) ≡ qn 0
 round-zero s den D =
-    has→val (round binary64 s 0 den) s 0 (2 ^ 1074) (pow-pos 1074) (subst (λ (g : ℕ). HasValue (round binary64 s 0 den) s g (2 ^ 1074)) (grid-zero den D) (round-has s 0 den (subst (λ (g : ℕ). g < 2 ^ 2098) (sym (grid-zero den D)) (pow-pos 2098)))) .1
+    has→val (round binary64 s 0 den) s 0 (2 ^ 1074) (pow-pos 1074) (subst (λ (g : ℕ). HasValue (round binary64 s 0 den) s g (2 ^ 1074))
+    (grid-zero den D) (round-has s 0 den (subst (λ (g : ℕ). g < 2 ^ 2098) (sym (grid-zero den D)) (pow-pos 2098)))) .1
     ∙ both s
   where
     both : (s : Bool) → sg s 0 (2 ^ 1074) (pow-pos 1074) ≡ qn 0
@@ -60,6 +61,9 @@ round-zero s den D =
 zero-of : (a c : ℕ) (C : 0 < c) → 0≤ (sg true a c C) → a ≡ 0
 zero-of a c C h = let k = mk-≤ (whole 0 0) (sgF true a c C) h in omega arith
 
+zero-nn : (s : Bool) (v c : ℕ) → 0 < c → v ≡ 0 → 0≤ (val (round binary64 s v c))
+zero-nn s v c C z = subst (λ (v : ℕ). 0≤ (val (round binary64 s v c))) (sym z) (subst 0≤ (sym (round-zero s c C)) (≤q-refl (qn 0)))
+
 pub mul-nn : (x y : Float) → T (finite x) → T (finite y) → 0≤ (val x) → 0≤ (val y) → 0≤ (val (mul binary64 x y))
 unfolding mul
 mul-nn nan y p q h k = absurd p
@@ -67,11 +71,11 @@ mul-nn (inf s) y p q h k = absurd p
 mul-nn (fin s m e) nan p q h k = absurd q
 mul-nn (fin s m e) (inf t) p q h k = absurd q
 mul-nn (fin false m e) (fin false n d) p q h k = round-nn (m * up e * (n * up d)) (down e * down d)
-mul-nn (fin true m e) (fin t n d) p q h k = at-zero (unlike true t) (m * up e) (n * up d) (down e * down d) (mul-pos (down-pos e) (down-pos d)) (zero-of (m * up e) (down e) (down-pos e) h)
-  where
-    at-zero : (s : Bool) (a b c : ℕ) → 0 < c → a ≡ 0 → 0≤ (val (round binary64 s (a * b) c))
-    at-zero s a b c C z = subst (λ (v : ℕ). 0≤ (val (round binary64 s v c))) (sym (ap (λ (v : ℕ). v * b) z ∙ zero-mul b)) (subst 0≤ (sym (round-zero s c C)) (≤q-refl (qn 0)))
-mul-nn (fin false m e) (fin true n d) p q h k = at-zero true (m * up e) (n * up d) (down e * down d) (mul-pos (down-pos e) (down-pos d)) (zero-of (n * up d) (down d) (down-pos d) k)
-  where
-    at-zero : (s : Bool) (a b c : ℕ) → 0 < c → b ≡ 0 → 0≤ (val (round binary64 s (a * b) c))
-    at-zero s a b c C z = subst (λ (v : ℕ). 0≤ (val (round binary64 s v c))) (sym (ap (λ (v : ℕ). a * v) z ∙ mul-zero a)) (subst 0≤ (sym (round-zero s c C)) (≤q-refl (qn 0)))
+mul-nn (fin true m e) (fin t n d) p q h k =
+    let z = zero-of (m * up e) (down e) (down-pos e) h in
+    zero-nn (unlike true t) (m * up e * (n * up d)) (down e * down d) (mul-pos (down-pos e) (down-pos d))
+    (ap (λ (v : ℕ). v * (n * up d)) z ∙ zero-mul (n * up d))
+mul-nn (fin false m e) (fin true n d) p q h k =
+    let z = zero-of (n * up d) (down d) (down-pos d) k in
+    zero-nn true (m * up e * (n * up d)) (down e * down d) (mul-pos (down-pos e) (down-pos d))
+    (ap (λ (v : ℕ). m * up e * v) z ∙ mul-zero (m * up e))

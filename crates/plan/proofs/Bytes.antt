@@ -1,15 +1,13 @@
 -- Doubles from bytes: where a pattern is a NaN's.
-use Prim.Native.Nat.{ℕ, zero, suc, _+_, _-_, _*_, _%_, _≤_, _<_}
+use Prim.Native.Nat.{ℕ, _-_, _%_, _≤_, _<_}
 use mathlib.Core.Path.{_≡_, refl, sym, _∙_, ap, subst}
-use mathlib.Core.Bool.{Bool, true, false, not, cond}
+use mathlib.Core.Bool.{Bool, true, not}
 use mathlib.Core.List.{List}
-use lib.Dec.{T, ltb, leb, eqb}
-use lib.ListN.{length}
+use lib.Dec.{T, ltb}
 use lib.Ieee.{Float, nan, inf, fin, binary64, ofBits, nanBits, isNan, div}
 use lib.Ieee.Bits.{nanBits-is, nanBits-above}
-use borrow.Author.Tests.{lt-ltb, le-ltb, lt-leb, le-leb, eq-eqb, ne-eqb, leb-false, ltb-false, eqb-true, eqb-false}
-use native.Mathlib.Omega.{arith}
-use Rattle.plan.specs.File.{byte, double, word, jointSize, JointThere}
+use borrow.Author.Tests.{lt-ltb, le-ltb}
+use Rattle.plan.specs.File.{double, word}
 
 is-nan : (x : Float) → isNan x ≡ true → nan ≡ x
 unfolding isNan

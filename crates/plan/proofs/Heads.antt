@@ -1,10 +1,10 @@
 -- The tests at a record, way by way, as the code takes them.
-use Prim.Native.Nat.{ℕ, zero, suc, _+_, _-_, _*_, _≤_, _<_}
-use mathlib.Core.Path.{_≡_, refl, sym, _∙_, ap}
-use mathlib.Core.Bool.{Bool, true, false, cond}
+use Prim.Native.Nat.{ℕ, _-_, _≤_, _<_}
+use mathlib.Core.Path.{_≡_, refl, sym, _∙_}
+use mathlib.Core.Bool.{Bool, true, false}
 use mathlib.Core.List.{List}
 use lib.Dec.{ltb, leb, eqb}
-use lib.ListN.{length, getD}
+use lib.ListN.{length}
 use borrow.Author.Tests.{lt-ltb, le-ltb, lt-leb, le-leb, eq-eqb, ne-eqb}
 use Rattle.plan.specs.declared.reader.ReadOutcome.the-variants.{Mark, SecondTimeStep, TooMany, KindByte, Truncated}
 use Rattle.plan.specs.declared.reader.Found.{Found}
@@ -63,7 +63,9 @@ module _ (s : List ℕ) where
 
         pub joint-there : k ≤ length s → found.Joint k ≡ jointHead s n
         unfolding jointHead
-        joint-there g = let h : jointSize (byte s 4) ≤ length s = rw size at g in rw size (simp (lt-leb _ _ room, le-ltb _ _ bytes, le-ltb _ _ kind, le-ltb _ _ h))
+        joint-there g =
+            let h : jointSize (byte s 4) ≤ length s = rw size at g in rw size
+            (simp (lt-leb _ _ room, le-ltb _ _ bytes, le-ltb _ _ kind, le-ltb _ _ h))
 
 module _ (s : List ℕ) (seen : Bool) (bodies joints : ℕ) where
   pub head-end : length s ≡ 0 → found.End ≡ headOf s seen bodies joints

@@ -1,8 +1,5 @@
 pub mod Bytes
 pub mod Examples
 pub mod Heads
-pub mod Parts
-pub mod Poses
-pub mod Records
+pub mod RecordLaws
 pub mod Readings
-pub mod Texts

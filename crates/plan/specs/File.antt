@@ -1,6 +1,6 @@
--- Document 01's plan file: what a file says, the refusals 13 to 18, and the tables that are read from it.
+-- The plan file of SPECIFICATION §12: what a file says, the refusals 13 to 18, and the tables that are read from it.
 -- A file is a list of bytes. The tests and the records below look at its head; what comes after a record is read in the same way.
-use Prim.Native.Nat.{ℕ, zero, suc, _+_, _*_, _≤_, _<_}
+use Prim.Native.Nat.{ℕ, zero, suc, _+_, _*_, _≤_}
 use mathlib.Core.List.{List, [], _∷_}
 use mathlib.Core.Bool.{Bool, true, false, cond, _&&_}
 use lib.Dec.{ltb, leb, eqb}
@@ -8,8 +8,6 @@ use lib.ListN.{length, getD, set, drop, replicate}
 use lib.Seq.{paste}
 use lib.Ieee.{Float, binary64, ofBits}
 use Rattle.arith.specs.Flow.{tab}
-use Rattle.vectors.specs.declared.vector.Vec3.{Vec3}
-use Rattle.vectors.specs.declared.quaternion.Quat.{Quat}
 use Rattle.rows.specs.declared.geometry.JointFrame.{JointFrame}
 use Rattle.rows.specs.declared.geometry.Kind.{Kind}
 use Rattle.rows.specs.declared.geometry.Kind.the-variants.{Ball, Hinge, Cylindrical, Planar, Distance, ConeTwist}
@@ -21,7 +19,7 @@ use Rattle.plan.specs.declared.reader.ReadOutcome.the-variants.{Read, Ma
 use Rattle.plan.specs.declared.reader.Found.{Found}
 use Rattle.plan.specs.declared.reader.Found.the-variants as found
 
--- document 01's numbers; 0 where the file was read
+-- the numbers of the refusals; 0 where the file was read
 abbrev pub numberOf : ReadOutcome → ℕ
 numberOf Read = 0
 numberOf Mark = 13
@@ -31,52 +29,7 @@ numberOf KindByte = 16
 numberOf Truncated = 17
 numberOf NoTimeStep = 18
 
--- ---- bytes and doubles
-
-abbrev pub byte : List ℕ → ℕ → ℕ
-byte s i = getD s i 0
-
--- the eight bytes at i, the least first
-abbrev pub word : List ℕ → ℕ → ℕ
-word s i =
-    ((((((byte s (i + 7) * 256 + byte s (i + 6)) * 256 + byte s (i + 5)) * 256 + byte s (i + 4)) * 256 + byte s (i + 3)) * 256 + byte s (i + 2)) * 256 + byte s (i + 1)) * 256 + byte s i
-
-unfoldable pub double : List ℕ → ℕ → Float
-double s i = ofBits binary64 (word s i)
-
--- ---- the records at the head of s, behind their marks
-
-unfoldable pub bodyOf : List ℕ → List Float
-bodyOf s = tab 26 (λ k. double s (2 + 8 * k))
-
-abbrev pub frameAt : List ℕ → ℕ → JointFrame
-frameAt s i =
-    record {
-      «local_anchor» = record { x = double s i; y = double s (i + 8); z = double s (i + 16) };
-      «local_rotation» = record { x = double s (i + 24); y = double s (i + 32); z = double s (i + 40); w = double s (i + 48) };
-    }
-
-unfoldable pub kindOf : List ℕ → Kind
-kindOf s =
-    cond (eqb (byte s 4) 0) Ball
-    (cond (eqb (byte s 4) 1) Hinge
-    (cond (eqb (byte s 4) 2) Cylindrical
-    (cond (eqb (byte s 4) 3) Planar
-    (cond (eqb (byte s 4) 4) (Distance (double s 117))
-    (ConeTwist (double s 117) (double s 125) (double s 133) (double s 141))))))
-
-unfoldable pub jointOf : List ℕ → Joint
-jointOf s = record { «body_a» = byte s 2; «body_b» = byte s 3; «frame_a» = frameAt s 5; «frame_b» = frameAt s 61; kind = kindOf s }
-
--- a joint's length in bytes: mark, three bytes and fourteen doubles, then the kind's own numbers
-abbrev pub jointSize : ℕ → ℕ
-jointSize kind = cond (eqb kind 4) 125 (cond (eqb kind 5) 149 117)
-
--- a joint stands at the head of s, to its end
-abbrev pub JointThere : List ℕ → Type 0
-JointThere s = (byte s 4 ≤ 5) × (jointSize (byte s 4) ≤ length s)
-
--- ---- the marks, in ASCII
+-- ---- the layout: the marks, in ASCII, how many bytes a record has, its mark among them, and from which byte on it has what
 
 abbrev pub DT : List ℕ
 DT = 68 ∷ 84 ∷ []
@@ -87,6 +40,104 @@ BD = 66 ∷ 68 ∷ []
 abbrev pub JT : List ℕ
 JT = 74 ∷ 84 ∷ []
 
+-- the first double of a time step or a body
+abbrev pub NUMBERS : ℕ
+NUMBERS = 2
+
+abbrev pub TIME-STEP : ℕ
+TIME-STEP = 10
+
+abbrev pub BODY : ℕ
+BODY = 210
+
+-- a joint's bodies, its kind and its frames
+abbrev pub SIDE-A : ℕ
+SIDE-A = 2
+
+abbrev pub SIDE-B : ℕ
+SIDE-B = 3
+
+abbrev pub KIND : ℕ
+KIND = 4
+
+abbrev pub FRAME-A : ℕ
+FRAME-A = 5
+
+abbrev pub FRAME-B : ℕ
+FRAME-B = 61
+
+-- behind them the one number of a distance, or the four of a cone with a twist
+abbrev pub LENGTH : ℕ
+LENGTH = 117
+
+abbrev pub SWING-X : ℕ
+SWING-X = 117
+
+abbrev pub SWING-Y : ℕ
+SWING-Y = 125
+
+abbrev pub TWIST-LOWER : ℕ
+TWIST-LOWER = 133
+
+abbrev pub TWIST-UPPER : ℕ
+TWIST-UPPER = 141
+
+-- a joint of kind 4, of kind 5, or of any other
+abbrev pub jointSize : ℕ → ℕ
+jointSize kind = cond (eqb kind 4) 125 (cond (eqb kind 5) 149 117)
+
+-- ---- bytes and doubles
+
+abbrev pub byte : List ℕ → ℕ → ℕ
+byte s i = getD s i 0
+
+-- the eight bytes at i, the least first
+abbrev pub word : List ℕ → ℕ → ℕ
+word s i =
+    ((((((byte s (i + 7) * 256 + byte s (i + 6)) * 256 + byte s (i + 5)) * 256 + byte s (i + 4)) * 256 + byte s (i + 3)) * 256
+    + byte s (i + 2)) * 256 + byte s (i + 1)) * 256 + byte s i
+
+unfoldable pub double : List ℕ → ℕ → Float
+double s i = ofBits binary64 (word s i)
+
+-- ---- the records at the head of s, behind their marks
+
+unfoldable pub bodyOf : List ℕ → List Float
+bodyOf s = tab 26 (λ k. double s (NUMBERS + 8 * k))
+
+abbrev pub frameAt : List ℕ → ℕ → JointFrame
+frameAt s i =
+    record {
+      «local_anchor» = record { x = double s i; y = double s (i + 8); z = double s (i + 16) };
+      «local_rotation» = record { x = double s (i + 24); y = double s (i + 32); z = double s (i + 40); w = double s (i + 48) };
+    }
+
+abbrev pub coneTwistOf : List ℕ → Kind
+coneTwistOf s = ConeTwist (double s SWING-X) (double s SWING-Y) (double s TWIST-LOWER) (double s TWIST-UPPER)
+
+unfoldable pub kindOf : List ℕ → Kind
+kindOf s =
+    cond (eqb (byte s KIND) 0) Ball
+    (cond (eqb (byte s KIND) 1) Hinge
+    (cond (eqb (byte s KIND) 2) Cylindrical
+    (cond (eqb (byte s KIND) 3) Planar
+    (cond (eqb (byte s KIND) 4) (Distance (double s LENGTH))
+    (coneTwistOf s)))))
+
+unfoldable pub jointOf : List ℕ → Joint
+jointOf s =
+    record {
+      «body_a» = byte s SIDE-A;
+      «body_b» = byte s SIDE-B;
+      «frame_a» = frameAt s FRAME-A;
+      «frame_b» = frameAt s FRAME-B;
+      kind = kindOf s;
+    }
+
+-- a joint stands at the head of s, to its end
+abbrev pub JointThere : List ℕ → Type 0
+JointThere s = (byte s KIND ≤ 5) × (jointSize (byte s KIND) ≤ length s)
+
 abbrev pub marked : List ℕ → List ℕ → Bool
 marked s mark = eqb (byte s 0) (byte mark 0) && eqb (byte s 1) (byte mark 1)
 
@@ -95,22 +146,22 @@ marked s mark = eqb (byte s 0) (byte mark 0) && eqb (byte s 1) (byte mark 1)
 unfoldable pub timeStepHead : List ℕ → Bool → Found
 timeStepHead s seen =
     cond seen (found.Refused SecondTimeStep)
-    (cond (ltb (length s) 10) (found.Refused Truncated)
+    (cond (ltb (length s) TIME-STEP) (found.Refused Truncated)
     found.TimeStep)
 
 unfoldable pub bodyHead : List ℕ → ℕ → Found
 bodyHead s bodies =
     cond (leb 16 bodies) (found.Refused TooMany)
-    (cond (ltb (length s) 210) (found.Refused Truncated)
+    (cond (ltb (length s) BODY) (found.Refused Truncated)
     found.Body)
 
 unfoldable pub jointHead : List ℕ → ℕ → Found
 jointHead s joints =
     cond (leb 16 joints) (found.Refused TooMany)
-    (cond (ltb (length s) 5) (found.Refused Truncated)
-    (cond (ltb 5 (byte s 4)) (found.Refused KindByte)
-    (cond (ltb (length s) (jointSize (byte s 4))) (found.Refused Truncated)
-    (found.Joint (jointSize (byte s 4))))))
+    (cond (ltb (length s) FRAME-A) (found.Refused Truncated)
+    (cond (ltb 5 (byte s KIND)) (found.Refused KindByte)
+    (cond (ltb (length s) (jointSize (byte s KIND))) (found.Refused Truncated)
+    (found.Joint (jointSize (byte s KIND))))))
 
 unfoldable pub headOf : List ℕ → Bool → ℕ → ℕ → Found
 headOf s seen bodies joints =
@@ -125,7 +176,14 @@ headOf s seen bodies joints =
 
 unfoldable pub withTimeStep : List ℕ → Plan → Plan
 withTimeStep s t =
-    record { dt = double s 2; «has_dt» = true; bodies = t .bodies; «body_count» = t .«body_count»; joints = t .joints; «joint_count» = t .«joint_count» }
+    record {
+      dt = double s NUMBERS;
+      «has_dt» = true;
+      bodies = t .bodies;
+      «body_count» = t .«body_count»;
+      joints = t .joints;
+      «joint_count» = t .«joint_count»;
+    }
 
 unfoldable pub withBody : List ℕ → Plan → Plan
 withBody s t =
@@ -159,8 +217,8 @@ endedOf tables t = cond (t .«has_dt») (record { outcome = Read; plan = t }) (r
 unfoldable pub nextOf : Found → List ℕ → Plan → Plan → (ℕ → Plan → Reading) → Reading
 nextOf found.End s tables t more = endedOf tables t
 nextOf (found.Refused e) s tables t more = record { outcome = e; plan = tables }
-nextOf found.TimeStep s tables t more = more 10 (withTimeStep s t)
-nextOf found.Body s tables t more = more 210 (withBody s t)
+nextOf found.TimeStep s tables t more = more TIME-STEP (withTimeStep s t)
+nextOf found.Body s tables t more = more BODY (withBody s t)
 nextOf (found.Joint n) s tables t more = more n (withJoint s t)
 
 -- the file from here on, where it holds fewer than n records

@@ -8,7 +8,7 @@ use native.Mathlib.Numerals.{add-one}
 use lib.Dec.{ltb, leb, eqb}
 use lib.ListN.{length, set, drop, length-set, length-replicate}
 use lib.Seq.{paste, drop-paste, length-paste, drop-drop}
-use lib.Ieee.{Float, binary64, ofBits}
+use lib.Ieee.{binary64, ofBits}
 use borrow.Author.Tests.{leb-false, ltb-false, eq-eqb, ne-eqb}
 use Rattle.plan.specs.declared.reader.Plan.{Plan}
 use Rattle.plan.specs.declared.reader.Reading.{Reading}
@@ -17,7 +17,8 @@ use Rattle.plan.specs.declared.reader.ReadOutcome.the-variants.{Read, No
 use Rattle.plan.specs.declared.reader.Found.{Found}
 use Rattle.arith.specs.Flow.{tab}
 use Rattle.plan.specs.declared.reader.Found.the-variants as found
-use Rattle.plan.specs.File.{numberOf, byte, marked, jointSize, JointThere, DT, BD, JT, timeStepHead, bodyHead, jointHead, headOf, endedOf, nextOf, readOn, readOf, cleared, withTimeStep, withBody, withJoint, bodyOf, jointOf, emptyOf}
+use Rattle.plan.specs.File.{numberOf, byte, marked, jointSize, JointThere, DT, BD, JT, timeStepHead, bodyHead, jointHead, headOf, endedOf}
+use Rattle.plan.specs.File.{nextOf, readOn, readOf, cleared, withTimeStep, withBody, withJoint, bodyOf, jointOf, emptyOf}
 
 -- ---- the length of a joint's record by its kind
 
@@ -91,6 +92,10 @@ module _ (s : List ℕ) (seen : Bool) (bodies joints : ℕ) where
       if Fits (marked s JT) joint-room λ _ e. omega arith
 
   module _ {h : Found} (e : h ≡ headOf s seen bodies joints) where
+    pub room-refused : {o : ReadOutcome} → h ≡ found.Refused o → numberOf o ≡ 0 → ⊥
+    unfolding Room
+    room-refused g = subst Fits (sym e ∙ g) head-room
+
     pub room-time-step : h ≡ found.TimeStep → 10 ≤ length s
     unfolding Room
     room-time-step g = (subst Fits (sym e ∙ g) head-room) .0
@@ -159,7 +164,9 @@ module _ (tables : Plan) where
         joint-room = k .joint-room;
         body-length = length-paste (t .bodies) (26 * n) (bodyOf s) 26 long most ∙ k .body-length;
         joint-length = k .joint-length;
-        bodies-after = rw next (drop-paste (t .bodies) (26 * n) (bodyOf s) 26 (omega arith) most ∙ drop-on (26 * n) 26 (t .bodies) (tables .bodies) (k .bodies-after));
+        bodies-after =
+            rw next
+            (drop-paste (t .bodies) (26 * n) (bodyOf s) 26 (omega arith) most ∙ drop-on (26 * n) 26 (t .bodies) (tables .bodies) (k .bodies-after));
         joints-after = k .joints-after;
       }
 
@@ -207,7 +214,8 @@ module _ (tables : Plan) where
       (record { body-room = omega arith; joint-room = omega arith; body-length = h; joint-length = g; bodies-after = refl; joints-after = refl })
 
 -- a plan that was read into empty tables counts at most sixteen of each
-pub read-few : (file : List ℕ) {r : Reading} {n : ℕ} → r ≡ readOf file emptyOf → n ≡ numberOf (r .outcome) → n ≡ 0 → (r .plan .«body_count» ≤ 16) × (r .plan .«joint_count» ≤ 16)
+pub read-few : (file : List ℕ) {r : Reading} {n : ℕ} → r ≡ readOf file emptyOf → n ≡ numberOf (r .outcome) → n ≡ 0
+    → (r .plan .«body_count» ≤ 16) × (r .plan .«joint_count» ≤ 16)
 unfolding emptyOf
 read-few file {r} e i z =
     let k : Kept-or-same emptyOf (readOf file emptyOf) = reading-keeps emptyOf file (length-replicate 416 (ofBits binary64 0)) (simp length-replicate) in

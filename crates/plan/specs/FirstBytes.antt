@@ -1,25 +1,24 @@
 -- The first 5,756 bytes decide every file, however long: all records that fit the tables, and the mark after them.
 use Prim.Native.Nat.{ℕ, zero, suc, _+_, _-_, _*_, _≤_, _<_}
 use mathlib.Core.Path.{_≡_, refl, sym, _∙_, ap}
-use mathlib.Core.Bool.{Bool, true, false, cond, _&&_}
+use mathlib.Core.Bool.{Bool, true, false, cond}
 use mathlib.Core.List.{List, [], _∷_}
 use native.Mathlib.Omega.{arith}
 use native.Mathlib.Decide.{decLt}
 use mathlib.Core.Logic.{_⊎_, inl, inr}
 use lib.Dec.{ltb, leb, eqb}
-use lib.ListN.{length, getD, set, take, drop, length-drop}
-use lib.Seq.{paste, take-nil, take-all, length-take-le, getD-take}
-use lib.Ieee.{Float, binary64, ofBits}
+use lib.ListN.{length, getD, take, drop, length-drop}
+use lib.Seq.{take-nil, take-all, length-take-le, getD-take}
 use borrow.Author.Tests.{le-ltb, leb-false, ne-eqb}
 use Rattle.rows.specs.Region.{tab-ext}
-use Rattle.rows.specs.declared.geometry.Kind.{Kind}
 use Rattle.rows.specs.declared.geometry.Joint.{Joint}
 use Rattle.plan.specs.declared.reader.Plan.{Plan}
 use Rattle.plan.specs.declared.reader.Reading.{Reading}
 use Rattle.plan.specs.declared.reader.ReadOutcome.the-variants.{SecondTimeStep, TooMany, Truncated}
 use Rattle.plan.specs.declared.reader.Found.{Found}
 use Rattle.plan.specs.declared.reader.Found.the-variants as found
-use Rattle.plan.specs.File.{byte, double, bodyOf, frameAt, kindOf, jointOf, jointSize, marked, DT, BD, JT, timeStepHead, bodyHead, jointHead, headOf, withTimeStep, withBody, withJoint, endedOf, nextOf, readOn, readOf, cleared}
+use Rattle.plan.specs.File.{byte, double, bodyOf, frameAt, kindOf, jointOf, jointSize, marked, DT, BD, JT, timeStepHead, bodyHead, jointHead}
+use Rattle.plan.specs.File.{headOf, withTimeStep, withBody, withJoint, nextOf, readOn, readOf, cleared}
 use Rattle.plan.specs.FileLaws.{Room, head-room, size-within}
 
 -- the bytes that can still matter, where these were read
@@ -133,14 +132,16 @@ module _ (m : ℕ) (s : List ℕ) (long : m < length s) where
         let l : 149 ≤ m = omega (arith, leb-false 16 joints e) in
         let b4 : byte (take m s) 4 ≡ byte s 4 = byte-cut m s 4 (omega arith) in
         let l5 : ltb (length (take m s)) 5 ≡ ltb (length s) 5 = long-enough 5 (omega arith) in
-        let ls : ltb (length (take m s)) (jointSize (byte s 4)) ≡ ltb (length s) (jointSize (byte s 4)) = long-enough (jointSize (byte s 4)) (omega (arith, size-within (byte s 4) .1)) in
+        let size : ℕ = jointSize (byte s 4) in
+        let ls : ltb (length (take m s)) size ≡ ltb (length s) size = long-enough size (omega (arith, size-within (byte s 4) .1)) in
         rw (b4, l5, ls) refl
 
     head-cut : headOf (take m s) seen bodies joints ≡ headOf s seen bodies joints
     unfolding headOf
     head-cut =
         let two : 2 ≤ m = two-needed in
-        let l0 : eqb (length (take m s)) 0 ≡ eqb (length s) 0 = ne-eqb (length (take m s)) 0 (λ e. omega (arith, cut-length)) ∙ sym (ne-eqb (length s) 0 (λ e. omega arith)) in
+        let l0 : eqb (length (take m s)) 0 ≡ eqb (length s) 0 =
+        ne-eqb (length (take m s)) 0 (λ e. omega (arith, cut-length)) ∙ sym (ne-eqb (length s) 0 (λ e. omega arith)) in
         let l2 : ltb (length (take m s)) 2 ≡ ltb (length s) 2 = long-enough 2 two in
         let k1 : marked (take m s) DT ≡ marked s DT = mark-cut DT two in
         let k2 : marked (take m s) BD ≡ marked s BD = mark-cut BD two in
@@ -198,7 +199,8 @@ module _ (tables : Plan) (m : ℕ) (s : List ℕ) (t : Plan) (h : neededBy t ≤
     next-cut found.Body r = ap (more 210) (with-body-cut (r .1)) ∙ ih 210 (withBody s t) (omega arith) (r .0) (less-body (r .1))
     next-cut (found.Joint n) r =
         let q = size-within (byte s 4) in
-        ap (more n) (with-joint-cut (r .1)) ∙ ih n (withJoint s t) (omega (arith, r .2, q .0)) (omega (arith, r .2, r .0 .1)) (less-joint n (r .1) (omega (arith, r .2, q .1)))
+        ap (more n) (with-joint-cut (r .1))
+        ∙ ih n (withJoint s t) (omega (arith, r .2, q .0)) (omega (arith, r .2, r .0 .1)) (less-joint n (r .1) (omega (arith, r .2, q .1)))
 
 cut-some : (m : ℕ) (s : List ℕ) → 1 ≤ m → 1 ≤ length s → 1 ≤ length (take m s)
 cut-some zero s h g = absurd (omega arith)
@@ -212,7 +214,8 @@ mark-needed t h = omega arith
 rest-shorter : (k m a : ℕ) (s : List ℕ) → 1 ≤ k → 1 ≤ length (take m s) → length (take m s) < suc a → length (take (m - k) (drop k s)) < a
 rest-shorter k m a s one some h = omega (arith, ap length (drop-take k m s), length-drop k (take m s))
 
-on-cut : (tables : Plan) (a b m : ℕ) (s : List ℕ) (t : Plan) → neededBy t ≤ m → length (take m s) < a → length s < b → readOn a (take m s) tables t ≡ readOn b s tables t
+on-cut : (tables : Plan) (a b m : ℕ) (s : List ℕ) (t : Plan) → neededBy t ≤ m → length (take m s) < a → length s < b
+    → readOn a (take m s) tables t ≡ readOn b s tables t
 unfolding readOn neededBy
 on-cut tables zero b m s t h la lb = absurd (omega arith)
 on-cut tables (suc a) zero m s t h la lb = absurd (omega arith)

@@ -1,22 +1,18 @@
-// The plan file: records in any order, each under a two-byte mark.
-ghost use Prim.Native.Nat.{ℕ, _+_, _*_, _^_, _≤_, _<_};
+// Reads a plan file: records in any order, each under a two-byte mark. What it says is in specs/File.antt.
+ghost use Prim.Native.Nat.{ℕ, _+_, _^_, _≤_, _<_};
 ghost use mathlib.Core.Path.{_≡_};
-ghost use lib.ListN.{length};
-ghost use lib.Seq.{paste};
-ghost use lib.Ieee.{binary64, ofBits};
+ghost use lib.ListN.{length, getD, drop};
 ghost use Rattle.plan.specs.File as File;
+ghost use Rattle.plan.specs.Noting as Noting;
+use crate::layout;
+use crate::records::double_at;
+use crate::records::joint_at;
+use crate::records::put_body;
 use rows::geometry::Joint;
 use rows::geometry::JointFrame;
 use rows::geometry::Kind;
 use vectors::quaternion::Quat;
 use vectors::vector::Vec3;
-
-// The marks.
-pub const TIME_STEP: [u8; 2] = *b"DT";
-
-pub const BODY: [u8; 2] = *b"BD";
-
-pub const JOINT: [u8; 2] = *b"JT";
 
 // The tables, with space for sixteen bodies of 26 doubles and sixteen joints.
 pub struct Plan {
@@ -100,57 +96,141 @@ pub fn empty() -> Plan
     }
 }
 
+// What was read of a file: the time step, and at which byte each body and each joint begins. The part from `at` on is still to
+// be read.
+struct Notes {
+    at: usize,
+    dt: f64,
+    has_dt: bool,
+    bodies: [usize; 16],
+    body_count: usize,
+    joints: [usize; 16],
+    joint_count: usize,
+}
+
+struct Noted {
+    outcome: ReadOutcome,
+    notes: Notes,
+}
+
 // Reads a whole file. A refusal hands the tables back as they came; else they hold the records read, and the space after
-// them is as it was.
+// them is as it was. They are written once, when the file has been read to its end.
 pub fn read(file: &[u8], tables: Plan) -> Reading
     ensures { λ r. ⌜ r ≡ File.readOf (now (file .entry)) tables ⌝ }
 {
-    let bodies = tables.bodies;
-    let joints = tables.joints;
-    let start = Plan {
+    let start = Notes {
+        at: 0,
         dt: tables.dt,
         has_dt: false,
-        bodies,
+        bodies: [0; 16],
         body_count: 0,
-        joints,
+        joints: [0; 16],
         joint_count: 0,
     };
-    read_on(file, tables, start)
+    let noted = read_on(file, start);
+    let outcome = noted.outcome;
+    if number(outcome) == 0 {
+        return Reading {
+            outcome,
+            plan: filled(file, tables, noted.notes),
+        };
+    }
+    Reading {
+        outcome,
+        plan: tables,
+    }
 }
 
 // Reads the rest of a file, and hands the part after each record on to itself.
-fn read_on(file: &[u8], first: Plan, plan: Plan) -> Reading
-    ensures { λ r. ⌜ ((n : ℕ) → length (now (file .entry)) < n → r ≡ File.readOn n (now (file .entry)) first plan) ⌝ }
+fn read_on(file: &[u8], notes: Notes) -> Noted
+    requires { ⌜ notes .at + length (now file) < 2 ^ 64 ⌝ }
+    ensures { λ r. ⌜ Noting.Reads (now (file .entry)) notes r ⌝ }
 {
-    match head(file, plan.has_dt, plan.body_count, plan.joint_count) {
-        Found::End => ended(first, plan),
-        Found::Refused(outcome) => Reading {
-            outcome,
-            plan: first,
+    match head(file, notes.has_dt, notes.body_count, notes.joint_count) {
+        Found::End => Noted {
+            outcome: ended(notes.has_dt),
+            notes,
         },
-        Found::TimeStep => read_on(&file[10..], first, plan.with_time_step(file)),
-        Found::Body => read_on(&file[210..], first, plan.with_body(file)),
-        Found::Joint(n) => read_on(&file[n..], first, plan.with_joint(file)),
+        Found::Refused(outcome) => Noted { outcome, notes },
+        Found::TimeStep => read_on(
+            &file[layout::TIME_STEP..],
+            notes.with_time_step(double_at(file, layout::NUMBERS)),
+        ),
+        Found::Body => read_on(&file[layout::BODY..], notes.with_body()),
+        Found::Joint(n) => read_on(&file[n..], notes.with_joint(n)),
     }
 }
 
-fn ended(first: Plan, plan: Plan) -> Reading
-    ensures { λ r. ⌜ r ≡ File.endedOf first plan ⌝ }
+fn ended(has_dt: bool) -> ReadOutcome
+    ensures { λ r. ⌜ r ≡ Noting.endedOf «has_dt» ⌝ }
 {
-    if plan.has_dt {
-        Reading {
-            outcome: ReadOutcome::Read,
-            plan,
-        }
+    if has_dt {
+        ReadOutcome::Read
     } else {
-        Reading {
-            outcome: ReadOutcome::NoTimeStep,
-            plan: first,
-        }
+        ReadOutcome::NoTimeStep
     }
 }
 
-// The tests at a record, in document 01's order.
+// The notes with one more record, which stands where they end.
+impl Notes {
+    fn with_time_step(self, dt: f64) -> Notes
+        requires { ⌜ self .at + File.TIME-STEP < 2 ^ 64 ⌝ }
+        ensures { λ r. ⌜ r ≡ Noting.withTimeStep dt self ⌝ }
+    {
+        let mut notes = self;
+        notes.at = self.at + layout::TIME_STEP;
+        notes.dt = dt;
+        notes.has_dt = true;
+        notes
+    }
+
+    fn with_body(self) -> Notes
+        requires { ⌜ (self .at + File.BODY < 2 ^ 64) × (self .«body_count» < 16) ⌝ }
+        ensures { λ r. ⌜ r ≡ Noting.withBody self ⌝ }
+    {
+        let mut notes = self;
+        let k = self.body_count;
+        notes.at = self.at + layout::BODY;
+        notes.bodies[k] = self.at;
+        notes.body_count = k + 1;
+        notes
+    }
+
+    fn with_joint(self, n: usize) -> Notes
+        requires { ⌜ (self .at + n < 2 ^ 64) × (self .«joint_count» < 16) ⌝ }
+        ensures { λ r. ⌜ r ≡ Noting.withJoint n self ⌝ }
+    {
+        let mut notes = self;
+        let k = self.joint_count;
+        notes.at = self.at + n;
+        notes.joints[k] = self.at;
+        notes.joint_count = k + 1;
+        notes
+    }
+}
+
+// The tables with the records that are noted.
+fn filled(file: &[u8], tables: Plan, notes: Notes) -> Plan
+    requires { ⌜ Noting.There (now file) notes ⌝ }
+    ensures { λ r. ⌜ r ≡ Noting.filledOf (now (file .entry)) tables notes ⌝ }
+{
+    let mut bodies = tables.bodies;
+    let body_places = notes.bodies;
+    put_bodies(&mut bodies, file, body_places, notes.body_count);
+    let joints = tables.joints;
+    let joint_places = notes.joints;
+    let filled = joints_from(joints, file, joint_places, notes.joint_count);
+    Plan {
+        dt: notes.dt,
+        has_dt: notes.has_dt,
+        bodies,
+        body_count: notes.body_count,
+        joints: filled,
+        joint_count: notes.joint_count,
+    }
+}
+
+// The tests at a record, in the order of SPECIFICATION §12.
 fn head(file: &[u8], has_dt: bool, bodies: usize, joints: usize) -> Found
     ensures { λ r. ⌜ r ≡ File.headOf (now (file .entry)) «has_dt» bodies joints ⌝ }
 {
@@ -160,13 +240,13 @@ fn head(file: &[u8], has_dt: bool, bodies: usize, joints: usize) -> Found
     if file.len() < 2 {
         return Found::Refused(ReadOutcome::Mark);
     }
-    if marked(file, TIME_STEP) {
+    if marked(file, layout::TIME_STEP_MARK) {
         return time_step_head(file, has_dt);
     }
-    if marked(file, BODY) {
+    if marked(file, layout::BODY_MARK) {
         return body_head(file, bodies);
     }
-    if marked(file, JOINT) {
+    if marked(file, layout::JOINT_MARK) {
         return joint_head(file, joints);
     }
     Found::Refused(ReadOutcome::Mark)
@@ -188,7 +268,7 @@ fn time_step_head(file: &[u8], has_dt: bool) -> Found
     if has_dt {
         return Found::Refused(ReadOutcome::SecondTimeStep);
     }
-    if file.len() < 10 {
+    if file.len() < layout::TIME_STEP {
         return Found::Refused(ReadOutcome::Truncated);
     }
     Found::TimeStep
@@ -200,7 +280,7 @@ fn body_head(file: &[u8], bodies: usize) -> Found
     if 16 <= bodies {
         return Found::Refused(ReadOutcome::TooMany);
     }
-    if file.len() < 210 {
+    if file.len() < layout::BODY {
         return Found::Refused(ReadOutcome::Truncated);
     }
     Found::Body
@@ -213,10 +293,10 @@ fn joint_head(file: &[u8], joints: usize) -> Found
     if 16 <= joints {
         return Found::Refused(ReadOutcome::TooMany);
     }
-    if file.len() < 5 {
+    if file.len() < layout::FRAME_A {
         return Found::Refused(ReadOutcome::Truncated);
     }
-    let kind = file[4];
+    let kind = file[layout::KIND];
     if 5 < kind {
         return Found::Refused(ReadOutcome::KindByte);
     }
@@ -227,153 +307,36 @@ fn joint_head(file: &[u8], joints: usize) -> Found
     Found::Joint(n)
 }
 
-// Mark, three bytes and fourteen doubles, then the kind's own numbers.
 fn joint_length(kind: u8) -> usize
     ensures { λ r. ⌜ r ≡ File.jointSize kind ⌝ }
 {
     match kind {
-        4 => 125,
-        5 => 149,
-        _ => 117,
+        4 => layout::DISTANCE,
+        5 => layout::CONE_TWIST,
+        _ => layout::JOINT,
     }
 }
 
-impl Plan {
-    fn with_time_step(self, file: &[u8]) -> Plan
-        requires { ⌜ 10 ≤ length (now file) ⌝ }
-        ensures { λ r. ⌜ r ≡ File.withTimeStep (now (file .entry)) self ⌝ }
-    {
-        let mut plan = self;
-        plan.dt = double_at(file, 2);
-        plan.has_dt = true;
-        plan
-    }
-
-    fn with_body(self, file: &[u8]) -> Plan
-        requires { ⌜ (210 ≤ length (now file)) × (self .«body_count» < 16) ⌝ }
-        ensures { λ r. ⌜ r ≡ File.withBody (now (file .entry)) self ⌝ }
-    {
-        let at = self.body_count;
-        let mut bodies = self.bodies;
-        put_body(&mut bodies, 26 * at, file);
-        let mut plan = self;
-        plan.bodies = bodies;
-        plan.body_count = at + 1;
-        plan
-    }
-
-    fn with_joint(self, file: &[u8]) -> Plan
-        requires { ⌜ (File.JointThere (now file)) × (self .«joint_count» < 16) ⌝ }
-        ensures { λ r. ⌜ r ≡ File.withJoint (now (file .entry)) self ⌝ }
-    {
-        let at = self.joint_count;
-        let mut plan = self;
-        plan.joints[at] = joint_at(file);
-        plan.joint_count = at + 1;
-        plan
-    }
-}
-
-// The 26 doubles of the body at the head of the file.
-fn put_body(bodies: &mut [f64], at: usize, file: &[u8])
-    requires { ⌜ (210 ≤ length (now file)) × (at + 26 ≤ length (now bodies)) ⌝ }
-    ensures { λ _. ⌜ now (bodies .exit) ≡ paste (now (bodies .entry)) at (File.bodyOf (now (file .entry))) 26 ⌝ }
+fn put_bodies(table: &mut [f64], file: &[u8], places: [usize; 16], count: usize)
+    requires { ⌜ (count ≤ 16) × (length (now table) ≡ 416) ⌝ }
+    requires { ⌜ ((k : ℕ) → k < count → File.BODY ≤ length (drop (getD places k 0) (now file))) ⌝ }
+    ensures { λ _. ⌜ now (table .exit) ≡ Noting.bodiesFrom (now (file .entry)) places count (now (table .entry)) ⌝ }
 {
-    let mut i = 0;
-    while i < 26 {
-        bodies[at + i] = double_at(file, 2 + 8 * i);
-        i += 1;
+    for k in 0..count {
+        let at = places[k];
+        put_body(table, 26 * k, &file[at..]);
     }
 }
 
-// The joint at the head of the file.
-fn joint_at(file: &[u8]) -> Joint
-    requires { ⌜ File.JointThere (now file) ⌝ }
-    ensures { λ r. ⌜ r ≡ File.jointOf (now (file .entry)) ⌝ }
+fn joints_from(table: [Joint; 16], file: &[u8], places: [usize; 16], count: usize) -> [Joint; 16]
+    requires { ⌜ count ≤ 16 ⌝ }
+    requires { ⌜ ((k : ℕ) → k < count → File.JointThere (drop (getD places k 0) (now file))) ⌝ }
+    ensures { λ r. ⌜ r ≡ Noting.jointsFrom (now (file .entry)) places count table ⌝ }
 {
-    Joint {
-        body_a: file[2] as usize,
-        body_b: file[3] as usize,
-        frame_a: frame_at(file, 5),
-        frame_b: frame_at(file, 61),
-        kind: kind_at(file),
+    let mut joints = table;
+    for k in 0..count {
+        let at = places[k];
+        joints[k] = joint_at(&file[at..]);
     }
-}
-
-fn frame_at(file: &[u8], at: usize) -> JointFrame
-    requires { ⌜ at + 56 ≤ length (now file) ⌝ }
-    ensures { λ r. ⌜ r ≡ File.frameAt (now (file .entry)) at ⌝ }
-{
-    JointFrame {
-        local_anchor: Vec3 {
-            x: double_at(file, at),
-            y: double_at(file, at + 8),
-            z: double_at(file, at + 16),
-        },
-        local_rotation: Quat {
-            x: double_at(file, at + 24),
-            y: double_at(file, at + 32),
-            z: double_at(file, at + 40),
-            w: double_at(file, at + 48),
-        },
-    }
-}
-
-fn kind_at(file: &[u8]) -> Kind
-    requires { ⌜ File.JointThere (now file) ⌝ }
-    ensures { λ r. ⌜ r ≡ File.kindOf (now (file .entry)) ⌝ }
-{
-    match file[4] {
-        0 => Kind::Ball,
-        1 => Kind::Hinge,
-        2 => Kind::Cylindrical,
-        3 => Kind::Planar,
-        4 => Kind::Distance(double_at(file, 117)),
-        _ => Kind::ConeTwist {
-            swing_x: double_at(file, 117),
-            swing_y: double_at(file, 125),
-            twist_lower: double_at(file, 133),
-            twist_upper: double_at(file, 141),
-        },
-    }
-}
-
-fn double_at(file: &[u8], at: usize) -> f64
-    requires { ⌜ at + 8 ≤ length (now file) ⌝ }
-    ensures { λ r. ⌜ r ≡ File.double (now (file .entry)) at ⌝ }
-{
-    double_of(word_at(file, at))
-}
-
-// The double of a pattern. `from_bits` is not defined at a NaN's pattern, which lies above the infinity's.
-fn double_of(word: u64) -> f64
-    ensures { λ r. ⌜ r ≡ ofBits binary64 word ⌝ }
-{
-    let magnitude = word % 0x8000_0000_0000_0000;
-    if 0x7ff0_0000_0000_0000 < magnitude {
-        return 0.0 / 0.0;
-    }
-    f64::from_bits(word)
-}
-
-// Eight bytes, the least first.
-fn word_at(file: &[u8], at: usize) -> u64
-    requires { ⌜ at + 8 ≤ length (now file) ⌝ }
-    ensures { λ r. ⌜ r ≡ File.word (now (file .entry)) at ⌝ }
-{
-    let a = join(0, file[at + 7]);
-    let b = join(a, file[at + 6]);
-    let c = join(b, file[at + 5]);
-    let d = join(c, file[at + 4]);
-    let e = join(d, file[at + 3]);
-    let f = join(e, file[at + 2]);
-    let g = join(f, file[at + 1]);
-    join(g, file[at])
-}
-
-fn join(high: u64, low: u8) -> u64
-    requires { ⌜ high < 2 ^ 56 ⌝ }
-    ensures { λ r. ⌜ (r ≡ high * 256 + low) × (r < 256 * (high + 1)) ⌝ }
-{
-    high * 256 + low as u64
+    joints
 }

@@ -9,7 +9,7 @@ use lib.Seq.{take-at, length-take-le}
 use Rattle.io.specs.Counts.{Counts}
 use Rattle.streams.specs.declared.Input.{Input}
 use Rattle.streams.specs.Receive.{isFailed, Receives}
-use Rattle.plan.specs.Pose.{poseOf, fresh, poseLength, poseOut}
+use Rattle.report.specs.Pose.{poseOf, fresh, poseLength, poseOut}
 use Rattle.pose.specs.declared.Reply.{Reply}
 use Rattle.pose.specs.Reply.{printed, holding, replyOf}
 

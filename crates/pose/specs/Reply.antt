@@ -5,7 +5,7 @@ use mathlib.Core.List.{List, [], _++_}
 use lib.ListN.{length, take, drop, replicate}
 use Rattle.streams.specs.declared.Input.{Input}
 use Rattle.streams.specs.Receive.{isFailed}
-use Rattle.plan.specs.Pose.{poseOf, fresh}
+use Rattle.report.specs.Pose.{poseOf, fresh}
 use Rattle.pose.specs.declared.Reply.{Reply}
 
 -- after a failed read nothing, else the report on the bytes that came

@@ -1,6 +1,6 @@
 // Reads a plan from standard input, and writes its answer to standard output.
 //
-// The first 5,756 bytes decide every report (`pose-first-bytes` in specs/PoseLaws.antt of `plan`), so an input of 8,192 holds
+// The first 5,756 bytes decide every report (`pose-first-bytes` in specs/PoseLaws.antt of `report`), so an input of 8,192 holds
 // all that can matter.
 //
 // What `send` is handed is proved to be the text for the input that `main` received. No proof says that `read` brings the
@@ -42,7 +42,7 @@ fn reply_to(input: Input) -> Reply
         return Reply { bytes, count: 0 };
     }
     let mut scratch = [0.0f64; 6144];
-    let count = plan::pose(&file[..n], &mut scratch, &mut bytes);
+    let count = report::pose(&file[..n], &mut scratch, &mut bytes);
     Reply { bytes, count }
 }
 

@@ -48,7 +48,7 @@ fn answer(fd: i32, file: &mut [u8]) -> Turn {
     if got.count < file.len() {
         return Turn::Unread;
     }
-    let n = plan::pose(file, &mut scratch, &mut out);
+    let n = report::pose(file, &mut scratch, &mut out);
     if io::write_all(STDOUT_FILENO, &out[..n]) {
         return Turn::Answered;
     }

@@ -1,30 +1,26 @@
 -- Rows appended one behind the other: what stands in the slice then is the definitions' list.
-use Prim.Native.Nat.{ℕ, _+_, _*_, _-_, _≤_, _<_}
+use Prim.Native.Nat.{ℕ, _+_, _*_, _≤_, _<_}
 use mathlib.Core.Path.{_≡_, refl, sym, _∙_, ap, subst}
 use mathlib.Core.Bool.{Bool, true, false}
 use mathlib.Core.List.{List, [], _∷_, append-nil}
 use native.Mathlib.Omega.{arith}
 use native.Mathlib.Decide.{ℕ-discrete}
-use lib.Ieee as Ieee
 use lib.Ieee.{Float, nan}
 use lib.ListN.{length, set}
 use lib.Seq.{getD-set-same}
-use Rattle.arith.specs.Real.{F, ratio}
+use Rattle.arith.specs.Real.{ratio}
 use Rattle.arith.specs.Flow.{go, stop, _>>=_, tab}
 use Rattle.arith.specs.FlowLaws.{then-go, then-stop}
-use Rattle.rows.specs.declared.geometry.Kind.{Kind}
-use Rattle.rows.specs.declared.geometry.Kind.the-variants.{ConeTwist}
 use Rattle.rows.specs.declared.geometry.EqualityRow.{EqualityRow}
 use Rattle.rows.specs.declared.geometry.RowAnswer.{RowAnswer}
 use Rattle.rows.specs.declared.geometry.RowAnswer.the-variants as Row
 use Rattle.rows.specs.declared.geometry.Written.{Written}
 use Rattle.rows.specs.declared.geometry.Written.the-variants as Written
 use Rattle.rows.specs.Fault.{Fault, Result}
-use Rattle.rows.specs.Geometry.{rowIf, oneIf, rowCount}
-use Rattle.rows.proofs.Constants.{zero-is}
+use Rattle.rows.specs.Geometry.{rowIf}
 use Rattle.rows.specs.View.{at, rowAt, Out, Kept}
 use Rattle.rows.specs.Answer.{writtenAs}
-use Rattle.rows.specs.Append.{rowAs, countOf, appended, added, spanOf, There, Appends, Adds, Cleared, followedBy}
+use Rattle.rows.specs.Append.{rowAs, countOf, appended, added, spanOf, There, Room, Appends, Adds, Cleared, followedBy}
 use Rattle.rows.specs.Region.{kept-refl, kept-then, kept-more, kept-set, kept-row, tab-ext, tab-more}
 
 -- ---- one answer
@@ -36,21 +32,24 @@ append-value {i} {n} {s} {t} e p =
     subst (λ (x : RowAnswer). Appends i (Written.Rows n) x s t (Written.Rows (n + 1))) (sym e) (record { kept = p .0; there = p .1; is = refl })
 
 module _ {i n : ℕ} {s : List Float} {answer : RowAnswer} where
-  pub append-none : {r : Written} (x : RowAnswer) → There i s (Written.Rows n) x → answer ≡ x → r ≡ appended (Written.Rows n) x → Appends i (Written.Rows n) answer s s r
+  pub append-none : {r : Written} (x : RowAnswer) → There i s (Written.Rows n) x → answer ≡ x → r ≡ appended (Written.Rows n) x
+      → Appends i (Written.Rows n) answer s s r
   append-none {r} x h e q = subst (λ (x : RowAnswer). Appends i (Written.Rows n) x s s r) (sym e) (record { kept = kept-refl _ s; there = h; is = q })
 
-pub append-rows : {i n : ℕ} {s t : List Float} {answer : RowAnswer} {w r : Written} → w ≡ Written.Rows n → Appends i (Written.Rows n) answer s t r → Appends i w answer s t r
+pub append-rows : {i n : ℕ} {s t : List Float} {answer : RowAnswer} {w r : Written} → w ≡ Written.Rows n
+    → Appends i (Written.Rows n) answer s t r → Appends i w answer s t r
 append-rows {i} {n} {s} {t} {answer} {w} {r} e p = subst (λ (x : Written). Appends i x answer s t r) (sym e) p
 
-pub append-nonconvergent : {i : ℕ} {s : List Float} {answer : RowAnswer} {w : Written} → w ≡ Written.NonConvergent → Appends i w answer s s Written.NonConvergent
-unfolding There
-append-nonconvergent {i} {s} {answer} e =
-    subst (λ (x : Written). Appends i x answer s s Written.NonConvergent) (sym e) (record { kept = kept-refl _ s; there = tt; is = refl })
+module _ {i : ℕ} {s : List Float} {answer : RowAnswer} {w : Written} where
+  pub append-nonconvergent : w ≡ Written.NonConvergent → Appends i w answer s s Written.NonConvergent
+  unfolding There
+  append-nonconvergent e =
+      subst (λ (x : Written). Appends i x answer s s Written.NonConvergent) (sym e) (record { kept = kept-refl _ s; there = tt; is = refl })
 
-pub append-overflow : {i : ℕ} {s : List Float} {answer : RowAnswer} {w : Written} → w ≡ Written.ArithmeticOverflow → Appends i w answer s s Written.ArithmeticOverflow
-unfolding There
-append-overflow {i} {s} {answer} e =
-    subst (λ (x : Written). Appends i x answer s s Written.ArithmeticOverflow) (sym e) (record { kept = kept-refl _ s; there = tt; is = refl })
+  pub append-overflow : w ≡ Written.ArithmeticOverflow → Appends i w answer s s Written.ArithmeticOverflow
+  unfolding There
+  append-overflow e =
+      subst (λ (x : Written). Appends i x answer s s Written.ArithmeticOverflow) (sym e) (record { kept = kept-refl _ s; there = tt; is = refl })
 
 pub count-rows : {w : Written} {n : ℕ} → w ≡ Written.Rows n → countOf w ≡ n
 count-rows e = ap countOf e
@@ -65,6 +64,16 @@ appended-most Written.ArithmeticOverflow answer = omega arith
 
 pub appends-most : {i : ℕ} {s t : List Float} {w r : Written} {answer : RowAnswer} → Appends i w answer s t r → countOf r ≤ countOf w + 1
 appends-most {w = w} {r = r} {answer = answer} e = subst (λ (x : Written). countOf x ≤ countOf w + 1) (sym (e .is)) (appended-most w answer)
+
+-- ---- room for one row more, and for the next
+pub room-here : {i k : ℕ} {s : List Float} {w : Written} → Room i k s w → k ≤ 5 → i + 14 * countOf w + 14 ≤ length s
+room-here r h = omega (arith, r .six, r .few)
+
+pub room-none : (i : ℕ) (s : List Float) → i + 84 ≤ length s → Room i 0 s (Written.Rows 0)
+room-none i s h = record { six = h; few = omega arith }
+
+pub room-after : {i k : ℕ} {s t : List Float} {w r : Written} {answer : RowAnswer} → Room i k s w → Appends i w answer s t r → Room i (k + 1) t r
+room-after r p = record { six = omega (arith, r .six, p .kept .size); few = omega (arith, r .few, appends-most p) }
 
 -- ---- the bodies of a row
 -- a row that d gives is between a and b
@@ -106,7 +115,8 @@ module _ (a b i : ℕ) (t u : List Float) (locked : Bool) (D : Result EqualityRo
   same-rows : (n m : ℕ) → Kept (λ k. Out (i + 14 * n) m k) t u → (j : ℕ) → j < n → rowAt u (i + 14 * j) a b ≡ rowAt t (i + 14 * j) a b
   same-rows n m k j q = kept-row k (i + 14 * j) a b (λ l x y. omega arith)
 
-  more : (w : Written) (answer : RowAnswer) {d : Result (List EqualityRow)} → Kept (λ k. Out (i + 14 * countOf w) (14 * added w answer) k) t u → There i u w answer
+  more : (w : Written) (answer : RowAnswer) {d : Result (List EqualityRow)}
+      → Kept (λ k. Out (i + 14 * countOf w) (14 * added w answer) k) t u → There i u w answer
       → writtenAs w t i a b ≡ d → rowAs answer ≡ rowIf locked D → writtenAs (appended w answer) u i a b ≡ followedBy d (rowIf locked D)
   unfolding There
   more (Written.Rows n) (Row.Value row) k h e l =
@@ -134,8 +144,9 @@ unfolding tab
 adds-none a b i k s = record { kept = kept-refl _ s; within = omega arith; is = refl }
 
 -- an answer more
-pub adds-more : {a b i k : ℕ} {s t u : List Float} {w r : Written} {answer : RowAnswer} {d : Result (List EqualityRow)} (locked : Bool) (D : Result EqualityRow) → k ≤ 5
-    → Adds a b i k s t w d → Appends i w answer t u r → rowAs answer ≡ rowIf locked D → Mine a b D → Adds a b i (k + 1) s u r (followedBy d (rowIf locked D))
+pub adds-more : {a b i k : ℕ} {s t u : List Float} {w r : Written} {answer : RowAnswer} {d : Result (List EqualityRow)}
+    (locked : Bool) (D : Result EqualityRow) → k ≤ 5 → Adds a b i k s t w d → Appends i w answer t u r → rowAs answer ≡ rowIf locked D → Mine a b D
+    → Adds a b i (k + 1) s u r (followedBy d (rowIf locked D))
 adds-more {a} {b} {i} {k} {s} {t} {u} {w} {r} {answer} {d} locked D h p q l m = record {
   kept = subst (λ (x : Written). Kept (λ j. Out i (spanOf x) j) s u) (sym (q .is)) (span-more i w answer (few (p .within)) (p .kept) (q .kept));
   within = within (p .within) (appends-most q);
@@ -148,7 +159,8 @@ adds-more {a} {b} {i} {k} {s} {t} {u} {w} {r} {answer} {d} locked D h p q l m = 
     within : countOf w ≤ k → countOf r ≤ countOf w + 1 → countOf r ≤ k + 1
     within m l = omega arith
 
-pub adds-as : {a b i k k' : ℕ} {s t : List Float} {r : Written} {d d' : Result (List EqualityRow)} → k ≤ k' → d ≡ d' → Adds a b i k s t r d → Adds a b i k' s t r d'
+pub adds-as : {a b i k k' : ℕ} {s t : List Float} {r : Written} {d d' : Result (List EqualityRow)} → k ≤ k' → d ≡ d'
+    → Adds a b i k s t r d → Adds a b i k' s t r d'
 adds-as h e p = record { kept = p .kept; within = omega (arith, p .within); is = p .is ∙ e }
 
 -- ---- zeros
@@ -169,24 +181,3 @@ pub cleared-all : {i n m : ℕ} {s t : List Float} → m ≤ n → n ≤ m → C
 cleared-all {i} {n} {m} {s} {t} h g p =
     let same : m ≡ n = omega arith in
     subst (λ (k : ℕ). Cleared i k s t) same p
-
--- ---- counts
-pub one-yes : {b : Bool} → b ≡ true → 1 ≡ oneIf b
-unfolding oneIf
-one-yes e = ap oneIf (sym e)
-
-pub one-no : {b : Bool} → b ≡ false → 0 ≡ oneIf b
-unfolding oneIf
-one-no e = ap oneIf (sym e)
-
-pub one-most : {n : ℕ} (b : Bool) → n ≡ oneIf b → n ≤ 1
-unfolding oneIf
-one-most true e = omega arith
-one-most false e = omega arith
-
-pub count-cone : {kind : Kind} {x y lower upper : Float} {m n o : ℕ} → kind ≡ ConeTwist x y lower upper
-    → m ≡ oneIf (Ieee.eq x (F 0)) → n ≡ oneIf (Ieee.eq y (F 0)) → o ≡ oneIf (Ieee.eq lower upper) → 3 + m + n + o ≡ rowCount kind
-count-cone {x = x} {y = y} {m = m} {n = n} {o = o} e a b d =
-    let u : m ≡ oneIf (Ieee.eq x (ratio 0 1)) = a ∙ ap (λ (z : Float). oneIf (Ieee.eq x z)) zero-is in
-    let v : n ≡ oneIf (Ieee.eq y (ratio 0 1)) = b ∙ ap (λ (z : Float). oneIf (Ieee.eq y z)) zero-is in
-    omega arith ∙ sym (ap rowCount e)

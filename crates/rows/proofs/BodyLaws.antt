@@ -1,63 +1,41 @@
 -- body.rt's answers are the definitions': one law for each way through a function, over plain variables.
-use Prim.Native.Nat.{ℕ, _+_, _<_, _≤_, _^_}
+use Prim.Native.Nat.{_^_}
 use lib.Ieee as Ieee
-use lib.Ieee.{Float, ofBits, round}
+use lib.Ieee.{Float}
 use mathlib.Core.Path.{_≡_, refl, sym, ap, _∙_}
 use mathlib.Core.Bool.{Bool, true, false, cond, not, _&&_}
 use Rattle.arith.specs.Real.{_⊕_, _⊗_, _⊘_, F, ratio}
 use Rattle.arith.specs.Flow.{Turn, go, stop, _>>=_, loop, returnIf}
 use Rattle.arith.specs.FlowLaws.{then-go, then-stop}
-use Rattle.rows.proofs.Constants.{half-is, one-is, fourteen-is}
 use Rattle.vectors.specs.declared.vector.Vec3.{Vec3}
-use Rattle.vectors.specs.declared.vector.OptionVec3.{OptionVec3}
-use Rattle.vectors.specs.declared.vector.OptionVec3.the-variants.{Some, None}
-use Rattle.vectors.specs.declared.vector.OptionF64.{OptionF64}
-use Rattle.vectors.specs.declared.vector.OptionF64.the-variants as Number
 use Rattle.vectors.specs.declared.matrix.Mat3.{Mat3}
 use Rattle.vectors.specs.declared.quaternion.Quat.{Quat}
 use Rattle.vectors.specs.declared.quaternion.OptionQuat.{OptionQuat}
-use Rattle.vectors.specs.declared.quaternion.OptionQuat.the-variants as Rotation
-use Rattle.vectors.specs.Vector.{finiteOf, checkedLengthOf, addOf, subOf, scaleOf, divOf}
+use Rattle.vectors.specs.declared.quaternion.OptionQuat.the-variants.{None}
+use Rattle.vectors.specs.Vector.{finiteOf, addOf, subOf, scaleOf, divOf}
 use Rattle.vectors.specs.Matrix.{applyOf}
-use Rattle.vectors.specs.Quaternion.{conjugateOf, rotateVectorOf, isNormalizedOf, integrateOf}
+use Rattle.vectors.specs.Quaternion.{conjugateOf, quatTryNormalizeOf, isNormalizedOf, integrateOf, integrateAsUnitOf}
+use Rattle.vectors.specs.Laws.AsUnit.{integrates-as-unit}
 use Rattle.rows.specs.declared.body.RigidBody.{RigidBody}
 use Rattle.rows.specs.declared.body.BodyState.{BodyState}
 use Rattle.rows.specs.declared.body.MomentumBody.{MomentumBody}
 use Rattle.rows.specs.declared.body.BodyAnswer.{BodyAnswer}
 use Rattle.rows.specs.declared.body.Pass.{Pass}
-use Rattle.rows.specs.declared.body.Pass.the-variants as Passes
-use Rattle.rows.specs.Fault.{Fault, nonConvergent, arithmeticOverflow, Result, vectorOr, numberOr, quatOr, tryFinite, tryLength, tryRotate, try}
-use Rattle.rows.specs.Body.{worldCenterOfMassOf, newOf, standing, inverseAngularMassOf, omegaOf, withMomenta, placedAt, kickOf, anchorOf, integrate, passOf, settled, driftOf, originOf, stateOf, sameVec3, sameQuat, stateWith}
+use Rattle.rows.specs.Fault.{nonConvergent, arithmeticOverflow, Result, tryFinite, tryLength, tryRotate, try}
+use Rattle.rows.specs.Body.{worldCenterOfMassOf, newOf, inverseAngularMassOf, omegaOf, withMomenta, placedAt, kickOf, anchorOf, integrate}
+use Rattle.rows.specs.Body.{passOf, settled, driftOf, originOf, stateOf, sameVec3, sameQuat, stateWith}
+use Rattle.rows.specs.Unit.{UnitOf, tryRotateAsUnit, integrateAsUnit, inFrame, worldCenterAsUnit}
 use Rattle.rows.specs.Answer.{answerOf, BodyAnswered, passAs}
 use Rattle.rows.specs.AnswerLaws.{body-answered}
-
-pub pass-as : {r x : Pass} {d : Turn Vec3 (Result Quat)} → passAs r ≡ d → r ≡ x → passAs x ≡ d
-pass-as e h = sym (ap passAs h) ∙ e
-
--- ---- finite
-module _ (v : Vec3) {b : Bool} (eb : b ≡ finiteOf v) where
-  pub finite-yes : b ≡ true → go v ≡ tryFinite v
-  unfolding tryFinite
-  finite-yes h = cc
-
-  pub finite-no : b ≡ false → stop arithmeticOverflow ≡ tryFinite v
-  unfolding tryFinite
-  finite-no h = cc
+use Rattle.rows.proofs.Constants.{half-is, one-is, fourteen-is}
+use Rattle.rows.proofs.UnitLaws.{then-then, rotate-is, integrate-is, in-frame-is, center-is, no-back, no-turn}
 
 abbrev over : {A : Type 0} → Result A
 over = stop arithmeticOverflow
 
--- ---- world_center_of_mass
-module _ (origin : Vec3) (rotation : Quat) (local : Vec3) where
-  pub center-1 : over ≡ tryRotate rotation local → over ≡ worldCenterOfMassOf origin rotation local
-  unfolding worldCenterOfMassOf _>>=_
-  center-1 h = cc
+pub pass-as : {r x : Pass} {d : Turn Vec3 (Result Quat)} → passAs r ≡ d → r ≡ x → passAs x ≡ d
+pass-as e h = sym (ap passAs h) ∙ e
 
-  pub center-2 : {t s : Vec3} {r : Result Vec3} → go t ≡ tryRotate rotation local → s ≡ addOf t origin → r ≡ tryFinite s → r ≡ worldCenterOfMassOf origin rotation local
-  unfolding worldCenterOfMassOf _>>=_
-  center-2 h es er = cc
-
--- ---- new
 -- a failure: the body that stands beside it
 pub lost : {r : BodyAnswer} {old known : MomentumBody} (d : Result MomentumBody) → r ≡ answerOf old over → old ≡ known → over ≡ d → BodyAnswered known d r
 lost d e eo ed = body-answered _ d (lost-is e eo ed)
@@ -69,68 +47,140 @@ lost d e eo ed = body-answered _ d (lost-is e eo ed)
 pub found : (old : MomentumBody) {x : Result MomentumBody} (d : Result MomentumBody) → x ≡ d → BodyAnswered old d (answerOf old x)
 found old d e = body-answered old d (ap (answerOf old) e)
 
-module _ (body : RigidBody) (inverse : Mat3) {q : Quat} (eq : q ≡ conjugateOf (body .rotation)) where
-  pub new-1 : over ≡ tryRotate q (body .«angular_velocity») → over ≡ newOf body inverse
-  unfolding newOf _>>=_
-  new-1 h = cc
+-- ---- finite
+module _ (v : Vec3) {b : Bool} (eb : b ≡ finiteOf v) where
+  pub finite-yes : b ≡ true → go v ≡ tryFinite v
+  unfolding tryFinite
+  finite-yes h = cc
 
-  module _ {local m : Vec3} (hl : go local ≡ tryRotate q (body .«angular_velocity»)) (em : m ≡ applyOf (body .inertia) local) where
-    pub new-2 : over ≡ tryRotate (body .rotation) m → over ≡ newOf body inverse
-    unfolding newOf _>>=_
-    new-2 h = cc
+  pub finite-no : b ≡ false → over ≡ tryFinite v
+  unfolding tryFinite
+  finite-no h = cc
 
-    module _ {spin v : Vec3} (hs : go spin ≡ tryRotate (body .rotation) m) (ev : v ≡ scaleOf (body .«linear_velocity») (body .mass)) where
-      pub new-3 : over ≡ tryFinite v → over ≡ newOf body inverse
-      unfolding newOf _>>=_
-      new-3 h = cc
+-- ---- in_frame
+module _ (unit : Quat) (matrix : Mat3) (vector : Vec3) {q : Quat} (eq : q ≡ conjugateOf unit) where
+  pub frame-lost : over ≡ tryRotateAsUnit q vector → over ≡ inFrame unit matrix vector
+  unfolding inFrame _>>=_
+  frame-lost h = cc
+
+  pub framed : {local m : Vec3} {r : Result Vec3} → go local ≡ tryRotateAsUnit q vector → m ≡ applyOf matrix local → r ≡ tryRotateAsUnit unit m
+      → r ≡ inFrame unit matrix vector
+  unfolding inFrame _>>=_
+  framed h em er = cc
+
+-- ---- world_center_of_mass
+module _ (origin : Vec3) (unit : Quat) (local : Vec3) where
+  pub center-lost : over ≡ tryRotateAsUnit unit local → over ≡ worldCenterAsUnit origin unit local
+  unfolding worldCenterAsUnit _>>=_
+  center-lost h = cc
+
+  pub centered : {t s : Vec3} {r : Result Vec3} → go t ≡ tryRotateAsUnit unit local → s ≡ addOf t origin → r ≡ tryFinite s
+      → r ≡ worldCenterAsUnit origin unit local
+  unfolding worldCenterAsUnit _>>=_
+  centered h es er = cc
+
+-- ---- new
+module _ (body : RigidBody) (inverse : Mat3) where
+  -- the body of a record, with what was computed for it
+  abbrev moving : Vec3 → Vec3 → Vec3 → MomentumBody
+  moving center momentum spin = record {
+    center = center;
+    rotation = body .rotation;
+    momentum = momentum;
+    spin = spin;
+    mass = body .mass;
+    «center_of_mass» = body .«center_of_mass»;
+    «inverse_inertia» = inverse;
+  }
+
+  -- what `newOf` does with the spin
+  abbrev spun : Vec3 → Result MomentumBody
+  spun spin = do
+    momentum ← tryFinite (scaleOf (body .«linear_velocity») (body .mass))
+    center ← worldCenterOfMassOf (body .origin) (body .rotation) (body .«center_of_mass»)
+    go (moving center momentum spin)
+
+  pub new-without-unit : quatTryNormalizeOf (body .rotation) ≡ None → over ≡ newOf body inverse
+  unfolding newOf
+  new-without-unit n = then-stop _ (no-back _ n _)
+
+  module _ {unit : Quat} (n : UnitOf (body .rotation) unit) where
+    by-unit : (inFrame unit (body .inertia) (body .«angular_velocity») >>= spun) ≡ newOf body inverse
+    unfolding newOf
+    by-unit = ap (λ (r : Result Vec3). r >>= spun) (in-frame-is n _ _) ∙ then-then _ _ spun
+
+    pub new-spin-lost : over ≡ inFrame unit (body .inertia) (body .«angular_velocity») → over ≡ newOf body inverse
+    new-spin-lost h = then-stop spun h ∙ by-unit
+
+    module _ {spin v : Vec3} (hs : go spin ≡ inFrame unit (body .inertia) (body .«angular_velocity»))
+        (ev : v ≡ scaleOf (body .«linear_velocity») (body .mass)) where
+      after-spin : {r : Result MomentumBody} → r ≡ spun spin → r ≡ newOf body inverse
+      after-spin e = e ∙ then-go spun hs ∙ by-unit
+
+      pub new-momentum-lost : over ≡ tryFinite v → over ≡ newOf body inverse
+      new-momentum-lost h = after-spin (then-stop _ (h ∙ ap tryFinite ev))
 
       module _ {momentum : Vec3} (hm : go momentum ≡ tryFinite v) where
-        pub new-4 : over ≡ worldCenterOfMassOf (body .origin) (body .rotation) (body .«center_of_mass») → over ≡ newOf body inverse
-        unfolding newOf _>>=_
-        new-4 h = cc
+        pub new-center-lost : over ≡ worldCenterAsUnit (body .origin) unit (body .«center_of_mass») → over ≡ newOf body inverse
+        new-center-lost h = after-spin (then-stop _ (h ∙ center-is n _ _) ∙ then-go _ (hm ∙ ap tryFinite ev))
 
-        pub new-5 : {center : Vec3} → go center ≡ worldCenterOfMassOf (body .origin) (body .rotation) (body .«center_of_mass»)
-            → go (record { center = center; rotation = body .rotation; momentum = momentum; spin = spin; mass = body .mass; «center_of_mass» = body .«center_of_mass»; «inverse_inertia» = inverse }) ≡ newOf body inverse
-        unfolding newOf _>>=_
-        new-5 h = cc
+        pub new-made : {center : Vec3} → go center ≡ worldCenterAsUnit (body .origin) unit (body .«center_of_mass»)
+            → go (moving center momentum spin) ≡ newOf body inverse
+        new-made h = after-spin (then-go _ (h ∙ center-is n _ _) ∙ then-go _ (hm ∙ ap tryFinite ev))
 
 -- ---- inverse_angular_mass, kick, anchor
-module _ (self : MomentumBody) (spin : Vec3) {q : Quat} (eq : q ≡ conjugateOf (self .rotation)) where
-  pub angular-1 : over ≡ tryRotate q spin → over ≡ inverseAngularMassOf self spin
-  unfolding inverseAngularMassOf _>>=_
-  angular-1 h = cc
+module _ (self : MomentumBody) (spin : Vec3) where
+  pub mass-without-unit : quatTryNormalizeOf (self .rotation) ≡ None → over ≡ inverseAngularMassOf self spin
+  unfolding inverseAngularMassOf
+  mass-without-unit n = then-stop _ (no-back _ n _)
 
-  pub angular-2 : {local m : Vec3} {r : Result Vec3} → go local ≡ tryRotate q spin → m ≡ applyOf (self .«inverse_inertia») local → r ≡ tryRotate (self .rotation) m → r ≡ inverseAngularMassOf self spin
-  unfolding inverseAngularMassOf _>>=_
-  angular-2 h em er = cc
+  pub mass-by-unit : {unit : Quat} → UnitOf (self .rotation) unit
+      → inFrame unit (self .«inverse_inertia») spin ≡ inverseAngularMassOf self spin
+  unfolding inverseAngularMassOf
+  mass-by-unit n = in-frame-is n _ _
 
 module _ (self : MomentumBody) (linear angular : Vec3) {m : Vec3} (em : m ≡ addOf (self .momentum) linear) where
-  pub kick-1 : over ≡ tryFinite m → over ≡ kickOf self linear angular
+  pub kick-momentum-lost : over ≡ tryFinite m → over ≡ kickOf self linear angular
   unfolding kickOf _>>=_
-  kick-1 h = cc
+  kick-momentum-lost h = cc
 
   module _ {momentum s : Vec3} (hm : go momentum ≡ tryFinite m) (es : s ≡ addOf (self .spin) angular) where
-    pub kick-2 : over ≡ tryFinite s → over ≡ kickOf self linear angular
+    pub kick-spin-lost : over ≡ tryFinite s → over ≡ kickOf self linear angular
     unfolding kickOf _>>=_
-    kick-2 h = cc
+    kick-spin-lost h = cc
 
-    pub kick-3 : {spin : Vec3} → go spin ≡ tryFinite s → go (withMomenta self momentum spin) ≡ kickOf self linear angular
+    pub kicked : {spin : Vec3} → go spin ≡ tryFinite s → go (withMomenta self momentum spin) ≡ kickOf self linear angular
     unfolding kickOf _>>=_
-    kick-3 h = cc
+    kicked h = cc
 
 module _ (self : MomentumBody) (local : Vec3) {d : Vec3} (ed : d ≡ subOf local (self .«center_of_mass»)) where
-  pub anchor-1 : over ≡ tryRotate (self .rotation) d → over ≡ anchorOf self local
+  pub anchor-lost : over ≡ tryRotate (self .rotation) d → over ≡ anchorOf self local
   unfolding anchorOf _>>=_
-  anchor-1 h = cc
+  anchor-lost h = cc
 
-  pub anchor-2 : {arm p : Vec3} {r : Result Vec3} → go arm ≡ tryRotate (self .rotation) d → p ≡ addOf (self .center) arm → r ≡ tryFinite p → r ≡ anchorOf self local
+  pub anchored : {arm p : Vec3} {r : Result Vec3} → go arm ≡ tryRotate (self .rotation) d → p ≡ addOf (self .center) arm → r ≡ tryFinite p
+      → r ≡ anchorOf self local
   unfolding anchorOf _>>=_
-  anchor-2 h ep er = cc
+  anchored h ep er = cc
 
--- ---- drift
+-- ---- pass
 -- what the half-step turn answers
-pub half-turn : {o : OptionQuat} (rotation : Quat) (omega : Vec3) (dt : Float) → o ≡ integrateOf rotation omega (dt ⊗ F 0x3fe0_0000_0000_0000) → o ≡ integrateOf rotation omega (dt ⊗ ratio 1 2)
-half-turn rotation omega dt e = e ∙ ap (λ (k : Float). integrateOf rotation omega (dt ⊗ k)) half-is
+pub half-turn : (rotation : Quat) {unit : Quat} {o : OptionQuat} (omega : Vec3) (dt : Float) → UnitOf rotation unit
+    → o ≡ integrateAsUnitOf unit omega (dt ⊗ F 0x3fe0_0000_0000_0000) → o ≡ integrateOf rotation omega (dt ⊗ ratio 1 2)
+half-turn rotation {unit} omega dt n e =
+    e ∙ ap (λ (k : Float). integrateAsUnitOf unit omega (dt ⊗ k)) half-is ∙ sym (integrates-as-unit rotation (n .is) omega (dt ⊗ ratio 1 2))
+
+-- the test of a pass, as the code writes it and as the definition does
+abbrev near : Float → Float → Bool
+near residual size = Ieee.le residual (F 0x3d06_849b_86a1_2b9b ⊗ (F 0x3ff0_0000_0000_0000 ⊕ size))
+
+abbrev nearOf : Float → Float → Bool
+nearOf residual size = Ieee.le residual (ratio 1 (10 ^ 14) ⊗ (ratio 1 1 ⊕ size))
+
+near-is : (residual size : Float) → near residual size ≡ nearOf residual size
+near-is residual size =
+    ap (λ (k : Float). Ieee.le residual (k ⊗ (F 0x3ff0_0000_0000_0000 ⊕ size))) fourteen-is
+    ∙ ap (λ (k : Float). Ieee.le residual (ratio 1 (10 ^ 14) ⊗ (k ⊕ size))) one-is
 
 module _ (self : MomentumBody) (dt : Float) (omega : Vec3) where
   -- what `passOf` does with the next omega
@@ -138,120 +188,168 @@ module _ (self : MomentumBody) (dt : Float) (omega : Vec3) where
   ending next = do
     residual ← try (tryLength (subOf next omega))
     size ← try (tryLength next)
-    _ ← returnIf (Ieee.le residual (ratio 1 (10 ^ 14) ⊗ (ratio 1 1 ⊕ size))) (integrate (self .rotation) next dt)
+    _ ← returnIf (nearOf residual size) (integrate (self .rotation) next dt)
     go next
 
-  pub pass-1 : over ≡ integrate (self .rotation) omega (dt ⊗ ratio 1 2) → stop over ≡ passOf self dt omega
+  pub pass-half-lost : over ≡ integrate (self .rotation) omega (dt ⊗ ratio 1 2) → stop over ≡ passOf self dt omega
   unfolding passOf
-  pass-1 h = then-stop _ (ap try h)
+  pass-half-lost h = then-stop _ (ap try h)
 
-  module _ {half : Quat} {b : MomentumBody} (hh : go half ≡ integrate (self .rotation) omega (dt ⊗ ratio 1 2)) (eb : b ≡ placedAt self (self .center) half) where
-    pub pass-2 : over ≡ omegaOf b → stop over ≡ passOf self dt omega
+  module _ {half : Quat} {b : MomentumBody} (hh : go half ≡ integrate (self .rotation) omega (dt ⊗ ratio 1 2))
+      (eb : b ≡ placedAt self (self .center) half) where
+    pub pass-omega-lost : over ≡ omegaOf b → stop over ≡ passOf self dt omega
     unfolding passOf
-    pass-2 h = then-stop _ (ap try (h ∙ ap omegaOf eb)) ∙ then-go _ (ap try hh)
+    pass-omega-lost h = then-stop _ (ap try (h ∙ ap omegaOf eb)) ∙ then-go _ (ap try hh)
 
     module _ {next d : Vec3} (hn : go next ≡ omegaOf b) (ed : d ≡ subOf next omega) where
-      after : {r : Turn Vec3 (Result Quat)} → r ≡ ending next → r ≡ passOf self dt omega
+      after-omega : {r : Turn Vec3 (Result Quat)} → r ≡ ending next → r ≡ passOf self dt omega
       unfolding passOf
-      after e = e ∙ then-go _ (ap try (hn ∙ ap omegaOf eb)) ∙ then-go _ (ap try hh)
+      after-omega e = e ∙ then-go _ (ap try (hn ∙ ap omegaOf eb)) ∙ then-go _ (ap try hh)
 
-      pub pass-3 : over ≡ tryLength d → stop over ≡ passOf self dt omega
-      pass-3 h = after (then-stop _ (ap try (h ∙ ap tryLength ed)))
+      pub pass-residual-lost : over ≡ tryLength d → stop over ≡ passOf self dt omega
+      pass-residual-lost h = after-omega (then-stop _ (ap try (h ∙ ap tryLength ed)))
 
       module _ {residual : Float} (hr : go residual ≡ tryLength d) where
-        pub pass-4 : over ≡ tryLength next → stop over ≡ passOf self dt omega
-        pass-4 h = after (then-stop _ (ap try h) ∙ then-go _ (ap try (hr ∙ ap tryLength ed)))
+        pub pass-size-lost : over ≡ tryLength next → stop over ≡ passOf self dt omega
+        pass-size-lost h = after-omega (then-stop _ (ap try h) ∙ then-go _ (ap try (hr ∙ ap tryLength ed)))
 
         module _ {size : Float} (hs : go size ≡ tryLength next) where
-          near : Ieee.le residual (F 0x3d06_849b_86a1_2b9b ⊗ (F 0x3ff0_0000_0000_0000 ⊕ size)) ≡ Ieee.le residual (ratio 1 (10 ^ 14) ⊗ (ratio 1 1 ⊕ size))
-          near = ap (λ (k : Float). Ieee.le residual (k ⊗ (F 0x3ff0_0000_0000_0000 ⊕ size))) fourteen-is ∙ ap (λ (k : Float). Ieee.le residual (ratio 1 (10 ^ 14) ⊗ (k ⊕ size))) one-is
+          after-test : {t : Bool} {r : Turn Vec3 (Result Quat)} → near residual size ≡ t
+              → r ≡ (returnIf t (integrate (self .rotation) next dt) >>= λ _. go next) → r ≡ passOf self dt omega
+          after-test h e =
+              e ∙ after-omega (ap (λ (t : Bool). returnIf t (integrate (self .rotation) next dt) >>= λ _. go next) (sym h ∙ near-is residual size)
+              ∙ then-go _ (ap try hs) ∙ then-go _ (ap try (hr ∙ ap tryLength ed)))
 
-          tested : {t : Bool} → Ieee.le residual (F 0x3d06_849b_86a1_2b9b ⊗ (F 0x3ff0_0000_0000_0000 ⊕ size)) ≡ t
-              → returnIf t (integrate (self .rotation) next dt) ≡ returnIf (Ieee.le residual (ratio 1 (10 ^ 14) ⊗ (ratio 1 1 ⊕ size))) (integrate (self .rotation) next dt)
-          tested h = ap (λ (t : Bool). returnIf t (integrate (self .rotation) next dt)) (sym h ∙ near)
+          pub pass-settles : {unit : Quat} {r : Turn Vec3 (Result Quat)} → UnitOf (self .rotation) unit → near residual size ≡ true
+              → r ≡ stop (integrateAsUnit unit next dt) → r ≡ passOf self dt omega
+          unfolding _>>=_
+          pass-settles n h e = after-test h (e ∙ ap stop (integrate-is n next dt))
 
-          pub pass-5 : {r : Turn Vec3 (Result Quat)} → Ieee.le residual (F 0x3d06_849b_86a1_2b9b ⊗ (F 0x3ff0_0000_0000_0000 ⊕ size)) ≡ true
-              → r ≡ stop (integrate (self .rotation) next dt) → r ≡ passOf self dt omega
-          pass-5 h e = e ∙ after (then-stop _ (tested h) ∙ then-go _ (ap try hs) ∙ then-go _ (ap try (hr ∙ ap tryLength ed)))
+          pub pass-goes-on : near residual size ≡ false → go next ≡ passOf self dt omega
+          unfolding _>>=_
+          pass-goes-on h = after-test h refl
 
-          pub pass-6 : Ieee.le residual (F 0x3d06_849b_86a1_2b9b ⊗ (F 0x3ff0_0000_0000_0000 ⊕ size)) ≡ false → go next ≡ passOf self dt omega
-          pass-6 h = after (then-go _ (tested h) ∙ then-go _ (ap try hs) ∙ then-go _ (ap try (hr ∙ ap tryLength ed)))
-
+-- ---- drift
 module _ (self : MomentumBody) (dt : Float) {v p : Vec3} (ev : v ≡ scaleOf (self .momentum) (dt ⊘ self .mass)) (ep : p ≡ addOf (self .center) v) where
-  pub drift-1 : over ≡ tryFinite p → over ≡ driftOf self dt
-  unfolding driftOf _>>=_
-  drift-1 h = cc
+  abbrev search : Vec3 → Turn Vec3 (Result Quat)
+  search omega = loop 32 (λ k. passOf self dt) omega
+
+  -- what `driftOf` does with the first omega
+  abbrev resting : Vec3 → Vec3 → Result MomentumBody
+  resting center omega = do
+    rotation ← settled (search omega)
+    go (placedAt self center rotation)
+
+  at-center : tryFinite p ≡ tryFinite (addOf (self .center) (scaleOf (self .momentum) (dt ⊘ self .mass)))
+  at-center = ap tryFinite (ep ∙ ap (addOf (self .center)) ev)
+
+  pub drift-center-lost : over ≡ tryFinite p → over ≡ driftOf self dt
+  unfolding driftOf
+  drift-center-lost h = then-stop _ (h ∙ at-center)
 
   module _ {center : Vec3} (hc : go center ≡ tryFinite p) where
-    pub drift-2 : over ≡ omegaOf self → over ≡ driftOf self dt
-    unfolding driftOf _>>=_
-    drift-2 h = cc
+    after-center : {r : Result MomentumBody} → r ≡ (omegaOf self >>= resting center) → r ≡ driftOf self dt
+    unfolding driftOf
+    after-center e = e ∙ then-go _ (hc ∙ at-center)
 
-    module _ {omega : Vec3} (ho : go omega ≡ omegaOf self) where
-      turned : {r : Result MomentumBody} {s : Turn Vec3 (Result Quat)} → s ≡ loop 32 (λ k. passOf self dt) omega → r ≡ (settled s >>= λ rotation. go (placedAt self center rotation)) → r ≡ driftOf self dt
-      unfolding driftOf
-      turned hs e = e ∙ ap (λ (s : Turn Vec3 (Result Quat)). settled s >>= λ rotation. go (placedAt self center rotation)) hs ∙ then-go _ ho ∙ then-go _ (hc ∙ ap tryFinite (ep ∙ ap (addOf (self .center)) ev))
+    pub drift-without-unit : quatTryNormalizeOf (self .rotation) ≡ None → over ≡ driftOf self dt
+    drift-without-unit n = after-center (then-stop _ (mass-without-unit self _ n))
 
-      pub drift-3 : {rotation : Quat} {b : MomentumBody} → stop (go rotation) ≡ loop 32 (λ k. passOf self dt) omega → b ≡ placedAt self (self .center) rotation → go (placedAt b center (b .rotation)) ≡ driftOf self dt
-      unfolding _>>=_
-      drift-3 h eb = turned h (ap (λ (b : MomentumBody). go (placedAt b center (b .rotation))) eb)
+    module _ {unit : Quat} (n : UnitOf (self .rotation) unit) where
+      pub drift-omega-lost : over ≡ inFrame unit (self .«inverse_inertia») (self .spin) → over ≡ driftOf self dt
+      drift-omega-lost h = after-center (then-stop _ (h ∙ mass-by-unit self _ n))
 
-      pub drift-4 : {next : Vec3} → go next ≡ loop 32 (λ k. passOf self dt) omega → stop nonConvergent ≡ driftOf self dt
-      unfolding _>>=_
-      drift-4 h = turned h refl
+      module _ {omega : Vec3} (ho : go omega ≡ inFrame unit (self .«inverse_inertia») (self .spin)) where
+        after-search : {r : Result MomentumBody} {s : Turn Vec3 (Result Quat)} → s ≡ search omega
+            → r ≡ (settled s >>= λ rotation. go (placedAt self center rotation)) → r ≡ driftOf self dt
+        after-search hs e =
+            e ∙ ap (λ (s : Turn Vec3 (Result Quat)). settled s >>= λ rotation. go (placedAt self center rotation)) hs
+            ∙ after-center (then-go _ (ho ∙ mass-by-unit self _ n))
 
-      pub drift-5 : stop over ≡ loop 32 (λ k. passOf self dt) omega → over ≡ driftOf self dt
-      unfolding _>>=_
-      drift-5 h = turned h refl
+        pub drifted : {rotation : Quat} {b : MomentumBody} → stop (go rotation) ≡ search omega → b ≡ placedAt self (self .center) rotation
+            → go (placedAt b center (b .rotation)) ≡ driftOf self dt
+        unfolding _>>=_
+        drifted h eb = after-search h (ap (λ (b : MomentumBody). go (placedAt b center (b .rotation))) eb)
+
+        pub drift-endless : {next : Vec3} → go next ≡ search omega → stop nonConvergent ≡ driftOf self dt
+        unfolding _>>=_
+        drift-endless h = after-search h refl
+
+        pub drift-turn-lost : stop over ≡ search omega → over ≡ driftOf self dt
+        unfolding _>>=_
+        drift-turn-lost h = after-search h refl
 
 -- ---- state
-module _ (self : MomentumBody) where
-  pub origin-1 : over ≡ tryRotate (self .rotation) (self .«center_of_mass») → over ≡ originOf self
-  unfolding originOf _>>=_
-  origin-1 h = cc
+module _ (self : MomentumBody) {unit : Quat} (n : UnitOf (self .rotation) unit) where
+  pub origin-turn-lost : over ≡ tryRotateAsUnit unit (self .«center_of_mass») → over ≡ originOf self
+  unfolding originOf
+  origin-turn-lost h = then-stop _ (h ∙ rotate-is n _)
 
-  module _ {t s : Vec3} (ht : go t ≡ tryRotate (self .rotation) (self .«center_of_mass»)) (es : s ≡ subOf (self .center) t) where
-    pub origin-2 : over ≡ tryFinite s → over ≡ originOf self
-    unfolding originOf _>>=_
-    origin-2 h = cc
+  module _ {t s : Vec3} (ht : go t ≡ tryRotateAsUnit unit (self .«center_of_mass»)) (es : s ≡ subOf (self .center) t) where
+    turns : go t ≡ tryRotate (self .rotation) (self .«center_of_mass»)
+    turns = ht ∙ rotate-is n _
 
-    module _ {origin : Vec3} {n : Bool} (ho : go origin ≡ tryFinite s) (en : n ≡ isNormalizedOf (self .rotation)) where
-      pub origin-3 : not n ≡ true → over ≡ originOf self
-      unfolding originOf _>>=_
-      origin-3 h = cc
+    pub origin-lost : over ≡ tryFinite s → over ≡ originOf self
+    unfolding originOf
+    origin-lost h = then-stop _ (h ∙ ap tryFinite es) ∙ then-go _ turns
 
-      module _ (hn : not n ≡ false) where
-        pub origin-4 : over ≡ worldCenterOfMassOf origin (self .rotation) (self .«center_of_mass») → over ≡ originOf self
-        unfolding originOf _>>=_
-        origin-4 h = cc
+    module _ {origin : Vec3} {b : Bool} (ho : go origin ≡ tryFinite s) (en : b ≡ isNormalizedOf (self .rotation)) where
+      -- what `originOf` does with the origin, b' the answer of its test
+      abbrev tested : Bool → Result Vec3
+      tested b' = do
+        _ ← returnIf b' arithmeticOverflow
+        _ ← worldCenterOfMassOf origin (self .rotation) (self .«center_of_mass»)
+        go origin
 
-        pub origin-5 : {x : Vec3} → go x ≡ worldCenterOfMassOf origin (self .rotation) (self .«center_of_mass») → go origin ≡ originOf self
-        unfolding originOf _>>=_
-        origin-5 h = cc
+      after-origin : {r : Result Vec3} {b' : Bool} → not b ≡ b' → r ≡ tested b' → r ≡ originOf self
+      unfolding originOf
+      after-origin h e = e ∙ ap tested (sym h ∙ ap not en) ∙ then-go _ (ho ∙ ap tryFinite es) ∙ then-go _ turns
+
+      pub origin-not-normalized : not b ≡ true → over ≡ originOf self
+      unfolding _>>=_
+      origin-not-normalized h = after-origin h refl
+
+      module _ (hn : not b ≡ false) {w : Vec3} (ew : w ≡ addOf t origin) where
+        centers : tryFinite w ≡ worldCenterOfMassOf origin (self .rotation) (self .«center_of_mass»)
+        unfolding worldCenterOfMassOf
+        centers = ap tryFinite ew ∙ then-go _ turns
+
+        pub origin-center-lost : over ≡ tryFinite w → over ≡ originOf self
+        unfolding _>>=_
+        origin-center-lost h = after-origin hn (then-stop _ (h ∙ centers))
+
+        pub origin-found : {x : Vec3} → go x ≡ tryFinite w → go origin ≡ originOf self
+        unfolding _>>=_
+        origin-found h = after-origin hn (then-go _ (h ∙ centers))
 
 module _ (self : MomentumBody) (old : BodyState) where
-  pub state-1 : over ≡ originOf self → over ≡ stateOf self old
-  unfolding stateOf _>>=_
-  state-1 h = cc
+  pub state-without-unit : quatTryNormalizeOf (self .rotation) ≡ None → over ≡ stateOf self old
+  unfolding stateOf originOf
+  state-without-unit n = then-stop _ (then-stop _ (no-turn _ n _))
+
+  pub state-origin-lost : over ≡ originOf self → over ≡ stateOf self old
+  unfolding stateOf
+  state-origin-lost h = then-stop _ h
 
   module _ {origin l : Vec3} (ho : go origin ≡ originOf self) (el : l ≡ divOf (self .momentum) (self .mass)) where
-    pub state-2 : over ≡ tryFinite l → over ≡ stateOf self old
-    unfolding stateOf _>>=_
-    state-2 h = cc
+    pub state-linear-lost : over ≡ tryFinite l → over ≡ stateOf self old
+    unfolding stateOf
+    state-linear-lost h = then-stop _ (h ∙ ap tryFinite el) ∙ then-go _ ho
 
-    module _ {linear : Vec3} (hl : go linear ≡ tryFinite l) where
-      pub state-3 : over ≡ omegaOf self → over ≡ stateOf self old
-      unfolding stateOf _>>=_
-      state-3 h = cc
+    module _ {linear : Vec3} {unit : Quat} (hl : go linear ≡ tryFinite l) (n : UnitOf (self .rotation) unit) where
+      pub state-angular-lost : over ≡ inFrame unit (self .«inverse_inertia») (self .spin) → over ≡ stateOf self old
+      unfolding stateOf
+      state-angular-lost h = then-stop _ (h ∙ mass-by-unit self _ n) ∙ then-go _ (hl ∙ ap tryFinite el) ∙ then-go _ ho
 
-      module _ {angular : Vec3} {t : Bool} (ha : go angular ≡ omegaOf self) (et : t ≡ (sameVec3 origin (old .origin) && sameQuat (self .rotation) (old .rotation))) where
-        pub state-4 : t ≡ true → go (stateWith (old .origin) (old .rotation) linear angular) ≡ stateOf self old
+      module _ {angular : Vec3} {t : Bool} (ha : go angular ≡ inFrame unit (self .«inverse_inertia») (self .spin))
+          (et : t ≡ (sameVec3 origin (old .origin) && sameQuat (self .rotation) (old .rotation))) where
+        -- the old transform where the new one compares equal: one law for both ways
+        abbrev stated : Bool → Result BodyState
+        stated b = go (cond b (stateWith (old .origin) (old .rotation) linear angular) (stateWith origin (self .rotation) linear angular))
+
+        pub state-found : {b : Bool} → t ≡ b → stated b ≡ stateOf self old
         unfolding stateOf
-        state-4 h = ap (λ (x : Bool). go (cond x (stateWith (old .origin) (old .rotation) linear angular) (stateWith origin (self .rotation) linear angular))) (sym h ∙ et) ∙ then-go _ ha ∙ then-go _ (hl ∙ ap tryFinite el) ∙ then-go _ ho
-
-        pub state-5 : t ≡ false → go (stateWith origin (self .rotation) linear angular) ≡ stateOf self old
-        unfolding stateOf
-        state-5 h = ap (λ (x : Bool). go (cond x (stateWith (old .origin) (old .rotation) linear angular) (stateWith origin (self .rotation) linear angular))) (sym h ∙ et) ∙ then-go _ ha ∙ then-go _ (hl ∙ ap tryFinite el) ∙ then-go _ ho
+        state-found h = ap stated (sym h ∙ et) ∙ then-go _ (ha ∙ mass-by-unit self _ n) ∙ then-go _ (hl ∙ ap tryFinite el) ∙ then-go _ ho
 
 -- ---- all of several tests
 pub both-yes : {r a b : Bool} → a ≡ true → r ≡ b → r ≡ (a && b)

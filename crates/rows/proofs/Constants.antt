@@ -1,25 +1,9 @@
 -- The code's literals are the definitions' fractions.
 use Prim.Native.Nat.{_^_}
-use lib.Ieee as Ieee
 use lib.Ieee.{ofBits, round}
 use mathlib.Core.Path.{_≡_, refl}
 use Rattle.arith.specs.Real.{F, ratio}
-
-pub zero-is : F 0 ≡ ratio 0 1
-unfolding ofBits round
-zero-is = refl
-
-pub half-is : F 0x3fe0_0000_0000_0000 ≡ ratio 1 2
-unfolding ofBits round
-half-is = refl
-
-pub one-is : F 0x3ff0_0000_0000_0000 ≡ ratio 1 1
-unfolding ofBits round
-one-is = refl
-
-pub two-is : F 0x4000_0000_0000_0000 ≡ ratio 2 1
-unfolding ofBits round
-two-is = refl
+pub use Rattle.arith.specs.Laws.Constants.{zero-is, half-is, one-is, two-is}
 
 pub thirty-two-is : F 0x4040_0000_0000_0000 ≡ ratio 32 1
 unfolding ofBits round

@@ -1,24 +1,26 @@
 -- geometry.rt's answers on one row are the definitions': one law for each way through a function, over plain variables.
-use Prim.Native.Nat.{ℕ, _^_}
+use Prim.Native.Nat.{_^_}
 use lib.Ieee as Ieee
 use lib.Ieee.{Float, binary64, neg}
-use mathlib.Core.Path.{_≡_, refl, sym, ap, _∙_}
-use mathlib.Core.Bool.{Bool, true, false, cond, not, _&&_, _||_}
+use mathlib.Core.Path.{_≡_, sym, ap, _∙_}
+use mathlib.Core.Bool.{Bool, true, false, _&&_, _||_}
 use mathlib.Core.List.{List, [], _∷_}
 use Rattle.arith.specs.Real.{_⊕_, _⊖_, _⊗_, _⊘_, F, ratio, absOf, maxOf}
 use Rattle.arith.specs.Root.{sqrt}
 use Rattle.arith.specs.Angle.{PI, atan2Of, remTauOf}
 use Rattle.arith.specs.declared.angle.Angle.{Angle}
 use Rattle.arith.specs.declared.angle.Angle.the-variants as Angles
-use Rattle.arith.specs.Flow.{go, stop, _>>=_, returnIf}
+use Rattle.arith.specs.Flow.{go, stop, returnIf}
 use Rattle.arith.specs.FlowLaws.{then-go, then-stop}
 use Rattle.vectors.specs.declared.vector.Vec3.{Vec3}
+use Rattle.vectors.specs.declared.vector.OptionVec3.{OptionVec3}
+use Rattle.vectors.specs.declared.vector.OptionVec3.the-variants as Vector
 use Rattle.vectors.specs.declared.vector.OptionF64.{OptionF64}
 use Rattle.vectors.specs.declared.vector.OptionF64.the-variants as Number
 use Rattle.vectors.specs.declared.quaternion.Quat.{Quat}
-use Rattle.vectors.specs.Vector.{vec, zeroVec, axisX, axisY, axisZ, addOf, subOf, scaleOf, negOf, dotOf, crossOf, tryNormalizeOf}
-use Rattle.vectors.specs.VectorLaws.{zero-vec-is, axis-x-is, axis-y-is, axis-z-is}
-use Rattle.vectors.specs.Quaternion.{conjugateOf, productOf, quatTryNormalizeOf}
+use Rattle.vectors.specs.Vector.{vec, axisZ, addOf, subOf, scaleOf, negOf, dotOf, crossOf, tryNormalizeOf}
+use Rattle.vectors.specs.VectorLaws.{zero-vec-is, axis-z-is}
+use Rattle.vectors.specs.Quaternion.{conjugateOf, productOf, quatTryNormalizeOf, rotateAsUnitOf}
 use Rattle.rows.specs.declared.body.MomentumBody.{MomentumBody}
 use Rattle.rows.specs.declared.geometry.Joint.{Joint}
 use Rattle.rows.specs.declared.geometry.EqualityRow.{EqualityRow}
@@ -32,9 +34,13 @@ use Rattle.rows.specs.declared.geometry.Relative.{Relative}
 use Rattle.rows.specs.declared.geometry.Swing.{Swing}
 use Rattle.rows.specs.Fault.{Fault, nonConvergent, arithmeticOverflow, Result, vectorOr, numberOr, quatOr, tryFinite, tryLength, tryRotate}
 use Rattle.rows.specs.Body.{anchorOf}
-use Rattle.rows.specs.Geometry.{epsilon, turning, endsOf, toleranceOf, distanceRow, linearRow, rowIf, anyLocked, halfTurned, relativeOf, swingX, swingY, localOf, gradientRow, swingRow, angleOr, twistRow, alignedOf, alignRow}
-use Rattle.rows.specs.Append.{endsAs, axisAs, relativeAs, rowAs}
-use Rattle.rows.proofs.Constants.{zero-is, half-is, one-is, two-is, thirty-two-is, sixty-four-is, epsilon-is, ten-is, thirteen-is}
+use Rattle.rows.specs.Geometry.{epsilon, turning, endsOf, toleranceOf, distanceRow, linearRow, rowIf, anyLocked, halfTurned, relativeOf, swingX, swingY}
+use Rattle.rows.specs.Geometry.{localOf, gradientRow, swingRow, angleOr, twistLocked, twistRow, alignedOf, alignRow}
+use Rattle.rows.specs.Unit.{UnitOf}
+use Rattle.rows.specs.Append.{endsAs, axisAs, relativeAs}
+use Rattle.rows.specs.AnswerLaws.{some-go, none-stop}
+use Rattle.rows.proofs.UnitLaws.{rotate-is}
+use Rattle.rows.proofs.Constants.{zero-is, half-is, two-is, thirty-two-is, sixty-four-is, epsilon-is, ten-is, thirteen-is}
 
 abbrev over : {A : Type 0} → Result A
 over = stop arithmeticOverflow
@@ -53,9 +59,31 @@ pub row-free : {locked : Bool} (D : Result EqualityRow) → locked ≡ false →
 row-free D h = ap (λ (l : Bool). rowIf l D) (sym h)
 
 pub turning-is : (joint : Joint) (angularA angularB : Vec3) (value : Float)
-    → record { a = joint .«body_a»; b = joint .«body_b»; «linear_a» = vec (F 0) (F 0) (F 0); «angular_a» = angularA; «linear_b» = vec (F 0) (F 0) (F 0); «angular_b» = angularB; value = value; tolerance = F 0x3d3c_25c2_6849_7682 }
+    → record {
+      a = joint .«body_a»;
+      b = joint .«body_b»;
+      «linear_a» = vec (F 0) (F 0) (F 0);
+      «angular_a» = angularA;
+      «linear_b» = vec (F 0) (F 0) (F 0);
+      «angular_b» = angularB;
+      value = value;
+      tolerance = F 0x3d3c_25c2_6849_7682;
+    }
     ≡ turning joint angularA angularB value
 turning-is joint angularA angularB value = cc (zero-vec-is, thirteen-is)
+
+-- a row along an axis, as the code makes it
+abbrev row-along : Joint → Vec3 → Vec3 → Vec3 → Vec3 → Float → Float → EqualityRow
+row-along joint n angularA axis angularB value tolerance = record {
+  a = joint .«body_a»;
+  b = joint .«body_b»;
+  «linear_a» = n;
+  «angular_a» = angularA;
+  «linear_b» = axis;
+  «angular_b» = angularB;
+  value = value;
+  tolerance = tolerance;
+}
 
 -- ---- from an answer's case to the result
 pub ends-go : {r : EndsAnswer} {e : Ends} {d : Result Ends} → endsAs r ≡ d → r ≡ Both.Value e → go e ≡ d
@@ -76,87 +104,98 @@ tolerance-go e h = sym (ap (numberOr arithmeticOverflow) h) ∙ e
 pub tolerance-stop : {o : OptionF64} {d : Result Float} → numberOr arithmeticOverflow o ≡ d → o ≡ Number.None → over ≡ d
 tolerance-stop e h = sym (ap (numberOr arithmeticOverflow) h) ∙ e
 
+-- ---- a frame turns a vector as its normalized form does
+module _ {q unit : Quat} (u : UnitOf q unit) (v : Vec3) {o : OptionVec3} (e : o ≡ rotateAsUnitOf unit v) where
+  pub turned-go : {r : Vec3} → o ≡ Vector.Some r → go r ≡ tryRotate q v
+  turned-go h = some-go arithmeticOverflow e h ∙ rotate-is u v
+
+  pub turned-stop : o ≡ Vector.None → over ≡ tryRotate q v
+  turned-stop h = none-stop arithmeticOverflow e h ∙ rotate-is u v
+
 -- ---- the ends
 module _ (joint : Joint) (a b : MomentumBody) where
-  pub ends-1 : over ≡ anchorOf a (joint .«frame_a» .«local_anchor») → over ≡ endsOf joint a b
+  pub ends-no-a : over ≡ anchorOf a (joint .«frame_a» .«local_anchor») → over ≡ endsOf joint a b
   unfolding endsOf
-  ends-1 h = then-stop _ h
+  ends-no-a h = then-stop _ h
 
   module _ {pa : Vec3} (ha : go pa ≡ anchorOf a (joint .«frame_a» .«local_anchor»)) where
-    pub ends-2 : over ≡ anchorOf b (joint .«frame_b» .«local_anchor») → over ≡ endsOf joint a b
+    pub ends-no-b : over ≡ anchorOf b (joint .«frame_b» .«local_anchor») → over ≡ endsOf joint a b
     unfolding endsOf
-    ends-2 h = then-stop _ h ∙ then-go _ ha
+    ends-no-b h = then-stop _ h ∙ then-go _ ha
 
     module _ {pb d : Vec3} (hb : go pb ≡ anchorOf b (joint .«frame_b» .«local_anchor»)) (ed : d ≡ subOf pb pa) where
-      pub ends-3 : over ≡ tryFinite d → over ≡ endsOf joint a b
+      pub ends-no-delta : over ≡ tryFinite d → over ≡ endsOf joint a b
       unfolding endsOf
-      ends-3 h = then-stop _ (h ∙ ap tryFinite ed) ∙ then-go _ hb ∙ then-go _ ha
+      ends-no-delta h = then-stop _ (h ∙ ap tryFinite ed) ∙ then-go _ hb ∙ then-go _ ha
 
-      pub ends-4 : {delta armA armB : Vec3} {frameA frameB : Quat} → go delta ≡ tryFinite d → armA ≡ subOf pa (a .center) → armB ≡ subOf pb (b .center)
+      pub ends-are : {delta armA armB : Vec3} {frameA frameB : Quat} → go delta ≡ tryFinite d → armA ≡ subOf pa (a .center) → armB ≡ subOf pb (b .center)
           → frameA ≡ productOf (a .rotation) (joint .«frame_a» .«local_rotation») → frameB ≡ productOf (b .rotation) (joint .«frame_b» .«local_rotation»)
           → go (record { pa = pa; pb = pb; delta = delta; «arm_a» = armA; «arm_b» = armB; «frame_a» = frameA; «frame_b» = frameB }) ≡ endsOf joint a b
       unfolding endsOf
-      ends-4 h e₁ e₂ e₃ e₄ = ap go (cc) ∙ then-go _ (h ∙ ap tryFinite ed) ∙ then-go _ hb ∙ then-go _ ha
+      ends-are h e₁ e₂ e₃ e₄ = ap go (cc) ∙ then-go _ (h ∙ ap tryFinite ed) ∙ then-go _ hb ∙ then-go _ ha
 
 -- ---- tolerance
 module _ (pa pb : Vec3) where
-  pub tolerance-1 : over ≡ tryLength pa → over ≡ toleranceOf pa pb
+  pub tolerance-no-a : over ≡ tryLength pa → over ≡ toleranceOf pa pb
   unfolding toleranceOf
-  tolerance-1 h = then-stop _ h
+  tolerance-no-a h = then-stop _ h
 
   module _ {la : Float} (ha : go la ≡ tryLength pa) where
-    pub tolerance-2 : over ≡ tryLength pb → over ≡ toleranceOf pa pb
+    pub tolerance-no-b : over ≡ tryLength pb → over ≡ toleranceOf pa pb
     unfolding toleranceOf
-    tolerance-2 h = then-stop _ h ∙ then-go _ ha
+    tolerance-no-b h = then-stop _ h ∙ then-go _ ha
 
-    pub tolerance-3 : {lb m : Float} → go lb ≡ tryLength pb → m ≡ maxOf (F 0x4040_0000_0000_0000 ⊗ F 0x3cb0_0000_0000_0000 ⊗ (la ⊕ lb)) (F 0x3d3c_25c2_6849_7682) → go m ≡ toleranceOf pa pb
+    pub tolerance-is : {lb m : Float} → go lb ≡ tryLength pb
+        → m ≡ maxOf (F 0x4040_0000_0000_0000 ⊗ F 0x3cb0_0000_0000_0000 ⊗ (la ⊕ lb)) (F 0x3d3c_25c2_6849_7682) → go m ≡ toleranceOf pa pb
     unfolding toleranceOf
-    tolerance-3 {lb} hb e = ap go (e ∙ rw (thirty-two-is, epsilon-is, thirteen-is)) ∙ then-go _ hb ∙ then-go _ ha
+    tolerance-is {lb} hb e = ap go (e ∙ rw (thirty-two-is, epsilon-is, thirteen-is)) ∙ then-go _ hb ∙ then-go _ ha
 
 -- ---- distance
 module _ (joint : Joint) (e : Ends) (lower : Float) where
-  pub distance-1 : over ≡ tryLength (e .delta) → over ≡ distanceRow joint e lower
+  pub distance-no-length : over ≡ tryLength (e .delta) → over ≡ distanceRow joint e lower
   unfolding distanceRow
-  distance-1 h = then-stop _ h
+  distance-no-length h = then-stop _ h
 
   module _ {distance : Float} (hd : go distance ≡ tryLength (e .delta)) where
-    pub distance-2 : stop nonConvergent ≡ vectorOr nonConvergent (tryNormalizeOf (e .delta)) → stop nonConvergent ≡ distanceRow joint e lower
+    pub distance-no-axis : stop nonConvergent ≡ vectorOr nonConvergent (tryNormalizeOf (e .delta)) → stop nonConvergent ≡ distanceRow joint e lower
     unfolding distanceRow
-    distance-2 h = then-stop _ h ∙ then-go _ hd
+    distance-no-axis h = then-stop _ h ∙ then-go _ hd
 
     module _ {axis : Vec3} (hx : go axis ≡ vectorOr nonConvergent (tryNormalizeOf (e .delta))) where
-      pub distance-3 : over ≡ toleranceOf (e .pa) (e .pb) → over ≡ distanceRow joint e lower
+      pub distance-no-tolerance : over ≡ toleranceOf (e .pa) (e .pb) → over ≡ distanceRow joint e lower
       unfolding distanceRow
-      distance-3 h = then-stop _ h ∙ then-go _ hx ∙ then-go _ hd
+      distance-no-tolerance h = then-stop _ h ∙ then-go _ hx ∙ then-go _ hd
 
-      pub distance-4 : {tolerance : Float} {n c m d : Vec3} → go tolerance ≡ toleranceOf (e .pa) (e .pb) → n ≡ negOf axis → c ≡ crossOf (e .«arm_a») axis → m ≡ negOf c → d ≡ crossOf (e .«arm_b») axis
-          → go (record { a = joint .«body_a»; b = joint .«body_b»; «linear_a» = n; «angular_a» = m; «linear_b» = axis; «angular_b» = d; value = distance ⊖ lower; tolerance = tolerance }) ≡ distanceRow joint e lower
+      pub distance-is : {tolerance : Float} {n c m d : Vec3} → go tolerance ≡ toleranceOf (e .pa) (e .pb)
+          → n ≡ negOf axis → c ≡ crossOf (e .«arm_a») axis → m ≡ negOf c → d ≡ crossOf (e .«arm_b») axis
+          → go (row-along joint n m axis d (distance ⊖ lower) tolerance) ≡ distanceRow joint e lower
       unfolding distanceRow
-      distance-4 h e₁ e₂ e₃ e₄ = ap go (cc) ∙ then-go _ h ∙ then-go _ hx ∙ then-go _ hd
+      distance-is h e₁ e₂ e₃ e₄ = ap go (cc) ∙ then-go _ h ∙ then-go _ hx ∙ then-go _ hd
 
 -- ---- linear
 module _ (joint : Joint) (e : Ends) (localAxis : Vec3) where
-  pub linear-1 : over ≡ tryRotate (e .«frame_a») localAxis → over ≡ linearRow joint e localAxis
+  pub linear-no-axis : over ≡ tryRotate (e .«frame_a») localAxis → over ≡ linearRow joint e localAxis
   unfolding linearRow
-  linear-1 h = then-stop _ h
+  linear-no-axis h = then-stop _ h
 
-  module _ {axis c₁ c₂ d : Vec3} (hx : go axis ≡ tryRotate (e .«frame_a») localAxis) (e₁ : c₁ ≡ crossOf axis (e .delta)) (e₂ : c₂ ≡ crossOf (e .«arm_a») axis) (ed : d ≡ subOf c₁ c₂) where
+  module _ {axis c₁ c₂ d : Vec3} (hx : go axis ≡ tryRotate (e .«frame_a») localAxis)
+      (e₁ : c₁ ≡ crossOf axis (e .delta)) (e₂ : c₂ ≡ crossOf (e .«arm_a») axis) (ed : d ≡ subOf c₁ c₂) where
     turn : tryFinite d ≡ tryFinite (subOf (crossOf axis (e .delta)) (crossOf (e .«arm_a») axis))
     turn = ap tryFinite (ed ∙ cc)
 
-    pub linear-2 : over ≡ tryFinite d → over ≡ linearRow joint e localAxis
+    pub linear-no-angular-a : over ≡ tryFinite d → over ≡ linearRow joint e localAxis
     unfolding linearRow
-    linear-2 h = then-stop _ (h ∙ turn) ∙ then-go _ hx
+    linear-no-angular-a h = then-stop _ (h ∙ turn) ∙ then-go _ hx
 
     module _ {angularA c₃ : Vec3} (ha : go angularA ≡ tryFinite d) (e₃ : c₃ ≡ crossOf (e .«arm_b») axis) where
-      pub linear-3 : over ≡ tryFinite c₃ → over ≡ linearRow joint e localAxis
+      pub linear-no-angular-b : over ≡ tryFinite c₃ → over ≡ linearRow joint e localAxis
       unfolding linearRow
-      linear-3 h = then-stop _ (h ∙ ap tryFinite e₃) ∙ then-go _ (ha ∙ turn) ∙ then-go _ hx
+      linear-no-angular-b h = then-stop _ (h ∙ ap tryFinite e₃) ∙ then-go _ (ha ∙ turn) ∙ then-go _ hx
 
-      pub linear-4 : {angularB n : Vec3} {v tolerance : Float} → go angularB ≡ tryFinite c₃ → go tolerance ≡ toleranceOf (e .pa) (e .pb) → n ≡ negOf axis → v ≡ dotOf (e .delta) axis
-          → go (record { a = joint .«body_a»; b = joint .«body_b»; «linear_a» = n; «angular_a» = angularA; «linear_b» = axis; «angular_b» = angularB; value = v; tolerance = tolerance }) ≡ linearRow joint e localAxis
+      pub linear-is : {angularB n : Vec3} {v tolerance : Float} → go angularB ≡ tryFinite c₃ → go tolerance ≡ toleranceOf (e .pa) (e .pb)
+          → n ≡ negOf axis → v ≡ dotOf (e .delta) axis → go (row-along joint n angularA axis angularB v tolerance) ≡ linearRow joint e localAxis
       unfolding linearRow
-      linear-4 hb ht en ev = ap go (cc) ∙ then-go _ ht ∙ then-go _ (hb ∙ ap tryFinite e₃) ∙ then-go _ (ha ∙ turn) ∙ then-go _ hx
+      linear-is hb ht en ev = ap go (cc) ∙ then-go _ ht ∙ then-go _ (hb ∙ ap tryFinite e₃) ∙ then-go _ (ha ∙ turn) ∙ then-go _ hx
 
 -- ---- align
 -- Vec3::Z turned, as the code has it
@@ -164,60 +203,67 @@ pub axis-turned : (q : Quat) {x : Result Vec3} → x ≡ tryRotate q (vec (F 0) 
 axis-turned q e = e ∙ ap (tryRotate q) axis-z-is
 
 module _ (frameA frameB : Quat) where
-  pub aligned-1 : over ≡ tryRotate frameB axisZ → over ≡ alignedOf frameA frameB
+  pub aligned-no-b : over ≡ tryRotate frameB axisZ → over ≡ alignedOf frameA frameB
   unfolding alignedOf
-  aligned-1 h = then-stop _ h
+  aligned-no-b h = then-stop _ h
 
   module _ {z : Vec3} (hz : go z ≡ tryRotate frameB axisZ) where
-    pub aligned-2 : over ≡ tryRotate frameA axisZ → over ≡ alignedOf frameA frameB
+    pub aligned-no-a : over ≡ tryRotate frameA axisZ → over ≡ alignedOf frameA frameB
     unfolding alignedOf
-    aligned-2 h = then-stop _ h ∙ then-go _ hz
+    aligned-no-a h = then-stop _ h ∙ then-go _ hz
 
     module _ {za : Vec3} {d : Float} (ha : go za ≡ tryRotate frameA axisZ) (ed : d ≡ dotOf za z) where
-      tested : {t : Bool} → Ieee.le d (F 0x3ddb_7cdf_d9d7_bdbb) ≡ t → returnIf t nonConvergent ≡ returnIf (Ieee.le (dotOf za z) (ratio 1 (10 ^ 10))) nonConvergent
-      tested h = ap (λ (t : Bool). returnIf t nonConvergent) (sym h ∙ ap (λ (k : Float). Ieee.le d k) ten-is ∙ ap (λ (k : Float). Ieee.le k (ratio 1 (10 ^ 10))) ed)
+      tested : {t : Bool} → Ieee.le d (F 0x3ddb_7cdf_d9d7_bdbb) ≡ t
+          → returnIf t nonConvergent ≡ returnIf (Ieee.le (dotOf za z) (ratio 1 (10 ^ 10))) nonConvergent
+      tested h =
+          ap (λ (t : Bool). returnIf t nonConvergent)
+          (sym h ∙ ap (λ (k : Float). Ieee.le d k) ten-is ∙ ap (λ (k : Float). Ieee.le k (ratio 1 (10 ^ 10))) ed)
 
-      pub aligned-3 : Ieee.le d (F 0x3ddb_7cdf_d9d7_bdbb) ≡ true → stop nonConvergent ≡ alignedOf frameA frameB
+      pub aligned-apart : Ieee.le d (F 0x3ddb_7cdf_d9d7_bdbb) ≡ true → stop nonConvergent ≡ alignedOf frameA frameB
       unfolding alignedOf
-      aligned-3 h = then-stop _ (tested h) ∙ then-go _ ha ∙ then-go _ hz
+      aligned-apart h = then-stop _ (tested h) ∙ then-go _ ha ∙ then-go _ hz
 
-      pub aligned-4 : Ieee.le d (F 0x3ddb_7cdf_d9d7_bdbb) ≡ false → go z ≡ alignedOf frameA frameB
+      pub aligned-is : Ieee.le d (F 0x3ddb_7cdf_d9d7_bdbb) ≡ false → go z ≡ alignedOf frameA frameB
       unfolding alignedOf
-      aligned-4 h = then-go _ (tested h) ∙ then-go _ ha ∙ then-go _ hz
+      aligned-is h = then-go _ (tested h) ∙ then-go _ ha ∙ then-go _ hz
 
 module _ (joint : Joint) (frameA : Quat) (localAxis z : Vec3) where
-  pub align-1 : over ≡ tryRotate frameA localAxis → over ≡ alignRow joint frameA localAxis z
+  pub align-no-axis : over ≡ tryRotate frameA localAxis → over ≡ alignRow joint frameA localAxis z
   unfolding alignRow
-  align-1 h = then-stop _ h
+  align-no-axis h = then-stop _ h
 
   module _ {axis c : Vec3} (hx : go axis ≡ tryRotate frameA localAxis) (ec : c ≡ crossOf axis z) where
-    pub align-2 : over ≡ tryFinite c → over ≡ alignRow joint frameA localAxis z
+    pub align-no-gradient : over ≡ tryFinite c → over ≡ alignRow joint frameA localAxis z
     unfolding alignRow
-    align-2 h = then-stop _ (h ∙ ap tryFinite ec) ∙ then-go _ hx
+    align-no-gradient h = then-stop _ (h ∙ ap tryFinite ec) ∙ then-go _ hx
 
-    pub align-3 : {gradient n : Vec3} {v : Float} {row : EqualityRow} → go gradient ≡ tryFinite c → n ≡ negOf gradient → v ≡ dotOf axis z → row ≡ turning joint gradient n v → go row ≡ alignRow joint frameA localAxis z
+    pub align-is : {gradient n : Vec3} {v : Float} {row : EqualityRow} → go gradient ≡ tryFinite c → n ≡ negOf gradient → v ≡ dotOf axis z
+        → row ≡ turning joint gradient n v → go row ≡ alignRow joint frameA localAxis z
     unfolding alignRow
-    align-3 h en ev er = ap go (er ∙ cc) ∙ then-go _ (h ∙ ap tryFinite ec) ∙ then-go _ hx
+    align-is h en ev er = ap go (er ∙ cc) ∙ then-go _ (h ∙ ap tryFinite ec) ∙ then-go _ hx
 
 -- ---- cone twist
-pub swing-x-is : (q : Quat) {g : Vec3} → g ≡ vec (q .w) (neg (q .z)) (neg (q .y)) → record { numerator = q .w ⊗ q .x ⊖ q .z ⊗ q .y; gradient = g; scalar = q .x } ≡ swingX q
+pub swing-x-is : (q : Quat) {g : Vec3} → g ≡ vec (q .w) (neg (q .z)) (neg (q .y))
+    → record { numerator = q .w ⊗ q .x ⊖ q .z ⊗ q .y; gradient = g; scalar = q .x } ≡ swingX q
 swing-x-is q e = cc
 
 pub swing-y-is : (q : Quat) {g : Vec3} → g ≡ vec (q .z) (q .w) (q .x) → record { numerator = q .w ⊗ q .y ⊕ q .z ⊗ q .x; gradient = g; scalar = q .y } ≡ swingY q
 swing-y-is q e = cc
 
-pub local-is : (q : Quat) (gradient : Vec3) (scalar : Float) {u s c t v w r : Vec3} → u ≡ vec (q .x) (q .y) (q .z) → s ≡ scaleOf gradient (q .w) → c ≡ crossOf u gradient → t ≡ addOf s c → v ≡ scaleOf u scalar → w ≡ subOf t v
+pub local-is : (q : Quat) (gradient : Vec3) (scalar : Float) {u s c t v w r : Vec3}
+    → u ≡ vec (q .x) (q .y) (q .z) → s ≡ scaleOf gradient (q .w) → c ≡ crossOf u gradient → t ≡ addOf s c → v ≡ scaleOf u scalar → w ≡ subOf t v
     → r ≡ scaleOf w (F 0x3fe0_0000_0000_0000) → r ≡ localOf q gradient scalar
 local-is q gradient scalar eu es ec et ev ew er = cc half-is
 
 module _ (joint : Joint) (frameA q : Quat) (gradient : Vec3) (scalar value : Float) {l : Vec3} (el : l ≡ localOf q gradient scalar) where
-  pub gradient-1 : over ≡ tryRotate frameA l → over ≡ gradientRow joint frameA q gradient scalar value
+  pub gradient-no-turn : over ≡ tryRotate frameA l → over ≡ gradientRow joint frameA q gradient scalar value
   unfolding gradientRow
-  gradient-1 h = then-stop _ (h ∙ ap (tryRotate frameA) el)
+  gradient-no-turn h = then-stop _ (h ∙ ap (tryRotate frameA) el)
 
-  pub gradient-2 : {angular n : Vec3} {row : EqualityRow} → go angular ≡ tryRotate frameA l → n ≡ negOf angular → row ≡ turning joint n angular value → go row ≡ gradientRow joint frameA q gradient scalar value
+  pub gradient-is : {angular n : Vec3} {row : EqualityRow} → go angular ≡ tryRotate frameA l → n ≡ negOf angular → row ≡ turning joint n angular value
+      → go row ≡ gradientRow joint frameA q gradient scalar value
   unfolding gradientRow
-  gradient-2 h en er = ap go (er ∙ cc) ∙ then-go _ (h ∙ ap (tryRotate frameA) el)
+  gradient-is h en er = ap go (er ∙ cc) ∙ then-go _ (h ∙ ap (tryRotate frameA) el)
 
 abbrev two : Float
 two = F 0x4000_0000_0000_0000
@@ -225,9 +271,20 @@ two = F 0x4000_0000_0000_0000
 abbrev Z : Vec3
 Z = vec (F 0) (F 0) (F 0x3ff0_0000_0000_0000)
 
+-- the gradient and the scalar of a swing row, by the literals for 2 and Vec3::Z
+module _ (r : Relative) (swing : Swing) where
+  abbrev cubed : Float
+  cubed = r .«norm_squared» ⊗ r .norm
+
+  abbrev swing-z : Float
+  swing-z = two ⊗ swing .numerator ⊗ r .rotation .z ⊘ cubed
+
+  abbrev swing-scalar : Float
+  swing-scalar = two ⊗ swing .scalar ⊘ r .norm ⊖ two ⊗ swing .numerator ⊗ r .rotation .w ⊘ cubed
+
 pub swing-is : (joint : Joint) (frameA : Quat) (r : Relative) (swing : Swing) {s z g : Vec3} {x : Result (List EqualityRow)}
-    → s ≡ scaleOf (swing .gradient) (two ⊘ r .norm) → z ≡ scaleOf Z (two ⊗ swing .numerator ⊗ r .rotation .z ⊘ (r .«norm_squared» ⊗ r .norm)) → g ≡ subOf s z
-    → x ≡ rowIf true (gradientRow joint frameA (r .rotation) g (two ⊗ swing .scalar ⊘ r .norm ⊖ two ⊗ swing .numerator ⊗ r .rotation .w ⊘ (r .«norm_squared» ⊗ r .norm)) (two ⊗ swing .numerator ⊘ r .norm))
+    → s ≡ scaleOf (swing .gradient) (two ⊘ r .norm) → z ≡ scaleOf Z (swing-z r swing) → g ≡ subOf s z
+    → x ≡ rowIf true (gradientRow joint frameA (r .rotation) g (swing-scalar r swing) (two ⊗ swing .numerator ⊘ r .norm))
     → x ≡ rowIf true (swingRow joint frameA r swing)
 unfolding swingRow
 swing-is joint frameA r swing es ez eg ex = ex ∙ ap (rowIf true) (cc (two-is, axis-z-is))
@@ -236,28 +293,42 @@ module _ (joint : Joint) (frameA : Quat) (r : Relative) (lower : Float) {a : Ang
   angle : {x : Angle} → a ≡ x → angleOr arithmeticOverflow x ≡ angleOr arithmeticOverflow (atan2Of (r .rotation .z) (r .rotation .w))
   angle h = ap (angleOr arithmeticOverflow) (sym h ∙ ea)
 
-  pub twist-1 : a ≡ Angles.Refused → over ≡ twistRow joint frameA r lower
+  pub twist-refused : a ≡ Angles.Refused → over ≡ twistRow joint frameA r lower
   unfolding twistRow
-  twist-1 h = then-stop _ (angle h)
+  twist-refused h = then-stop _ (angle h)
 
   module _ {half m v : Float} (hh : a ≡ Angles.Value half) (em : m ≡ remTauOf (two ⊗ half ⊖ lower ⊕ PI)) (ev : v ≡ absOf (m ⊖ PI)) where
-    value-is : m ⊖ PI ≡ remTauOf (ratio 2 1 ⊗ half ⊖ lower ⊕ PI) ⊖ PI
+    abbrev value : Float
+    value = remTauOf (ratio 2 1 ⊗ half ⊖ lower ⊕ PI) ⊖ PI
+
+    value-is : m ⊖ PI ≡ value
     value-is = ap (λ (x : Float). x ⊖ PI) em ∙ ap (λ (k : Float). remTauOf (k ⊗ half ⊖ lower ⊕ PI) ⊖ PI) two-is
 
-    near : {t : Bool} → Ieee.le (PI ⊖ F 0x3ddb_7cdf_d9d7_bdbb) v ≡ t → returnIf t nonConvergent ≡ returnIf (Ieee.le (PI ⊖ ratio 1 (10 ^ 10)) (absOf (remTauOf (ratio 2 1 ⊗ half ⊖ lower ⊕ PI) ⊖ PI))) nonConvergent
-    near h = ap (λ (t : Bool). returnIf t nonConvergent) (sym h ∙ ap (λ (k : Float). Ieee.le (PI ⊖ k) v) ten-is ∙ ap (Ieee.le (PI ⊖ ratio 1 (10 ^ 10))) (ev ∙ ap absOf value-is))
+    near : {t : Bool} → Ieee.le (PI ⊖ F 0x3ddb_7cdf_d9d7_bdbb) v ≡ t
+        → returnIf t nonConvergent ≡ returnIf (Ieee.le (PI ⊖ ratio 1 (10 ^ 10)) (absOf value)) nonConvergent
+    near h =
+        ap (λ (t : Bool). returnIf t nonConvergent)
+        (sym h ∙ ap (λ (k : Float). Ieee.le (PI ⊖ k) v) ten-is ∙ ap (Ieee.le (PI ⊖ ratio 1 (10 ^ 10))) (ev ∙ ap absOf value-is))
 
-    pub twist-2 : Ieee.le (PI ⊖ F 0x3ddb_7cdf_d9d7_bdbb) v ≡ true → stop nonConvergent ≡ twistRow joint frameA r lower
+    pub twist-half-turn : Ieee.le (PI ⊖ F 0x3ddb_7cdf_d9d7_bdbb) v ≡ true → stop nonConvergent ≡ twistRow joint frameA r lower
     unfolding twistRow
-    twist-2 h = then-stop _ (near h) ∙ then-go _ (angle hh)
+    twist-half-turn h = then-stop _ (near h) ∙ then-go _ (angle hh)
 
-    pub twist-3 : {g : Vec3} {x : Result (List EqualityRow)} → Ieee.le (PI ⊖ F 0x3ddb_7cdf_d9d7_bdbb) v ≡ false → g ≡ scaleOf Z (two ⊗ r .rotation .w ⊘ r .«norm_squared»)
-        → x ≡ rowIf true (gradientRow joint frameA (r .rotation) g (neg two ⊗ r .rotation .z ⊘ r .«norm_squared») (m ⊖ PI)) → x ≡ rowIf true (twistRow joint frameA r lower)
+    pub twist-is : {g : Vec3} {x : Result (List EqualityRow)} → Ieee.le (PI ⊖ F 0x3ddb_7cdf_d9d7_bdbb) v ≡ false
+        → g ≡ scaleOf Z (two ⊗ r .rotation .w ⊘ r .«norm_squared»)
+        → x ≡ rowIf true (gradientRow joint frameA (r .rotation) g (neg two ⊗ r .rotation .z ⊘ r .«norm_squared») (m ⊖ PI))
+        → x ≡ rowIf true (twistRow joint frameA r lower)
     unfolding twistRow
-    twist-3 {g} h eg ex = ex ∙ ap (rowIf true) (row ∙ then-go _ (near h) ∙ then-go _ (angle hh))
+    twist-is {g} h eg ex = ex ∙ ap (rowIf true) (row ∙ then-go _ (near h) ∙ then-go _ (angle hh))
       where
+        along : Vec3
+        along = scaleOf axisZ (ratio 2 1 ⊗ r .rotation .w ⊘ r .«norm_squared»)
+
+        scalar : Float
+        scalar = neg (ratio 2 1) ⊗ r .rotation .z ⊘ r .«norm_squared»
+
         row : gradientRow joint frameA (r .rotation) g (neg two ⊗ r .rotation .z ⊘ r .«norm_squared») (m ⊖ PI)
-            ≡ gradientRow joint frameA (r .rotation) (scaleOf axisZ (ratio 2 1 ⊗ r .rotation .w ⊘ r .«norm_squared»)) (neg (ratio 2 1) ⊗ r .rotation .z ⊘ r .«norm_squared») (remTauOf (ratio 2 1 ⊗ half ⊖ lower ⊕ PI) ⊖ PI)
+            ≡ gradientRow joint frameA (r .rotation) along scalar value
         row = cc (two-is, axis-z-is, value-is)
 
 -- any of several tests
@@ -275,39 +346,45 @@ pub zero-test : (x : Float) {t : Bool} → Ieee.eq x (F 0) ≡ t → Ieee.eq x (
 zero-test x h = ap (Ieee.eq x) (sym zero-is) ∙ h
 
 module _ (cone : Cone) where
-  pub locked-1 : Ieee.eq (cone .«swing_x») (F 0) ≡ true → true ≡ anyLocked cone
-  locked-1 h = first-of _ _ _ (zero-test (cone .«swing_x») h)
+  pub x-is-locked : Ieee.eq (cone .«swing_x») (F 0) ≡ true → true ≡ anyLocked cone
+  x-is-locked h = first-of _ _ _ (zero-test (cone .«swing_x») h)
 
-  pub locked-2 : Ieee.eq (cone .«swing_x») (F 0) ≡ false → Ieee.eq (cone .«swing_y») (F 0) ≡ true → true ≡ anyLocked cone
-  locked-2 h g = second-of _ _ _ (zero-test (cone .«swing_x») h) (zero-test (cone .«swing_y») g)
+  pub y-is-locked : Ieee.eq (cone .«swing_x») (F 0) ≡ false → Ieee.eq (cone .«swing_y») (F 0) ≡ true → true ≡ anyLocked cone
+  y-is-locked h g = second-of _ _ _ (zero-test (cone .«swing_x») h) (zero-test (cone .«swing_y») g)
 
-  pub locked-3 : Ieee.eq (cone .«swing_x») (F 0) ≡ false → Ieee.eq (cone .«swing_y») (F 0) ≡ false → Ieee.eq (cone .«twist_lower») (cone .«twist_upper») ≡ anyLocked cone
-  locked-3 h g = third-of _ _ _ (zero-test (cone .«swing_x») h) (zero-test (cone .«swing_y») g)
+  pub twist-decides : Ieee.eq (cone .«swing_x») (F 0) ≡ false → Ieee.eq (cone .«swing_y») (F 0) ≡ false → twistLocked cone ≡ anyLocked cone
+  twist-decides h g = third-of _ _ _ (zero-test (cone .«swing_x») h) (zero-test (cone .«swing_y») g)
 
   module _ (n : Float) where
-    edge : Ieee.le n (F 0x4050_0000_0000_0000 ⊗ F 0x3cb0_0000_0000_0000 ⊗ (F 0x4050_0000_0000_0000 ⊗ F 0x3cb0_0000_0000_0000)) ≡ Ieee.le n (ratio 64 1 ⊗ epsilon ⊗ (ratio 64 1 ⊗ epsilon))
-    edge = rw (sixty-four-is, epsilon-is)
+    -- the square of 64 epsilon, as the code has it
+    abbrev edge : Float
+    edge = F 0x4050_0000_0000_0000 ⊗ F 0x3cb0_0000_0000_0000 ⊗ (F 0x4050_0000_0000_0000 ⊗ F 0x3cb0_0000_0000_0000)
 
-    pub half-1 : {l : Bool} → l ≡ anyLocked cone → Ieee.le n (F 0x4050_0000_0000_0000 ⊗ F 0x3cb0_0000_0000_0000 ⊗ (F 0x4050_0000_0000_0000 ⊗ F 0x3cb0_0000_0000_0000)) ≡ true → l ≡ halfTurned cone n
-    half-1 e h = e ∙ ap (λ (t : Bool). t && anyLocked cone) (sym h ∙ edge)
+    edge-is : Ieee.le n edge ≡ Ieee.le n (ratio 64 1 ⊗ epsilon ⊗ (ratio 64 1 ⊗ epsilon))
+    edge-is = rw (sixty-four-is, epsilon-is)
 
-    pub half-2 : Ieee.le n (F 0x4050_0000_0000_0000 ⊗ F 0x3cb0_0000_0000_0000 ⊗ (F 0x4050_0000_0000_0000 ⊗ F 0x3cb0_0000_0000_0000)) ≡ false → false ≡ halfTurned cone n
-    half-2 h = ap (λ (t : Bool). t && anyLocked cone) (sym h ∙ edge)
+    pub half-yes : {l : Bool} → l ≡ anyLocked cone → Ieee.le n edge ≡ true → l ≡ halfTurned cone n
+    half-yes e h = e ∙ ap (λ (t : Bool). t && anyLocked cone) (sym h ∙ edge-is)
+
+    pub half-no : Ieee.le n edge ≡ false → false ≡ halfTurned cone n
+    half-no h = ap (λ (t : Bool). t && anyLocked cone) (sym h ∙ edge-is)
 
 module _ (cone : Cone) (frameA frameB : Quat) {c p : Quat} (ec : c ≡ conjugateOf frameA) (ep : p ≡ productOf c frameB) where
   seen : quatOr arithmeticOverflow (quatTryNormalizeOf p) ≡ quatOr arithmeticOverflow (quatTryNormalizeOf (productOf (conjugateOf frameA) frameB))
   seen = ap (λ (x : Quat). quatOr arithmeticOverflow (quatTryNormalizeOf x)) (ep ∙ ap (λ (x : Quat). productOf x frameB) ec)
 
-  pub relative-1 : over ≡ quatOr arithmeticOverflow (quatTryNormalizeOf p) → over ≡ relativeOf cone frameA frameB
+  pub relative-no-unit : over ≡ quatOr arithmeticOverflow (quatTryNormalizeOf p) → over ≡ relativeOf cone frameA frameB
   unfolding relativeOf
-  relative-1 h = then-stop _ (h ∙ seen)
+  relative-no-unit h = then-stop _ (h ∙ seen)
 
   module _ {q : Quat} {t : Bool} (hq : go q ≡ quatOr arithmeticOverflow (quatTryNormalizeOf p)) (et : t ≡ halfTurned cone (q .w ⊗ q .w ⊕ q .z ⊗ q .z)) where
-    pub relative-2 : t ≡ true → stop nonConvergent ≡ relativeOf cone frameA frameB
+    pub relative-half-turn : t ≡ true → stop nonConvergent ≡ relativeOf cone frameA frameB
     unfolding relativeOf
-    relative-2 h = then-stop _ (ap (λ (x : Bool). returnIf x nonConvergent) (sym h ∙ et)) ∙ then-go _ (hq ∙ seen)
+    relative-half-turn h = then-stop _ (ap (λ (x : Bool). returnIf x nonConvergent) (sym h ∙ et)) ∙ then-go _ (hq ∙ seen)
 
-    pub relative-3 : {n : Float} → t ≡ false → n ≡ sqrt binary64 (q .w ⊗ q .w ⊕ q .z ⊗ q .z)
+    pub relative-is : {n : Float} → t ≡ false → n ≡ sqrt binary64 (q .w ⊗ q .w ⊕ q .z ⊗ q .z)
         → go (record { rotation = q; «norm_squared» = q .w ⊗ q .w ⊕ q .z ⊗ q .z; norm = n }) ≡ relativeOf cone frameA frameB
     unfolding relativeOf
-    relative-3 h en = ap (λ (x : Float). go (record { rotation = q; «norm_squared» = q .w ⊗ q .w ⊕ q .z ⊗ q .z; norm = x })) en ∙ then-go _ (ap (λ (x : Bool). returnIf x nonConvergent) (sym h ∙ et)) ∙ then-go _ (hq ∙ seen)
+    relative-is h en =
+        ap (λ (x : Float). go (record { rotation = q; «norm_squared» = q .w ⊗ q .w ⊕ q .z ⊗ q .z; norm = x })) en
+        ∙ then-go _ (ap (λ (x : Bool). returnIf x nonConvergent) (sym h ∙ et)) ∙ then-go _ (hq ∙ seen)

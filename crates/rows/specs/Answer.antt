@@ -24,7 +24,7 @@ use Rattle.rows.specs.Fault.{Fault, nonConvergent, arithmeticOverflow, n
 use Rattle.rows.specs.Geometry.{rowCount, writeEqualityRows}
 use Rattle.rows.specs.View.{at, rowsAt, Out, Kept}
 
--- ---- document 01's number of an answer: 0 where there is one, else the fault's
+-- ---- the number of an answer: 0 where there is one, else the fault's
 abbrev pub refusalNumber : {A : Type 0} → Result A → ℕ
 refusalNumber (go x) = 0
 refusalNumber (stop fault) = number fault

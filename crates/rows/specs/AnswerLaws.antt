@@ -22,7 +22,8 @@ use Rattle.rows.specs.declared.body.BodyAnswer.{BodyAnswer}
 use Rattle.rows.specs.declared.geometry.Written.{Written}
 use Rattle.rows.specs.declared.geometry.Written.the-variants as Written
 use Rattle.rows.specs.Fault.{Fault, nonConvergent, arithmeticOverflow, Result, vectorOr, numberOr, quatOr}
-use Rattle.rows.specs.Answer.{refusalNumber, finishNumber, stateNumber, writtenNumber, answerOf, finishAs, bodyAs, BodyAnswered, stateAs, StateAnswered, writtenAs}
+use Rattle.rows.specs.Answer.{refusalNumber, finishNumber, stateNumber, writtenNumber}
+use Rattle.rows.specs.Answer.{answerOf, finishAs, bodyAs, BodyAnswered, stateAs, StateAnswered, writtenAs}
 
 -- a contract of this crate: `vectorOr arithmeticOverflow o ≡ d`
 pub vector-go : {o : OptionVec3} {v : Vec3} {d : Result Vec3} → vectorOr arithmeticOverflow o ≡ d → o ≡ Some v → go v ≡ d

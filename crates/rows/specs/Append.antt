@@ -1,11 +1,14 @@
--- What the functions that make rows and write them one behind the other promise of each other. Only contracts of private functions cite this file.
+-- What the functions that make rows and write them one behind the other promise of each other.
+-- Only contracts of private functions cite this file.
 use Prim.Native.Nat.{ℕ, _+_, _*_, _≤_, _<_}
 use mathlib.Core.Path.{_≡_}
 use mathlib.Core.List.{List, [], _∷_, _++_}
 use lib.Ieee.{Float}
+use lib.ListN.{length}
 use Rattle.arith.specs.Real.{ratio}
 use Rattle.arith.specs.Flow.{go, stop, _>>=_}
 use Rattle.vectors.specs.declared.vector.Vec3.{Vec3}
+use Rattle.rows.specs.declared.geometry.Joint.{Joint}
 use Rattle.rows.specs.declared.geometry.EqualityRow.{EqualityRow}
 use Rattle.rows.specs.declared.geometry.Ends.{Ends}
 use Rattle.rows.specs.declared.geometry.EndsAnswer.{EndsAnswer}
@@ -89,6 +92,11 @@ There i t (Written.Rows n) Row.ArithmeticOverflow = Unit {0}
 There i t Written.NonConvergent answer = Unit {0}
 There i t Written.ArithmeticOverflow answer = Unit {0}
 
+-- six rows have room at i, and at most k of them are written
+pub record Room (i k : ℕ) (s : List Float) (written : Written) : Type 0 where
+  pub six : i + 84 ≤ length s
+  pub few : countOf written ≤ k
+
 -- `written` at entry, and one answer more
 pub record Appends (i : ℕ) (written : Written) (answer : RowAnswer) (s t : List Float) (r : Written) : Type 0 where
   pub kept : Kept (λ k. Out (i + 14 * countOf written) (14 * added written answer) k) s t
@@ -109,3 +117,9 @@ pub record Cleared (i n : ℕ) (s t : List Float) : Type 0 where
 -- what was written before, and more rows behind it
 abbrev pub followedBy : Result (List EqualityRow) → Result (List EqualityRow) → Result (List EqualityRow)
 followedBy d more = d >>= λ xs. more >>= λ ys. go (xs ++ ys)
+
+-- whatever the rows written from start to s are, `more` stand behind them in t
+abbrev pub Follows : Joint → ℕ → List Float → List Float → Written → Written → Result (List EqualityRow) → Type 0
+Follows joint i s t written r more =
+    (start : List Float) (d : Result (List EqualityRow)) → Adds (joint .«body_a») (joint .«body_b») i 3 start s written d
+    → Adds (joint .«body_a») (joint .«body_b») i 6 start t r (followedBy d more)

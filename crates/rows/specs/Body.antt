@@ -1,5 +1,5 @@
 -- body.rs: a body with its momenta, as the solver moves it.
-use Prim.Native.Nat.{ℕ, _^_}
+use Prim.Native.Nat.{_^_}
 use mathlib.Core.Bool.{Bool, cond, not, _&&_}
 use lib.Ieee as Ieee
 use lib.Ieee.{Float}

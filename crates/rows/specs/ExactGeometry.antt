@@ -1,4 +1,5 @@
--- Document 01, "Exact geometry of demand 3", in exact fractions and in the paper's letters. It reads the origin and rotation of body records, and a joint; nothing of the solver occurs in it.
+-- SPECIFICATION §14, in exact fractions and in its letters. It reads the origin and rotation of body records, and a joint; nothing of
+-- the solver occurs in it.
 use Prim.Native.Nat.{_^_}
 use mathlib.Core.Bool.{Bool, true, _&&_}
 use lib.Dec.{T, lit<}
@@ -13,8 +14,13 @@ use Rattle.rows.specs.declared.body.RigidBody.{RigidBody}
 use Rattle.rows.specs.declared.body.BodyState.{BodyState}
 use Rattle.rows.specs.declared.geometry.JointFrame.{JointFrame}
 use Rattle.rows.specs.declared.geometry.Joint.{Joint}
-use Rattle.rows.specs.declared.geometry.Kind.{Kind}
-use Rattle.rows.specs.declared.geometry.Kind.the-variants.{Ball, Hinge, Cylindrical, Planar, Distance, ConeTwist}
+use Rattle.rows.specs.declared.geometry.Linear.{Linear}
+use Rattle.rows.specs.declared.geometry.Linear.the-variants.{Point, Line, Plane}
+use Rattle.rows.specs.declared.geometry.Turning.{Turning}
+use Rattle.rows.specs.declared.geometry.Turning.the-variants.{Free, Align, Cone}
+use Rattle.rows.specs.declared.geometry.Motions.{Motions}
+use Rattle.rows.specs.declared.geometry.Motions.the-variants.{Rod, Frame}
+use Rattle.rows.specs.Motions.{motionsOf}
 
 -- ---- vectors and quaternions of fractions
 pub record Vector : Type 0 where
@@ -124,18 +130,28 @@ pub record Aligned (a : Quaternion) (z : Vector) : Type 0 where
   pub on-y : (negq across ≤q z · Y a) × (z · Y a ≤q across)
   pub on-z : qn 0 <q z · Z a
 
--- d is anchor b less anchor a; a is frame a, and z is frame b's Z; t is d · Z a
-abbrev pub MetBy : Kind → Vector → Quaternion → Vector → Type 0
-MetBy Ball d a z = d · d ≤q squared micrometre
-MetBy Hinge d a z = (d · d ≤q squared micrometre) × Aligned a z
-MetBy Cylindrical d a z = (d · d -q squared (d · Z a) ≤q squared micrometre) × Aligned a z
-MetBy Planar d a z = (squared (d · Z a) ≤q squared micrometre) × Aligned a z
-MetBy (Distance L) d a z = (squared (val L -q micrometre) ≤q d · d) × (d · d ≤q squared (val L +q micrometre))
-MetBy (ConeTwist swingX swingY twistLower twistUpper) d a z = d · d ≤q squared micrometre
+-- d is anchor b less anchor a, and t is d · Z a, for frame a: the square of how far anchor b stands off anchor a, off the line through
+-- it along Z a, or off the plane through it across Z a
+abbrev pub off : Linear → Vector → Quaternion → ℚ
+off Point d a = d · d
+off Line d a = d · d -q squared (d · Z a)
+off Plane d a = squared (d · Z a)
+
+-- z is frame b's Z. Of a cone and a twist nothing more is promised
+abbrev pub Turned : Turning → Quaternion → Vector → Type 0
+Turned Free a z = Unit {0}
+Turned Align a z = Aligned a z
+Turned (Cone cone) a z = Unit {0}
+
+abbrev pub MetBy : Motions → Vector → Quaternion → Vector → Type 0
+MetBy (Rod L) d a z = (squared (val L -q micrometre) ≤q d · d) × (d · d ≤q squared (val L +q micrometre))
+MetBy (Frame linear turning) d a z = (off linear d a ≤q squared micrometre) × Turned turning a z
 
 -- the sections that a joint joins meet there, for bodies at the places a and b
 abbrev pub Met : Joint → Place → Place → Type 0
-Met joint a b = MetBy (joint .kind) (anchor b (joint .«frame_b») -v anchor a (joint .«frame_a»)) (frame a (joint .«frame_a»)) (Z (frame b (joint .«frame_b»)))
+Met joint a b =
+    let d = anchor b (joint .«frame_b») -v anchor a (joint .«frame_a») in
+    MetBy (motionsOf (joint .kind)) d (frame a (joint .«frame_a»)) (Z (frame b (joint .«frame_b»)))
 
 -- a record's place is one: its numbers are finite, and N is above 0
 pub record Stands (origin : Vec3) (rotation : Quat) : Type 0 where
@@ -144,18 +160,20 @@ pub record Stands (origin : Vec3) (rotation : Quat) : Type 0 where
   pub N-above : qn 0 <q N (quaternion rotation)
 
 -- the numbers of a kind are finite
-abbrev pub kindFinite : Kind → Bool
-kindFinite Ball = true
-kindFinite Hinge = true
-kindFinite Cylindrical = true
-kindFinite Planar = true
-kindFinite (Distance L) = isFinite L
-kindFinite (ConeTwist swingX swingY twistLower twistUpper) = isFinite swingX && isFinite swingY && isFinite twistLower && isFinite twistUpper
+abbrev pub turningFinite : Turning → Bool
+turningFinite Free = true
+turningFinite Align = true
+turningFinite (Cone cone) = isFinite (cone .«swing_x») && isFinite (cone .«swing_y») && isFinite (cone .«twist_lower») && isFinite (cone .«twist_upper»)
 
--- `Met` speaks of real numbers: every number of the joint is finite, and N is above 0 for both frame rotations, alone and in bodies at the places a and b
+abbrev pub motionsFinite : Motions → Bool
+motionsFinite (Rod L) = isFinite L
+motionsFinite (Frame linear turning) = turningFinite turning
+
+-- `Met` speaks of real numbers: every number of the joint is finite, and N is above 0 for both frame rotations, alone and in bodies
+-- at the places a and b
 pub record Proper (joint : Joint) (a b : Place) : Type 0 where
   pub frame-a : Stands (joint .«frame_a» .«local_anchor») (joint .«frame_a» .«local_rotation»)
   pub frame-b : Stands (joint .«frame_b» .«local_anchor») (joint .«frame_b» .«local_rotation»)
-  pub kind-finite : T (kindFinite (joint .kind))
+  pub kind-finite : T (motionsFinite (motionsOf (joint .kind)))
   pub product-a : qn 0 <q N (frame a (joint .«frame_a»))
   pub product-b : qn 0 <q N (frame b (joint .«frame_b»))

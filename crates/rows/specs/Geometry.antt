@@ -16,16 +16,22 @@ use Rattle.vectors.specs.Vector.{vec, zeroVec, axisX, axisY, axisZ, addOf, subO
 use Rattle.vectors.specs.Quaternion.{conjugateOf, productOf, quatTryNormalizeOf}
 use Rattle.rows.specs.declared.body.MomentumBody.{MomentumBody}
 use Rattle.rows.specs.declared.geometry.Kind.{Kind}
-use Rattle.rows.specs.declared.geometry.Kind.the-variants.{Ball, Hinge, Cylindrical, Planar, Distance, ConeTwist}
+use Rattle.rows.specs.declared.geometry.Linear.{Linear}
+use Rattle.rows.specs.declared.geometry.Linear.the-variants.{Point, Line, Plane}
+use Rattle.rows.specs.declared.geometry.Turning.{Turning}
+use Rattle.rows.specs.declared.geometry.Turning.the-variants as Turns
+use Rattle.rows.specs.declared.geometry.Motions.{Motions}
+use Rattle.rows.specs.declared.geometry.Motions.the-variants.{Rod, Frame}
 use Rattle.rows.specs.declared.geometry.Joint.{Joint}
 use Rattle.rows.specs.declared.geometry.EqualityRow.{EqualityRow}
 use Rattle.rows.specs.declared.geometry.Ends.{Ends}
-use Rattle.rows.specs.declared.geometry.Linear.{Linear}
+use Rattle.rows.specs.declared.geometry.Axes.{Axes}
 use Rattle.rows.specs.declared.geometry.Cone.{Cone}
 use Rattle.rows.specs.declared.geometry.Relative.{Relative}
 use Rattle.rows.specs.declared.geometry.Swing.{Swing}
 use Rattle.rows.specs.Fault.{Fault, nonConvergent, arithmeticOverflow, Result, vectorOr, quatOr, tryFinite, tryLength, tryRotate}
 use Rattle.rows.specs.Body.{anchorOf}
+use Rattle.rows.specs.Motions.{motionsOf}
 
 -- f64::EPSILON
 abbrev pub epsilon : Float
@@ -105,26 +111,30 @@ turning joint angularA angularB value = record {
 abbrev pub rowIf : Bool → Result EqualityRow → Result (List EqualityRow)
 rowIf locked row = cond locked (row >>= λ r. go (r ∷ [])) (go [])
 
--- linear, by kind
-abbrev pub linearAxes : Kind → Linear
-linearAxes Ball = record { x = true; y = true; z = true }
-linearAxes Hinge = record { x = true; y = true; z = true }
-linearAxes Cylindrical = record { x = true; y = true; z = false }
-linearAxes Planar = record { x = false; y = false; z = true }
-linearAxes (Distance length) = record { x = true; y = true; z = true }
-linearAxes (ConeTwist swingX swingY lower upper) = record { x = true; y = true; z = true }
+-- linear: the axes of frame a along which the anchors' difference is held
+abbrev pub axesOf : Linear → Axes
+axesOf Point = record { x = true; y = true; z = true }
+axesOf Line = record { x = true; y = true; z = false }
+axesOf Plane = record { x = false; y = false; z = true }
 
 -- the loop over linear
-unfoldable pub linearRows : Joint → Ends → Result (List EqualityRow)
-linearRows joint e = do
-  x ← rowIf (linearAxes (joint .kind) .x) (linearRow joint e axisX)
-  y ← rowIf (linearAxes (joint .kind) .y) (linearRow joint e axisY)
-  z ← rowIf (linearAxes (joint .kind) .z) (linearRow joint e axisZ)
+unfoldable pub linearRows : Linear → Joint → Ends → Result (List EqualityRow)
+linearRows linear joint e = do
+  x ← rowIf (axesOf linear .x) (linearRow joint e axisX)
+  y ← rowIf (axesOf linear .y) (linearRow joint e axisY)
+  z ← rowIf (axesOf linear .z) (linearRow joint e axisZ)
   go ((x ++ y) ++ z)
+
+-- limit == 0.0, and cone.twist_limit.lower == cone.twist_limit.upper
+abbrev pub swingLocked : Float → Bool
+swingLocked limit = Ieee.eq limit (ratio 0 1)
+
+abbrev pub twistLocked : Cone → Bool
+twistLocked cone = Ieee.eq (cone .«twist_lower») (cone .«twist_upper»)
 
 -- if let Some(cone): the relative rotation, norm_squared and norm
 abbrev pub anyLocked : Cone → Bool
-anyLocked cone = Ieee.eq (cone .«swing_x») (ratio 0 1) || Ieee.eq (cone .«swing_y») (ratio 0 1) || Ieee.eq (cone .«twist_lower») (cone .«twist_upper»)
+anyLocked cone = swingLocked (cone .«swing_x») || swingLocked (cone .«swing_y») || twistLocked cone
 
 abbrev pub halfTurned : Cone → Float → Bool
 halfTurned cone normSquared = Ieee.le normSquared (ratio 64 1 ⊗ epsilon ⊗ (ratio 64 1 ⊗ epsilon)) && anyLocked cone
@@ -164,7 +174,7 @@ swingRow joint frameA r swing =
     let scalar = ratio 2 1 ⊗ swing .scalar ⊘ r .norm ⊖ ratio 2 1 ⊗ swing .numerator ⊗ q .w ⊘ cubed in
     gradientRow joint frameA q gradient scalar value
 
--- atan2, whose refusal is document 01's 11
+-- atan2, whose refusal is 11
 abbrev pub angleOr : Fault → Angle → Result Float
 angleOr fault (Angles.Value angle) = go angle
 angleOr fault Angles.Refused = stop fault
@@ -183,9 +193,9 @@ twistRow joint frameA r lower =
 unfoldable pub coneRows : Joint → Ends → Cone → Result (List EqualityRow)
 coneRows joint e cone = do
   r ← relativeOf cone (e .«frame_a») (e .«frame_b»)
-  x ← rowIf (Ieee.eq (cone .«swing_x») (ratio 0 1)) (swingRow joint (e .«frame_a») r (swingX (r .rotation)))
-  y ← rowIf (Ieee.eq (cone .«swing_y») (ratio 0 1)) (swingRow joint (e .«frame_a») r (swingY (r .rotation)))
-  twist ← rowIf (Ieee.eq (cone .«twist_lower») (cone .«twist_upper»)) (twistRow joint (e .«frame_a») r (cone .«twist_lower»))
+  x ← rowIf (swingLocked (cone .«swing_x»)) (swingRow joint (e .«frame_a») r (swingX (r .rotation)))
+  y ← rowIf (swingLocked (cone .«swing_y»)) (swingRow joint (e .«frame_a») r (swingY (r .rotation)))
+  twist ← rowIf (twistLocked cone) (twistRow joint (e .«frame_a») r (cone .«twist_lower»))
   go ((x ++ y) ++ twist)
 
 -- else if align: b's Z axis, which must not lead away from a's
@@ -209,50 +219,52 @@ alignRows joint e = do
   y ← alignRow joint (e .«frame_a») axisY z
   go (x ∷ y ∷ [])
 
-abbrev pub angularRows : Kind → Joint → Ends → Result (List EqualityRow)
-angularRows Ball joint e = go []
-angularRows Hinge joint e = alignRows joint e
-angularRows Cylindrical joint e = alignRows joint e
-angularRows Planar joint e = alignRows joint e
-angularRows (Distance length) joint e = go []
-angularRows (ConeTwist swingX swingY lower upper) joint e =
-    coneRows joint e (record { «swing_x» = swingX; «swing_y» = swingY; «twist_lower» = lower; «twist_upper» = upper })
+abbrev pub turningRows : Turning → Joint → Ends → Result (List EqualityRow)
+turningRows Turns.Free joint e = go []
+turningRows Turns.Align joint e = alignRows joint e
+turningRows (Turns.Cone cone) joint e = coneRows joint e cone
 
 -- out[..count].iter().all(|row| row.value.is_finite())
 unfoldable pub finiteValues : List EqualityRow → Bool
 finiteValues [] = true
 finiteValues (row ∷ rows) = isFinite (row .value) && finiteValues rows
 
-unfoldable pub frameRows : Joint → Ends → Result (List EqualityRow)
-frameRows joint e = do
-  linear ← linearRows joint e
-  angular ← angularRows (joint .kind) joint e
-  _ ← returnIf (not (finiteValues (linear ++ angular))) arithmeticOverflow
-  go (linear ++ angular)
+unfoldable pub frameRows : Linear → Turning → Joint → Ends → Result (List EqualityRow)
+frameRows linear turning joint e = do
+  along ← linearRows linear joint e
+  angular ← turningRows turning joint e
+  _ ← returnIf (not (finiteValues (along ++ angular))) arithmeticOverflow
+  go (along ++ angular)
 
-abbrev pub kindRows : Kind → Joint → Ends → Result (List EqualityRow)
-kindRows Ball joint e = frameRows joint e
-kindRows Hinge joint e = frameRows joint e
-kindRows Cylindrical joint e = frameRows joint e
-kindRows Planar joint e = frameRows joint e
-kindRows (Distance length) joint e = distanceRow joint e length >>= λ row. go (row ∷ [])
-kindRows (ConeTwist swingX swingY lower upper) joint e = frameRows joint e
+-- match joint.joint
+abbrev pub motionRows : Motions → Joint → Ends → Result (List EqualityRow)
+motionRows (Rod length) joint e = distanceRow joint e length >>= λ row. go (row ∷ [])
+motionRows (Frame linear turning) joint e = frameRows linear turning joint e
 
 -- fn write_equality_rows: the rows that it leaves in out, as many as it counts
 unfoldable pub writeEqualityRows : Joint → MomentumBody → MomentumBody → Result (List EqualityRow)
 writeEqualityRows joint a b = do
   e ← endsOf joint a b
-  kindRows (joint .kind) joint e
+  motionRows (motionsOf (joint .kind)) joint e
 
 -- how many these are
 unfoldable pub oneIf : Bool → ℕ
 oneIf true = 1
 oneIf false = 0
 
+abbrev pub linearCount : Linear → ℕ
+linearCount Point = 3
+linearCount Line = 2
+linearCount Plane = 1
+
+abbrev pub turningCount : Turning → ℕ
+turningCount Turns.Free = 0
+turningCount Turns.Align = 2
+turningCount (Turns.Cone cone) = oneIf (swingLocked (cone .«swing_x»)) + oneIf (swingLocked (cone .«swing_y»)) + oneIf (twistLocked cone)
+
+abbrev pub motionCount : Motions → ℕ
+motionCount (Rod length) = 1
+motionCount (Frame linear turning) = linearCount linear + turningCount turning
+
 abbrev pub rowCount : Kind → ℕ
-rowCount Ball = 3
-rowCount Hinge = 5
-rowCount Cylindrical = 4
-rowCount Planar = 3
-rowCount (Distance length) = 1
-rowCount (ConeTwist swingX swingY lower upper) = 3 + oneIf (Ieee.eq swingX (ratio 0 1)) + oneIf (Ieee.eq swingY (ratio 0 1)) + oneIf (Ieee.eq lower upper)
+rowCount kind = motionCount (motionsOf kind)

@@ -1,6 +1,9 @@
--- Definitions that a reader must believe: Fault, Body and Geometry, after mod.rs, body.rs and geometry.rs. View says where a slice holds a row, Answer how the code's answers are read. The others are laws.
+-- Definitions that a reader must believe: Fault, Body, Motions and Geometry, after mod.rs, body.rs and geometry.rs; ExactGeometry is
+-- demand 3. View says where a slice holds a row, Answer how the code's answers are read. The others are laws.
 pub mod Fault
 pub mod Body
+pub mod Unit
+pub mod Motions
 pub mod Geometry
 pub mod View
 pub mod Answer

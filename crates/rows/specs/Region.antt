@@ -1,21 +1,24 @@
 -- Laws of places, for this crate and those above: lists by index, and the views that a write keeps.
-use Prim.Native.Nat.{ℕ, zero, suc, _+_, _*_, _-_, _≤_, _<_, min}
+use Prim.Native.Nat.{ℕ, zero, suc, _+_, _*_, _≤_, _<_}
 use mathlib.Core.Path.{_≡_, refl, sym, _∙_, ap}
 use mathlib.Core.Bool.{Bool, true, false}
 use mathlib.Core.List.{List, [], _∷_, _++_}
 use native.Mathlib.Numerals.{add-one}
 use native.Mathlib.Omega.{arith}
 use native.Mathlib.Decide.{ℕ-discrete}
-use lib.Ieee as Ieee
 use lib.Ieee.{Float, nan}
 use lib.ListN.{length, getD, set, length-set, length-append, List·getD-append}
 use lib.Seq.{ext-getD, getD-set-same, getD-set-other, getD-at}
-use Rattle.arith.specs.Real.{ratio}
 use Rattle.arith.specs.Flow.{tab}
-use Rattle.vectors.specs.declared.vector.Vec3.{Vec3}
 use Rattle.rows.specs.declared.geometry.Kind.{Kind}
-use Rattle.rows.specs.declared.geometry.Kind.the-variants.{Ball, Hinge, Cylindrical, Planar, Distance, ConeTwist}
-use Rattle.rows.specs.Geometry.{oneIf, rowCount}
+use Rattle.rows.specs.declared.geometry.Linear.{Linear}
+use Rattle.rows.specs.declared.geometry.Linear.the-variants.{Point, Line, Plane}
+use Rattle.rows.specs.declared.geometry.Turning.{Turning}
+use Rattle.rows.specs.declared.geometry.Turning.the-variants as Turns
+use Rattle.rows.specs.declared.geometry.Motions.{Motions}
+use Rattle.rows.specs.declared.geometry.Motions.the-variants.{Rod, Frame}
+use Rattle.rows.specs.Motions.{motionsOf}
+use Rattle.rows.specs.Geometry.{swingLocked, twistLocked, oneIf, linearCount, turningCount, motionCount, rowCount}
 use Rattle.rows.specs.View.{at, vec3At, rowAt, rowsAt, Out, Kept}
 
 module _ {A : Type 0} where
@@ -101,16 +104,25 @@ module _ {P : ℕ → Type 0} {s t : List Float} (kept : Kept P s t) where
   pub kept-rows : (i a b n : ℕ) → Over P i (14 * n) → rowsAt t i a b n ≡ rowsAt s i a b n
   kept-rows i a b n w = tab-ext n λ k h. kept-row (i + 14 * k) a b (λ m p q. w m (omega arith) (omega arith))
 
--- No joint has more than six rows.
-one-most : (b : Bool) → oneIf b ≤ 1
+-- ---- no joint has more than six rows
+pub one-most : (b : Bool) → oneIf b ≤ 1
 unfolding oneIf
 one-most true = omega arith
 one-most false = omega arith
 
+pub linear-most : (linear : Linear) → linearCount linear ≤ 3
+linear-most Point = omega arith
+linear-most Line = omega arith
+linear-most Plane = omega arith
+
+pub turning-most : (turning : Turning) → turningCount turning ≤ 3
+turning-most Turns.Free = omega arith
+turning-most Turns.Align = omega arith
+turning-most (Turns.Cone cone) = omega (arith, one-most (swingLocked (cone .«swing_x»)), one-most (swingLocked (cone .«swing_y»)), one-most (twistLocked cone))
+
+motion-most : (motions : Motions) → motionCount motions ≤ 6
+motion-most (Rod length) = omega arith
+motion-most (Frame linear turning) = omega (arith, linear-most linear, turning-most turning)
+
 pub count-most : (kind : Kind) → rowCount kind ≤ 6
-count-most Ball = omega arith
-count-most Hinge = omega arith
-count-most Cylindrical = omega arith
-count-most Planar = omega arith
-count-most (Distance length) = omega arith
-count-most (ConeTwist x y lower upper) = omega (arith, one-most (Ieee.eq x (ratio 0 1)), one-most (Ieee.eq y (ratio 0 1)), one-most (Ieee.eq lower upper))
+count-most kind = motion-most (motionsOf kind)

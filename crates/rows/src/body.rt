@@ -9,7 +9,9 @@ ghost use mathlib.Core.Path.{_≡_};
 ghost use mathlib.Core.Bool.{_&&_};
 ghost use Rattle.arith.specs.Flow.{stop, loop};
 ghost use Rattle.rows.specs.Fault.{arithmeticOverflow, vectorOr, tryFinite};
-ghost use Rattle.rows.specs.Body.{worldCenterOfMassOf, newOf, standing, inverseAngularMassOf, omegaOf, kickOf, anchorOf, placedAt, passOf, integrate, driftOf, originOf, stateOf, sameVec3, sameQuat};
+ghost use Rattle.rows.specs.Body.{newOf, standing, inverseAngularMassOf, omegaOf, kickOf, anchorOf, placedAt, passOf, driftOf};
+ghost use Rattle.rows.specs.Body.{originOf, stateOf, sameVec3, sameQuat};
+ghost use Rattle.rows.specs.Unit.{UnitOf, inFrame, integrateAsUnit, worldCenterAsUnit};
 ghost use Rattle.rows.specs.Answer.{answerOf, BodyAnswered, passAs, StateAnswered};
 
 const MAX_ITERATIONS: usize = 32;
@@ -78,11 +80,24 @@ pub(crate) fn finite(value: Vec3) -> OptionVec3
     OptionVec3::None
 }
 
-// Origin plus rotated local centre.
-fn world_center_of_mass(origin: Vec3, rotation: Quat, center_of_mass: Vec3) -> OptionVec3
-    ensures { λ r. ⌜ vectorOr arithmeticOverflow r ≡ worldCenterOfMassOf origin rotation «center_of_mass» ⌝ }
+// A vector of the world, turned into a body's frame, a matrix of that frame applied, and turned back.
+//
+// In the Rust each turn normalizes the rotation for itself. Here that is done once for a body and handed on as `unit`, with
+// the same bits.
+fn in_frame(unit: Quat, matrix: Mat3, vector: Vec3) -> OptionVec3
+    ensures { λ r. ⌜ vectorOr arithmeticOverflow r ≡ inFrame unit matrix vector ⌝ }
 {
-    match rotation.rotate_vector(center_of_mass) {
+    match unit.conjugate().rotate_as_unit(vector) {
+        OptionVec3::Some(local) => unit.rotate_as_unit(matrix.apply(local)),
+        OptionVec3::None => OptionVec3::None,
+    }
+}
+
+// Origin plus rotated local centre.
+fn world_center_of_mass(origin: Vec3, unit: Quat, center_of_mass: Vec3) -> OptionVec3
+    ensures { λ r. ⌜ vectorOr arithmeticOverflow r ≡ worldCenterAsUnit origin unit «center_of_mass» ⌝ }
+{
+    match unit.rotate_as_unit(center_of_mass) {
         OptionVec3::Some(turned) => finite(turned.add(origin)),
         OptionVec3::None => OptionVec3::None,
     }
@@ -114,22 +129,17 @@ impl MomentumBody {
         ensures { λ r. ⌜ BodyAnswered (standing body «inverse_inertia») (newOf body «inverse_inertia») r ⌝ }
     {
         let rotation = body.rotation;
-        let inertia = body.inertia;
-        let OptionVec3::Some(local) = rotation.conjugate().rotate_vector(body.angular_velocity)
-        else {
+        let OptionQuat::Some(unit) = rotation.try_normalize() else {
             return standing(body, inverse_inertia).overflow();
         };
-        let OptionVec3::Some(spin) = rotation.rotate_vector(inertia.apply(local)) else {
+        let OptionVec3::Some(spin) = in_frame(unit, body.inertia, body.angular_velocity) else {
             return standing(body, inverse_inertia).overflow();
         };
         let OptionVec3::Some(momentum) = finite(body.linear_velocity.scale(body.mass)) else {
             return standing(body, inverse_inertia).overflow();
         };
-        let OptionVec3::Some(center) = world_center_of_mass(
-            body.origin,
-            rotation,
-            body.center_of_mass,
-        ) else {
+        let OptionVec3::Some(center) = world_center_of_mass(body.origin, unit, body.center_of_mass)
+        else {
             return standing(body, inverse_inertia).overflow();
         };
         let center_of_mass = body.center_of_mass;
@@ -150,10 +160,9 @@ impl MomentumBody {
     fn inverse_angular_mass(self, spin: Vec3) -> OptionVec3
         ensures { λ r. ⌜ vectorOr arithmeticOverflow r ≡ inverseAngularMassOf self spin ⌝ }
     {
-        let inverse = self.inverse_inertia;
-        match self.rotation.conjugate().rotate_vector(spin) {
-            OptionVec3::Some(local) => self.rotation.rotate_vector(inverse.apply(local)),
-            OptionVec3::None => OptionVec3::None,
+        match self.rotation.try_normalize() {
+            OptionQuat::Some(unit) => in_frame(unit, self.inverse_inertia, spin),
+            OptionQuat::None => OptionVec3::None,
         }
     }
 
@@ -208,12 +217,11 @@ impl MomentumBody {
     }
 
     // One pass of the search for the half-step angular velocity, from the rotation at entry.
-    fn pass(self, omega: Vec3, dt: f64) -> Pass
+    fn pass(self, unit: Quat, omega: Vec3, dt: f64) -> Pass
+        requires { ⌜ UnitOf (self .rotation) unit ⌝ }
         ensures { λ r. ⌜ passAs r ≡ passOf self dt omega ⌝ }
     {
-        let OptionQuat::Some(half) = self.rotation
-            .integrate_world_angular_velocity(omega, dt * 0.5)
-        else {
+        let OptionQuat::Some(half) = unit.integrate_as_unit(omega, dt * 0.5) else {
             return Pass::ArithmeticOverflow;
         };
         let midway = self.turned(half);
@@ -227,27 +235,19 @@ impl MomentumBody {
             return Pass::ArithmeticOverflow;
         };
         if residual <= 1.0e-14 * (1.0 + size) {
-            return self.settled(next, dt);
+            return settled(unit, next, dt);
         }
         Pass::Next(next)
     }
 
-    fn settled(self, omega: Vec3, dt: f64) -> Pass
-        ensures { λ r. ⌜ passAs r ≡ stop (integrate (self .rotation) omega dt) ⌝ }
-    {
-        match self.rotation.integrate_world_angular_velocity(omega, dt) {
-            OptionQuat::Some(rotation) => Pass::Settled(rotation),
-            OptionQuat::None => Pass::ArithmeticOverflow,
-        }
-    }
-
     // Implicit rotational midpoint with constant world spin momentum: at most 32 passes.
-    fn passes(self, start: Vec3, dt: f64) -> Pass
+    fn passes(self, unit: Quat, start: Vec3, dt: f64) -> Pass
+        requires { ⌜ UnitOf (self .rotation) unit ⌝ }
         ensures { λ r. ⌜ passAs r ≡ loop 32 (λ k. passOf self dt) start ⌝ }
     {
         let mut omega = start;
         for k in 0..MAX_ITERATIONS {
-            match self.pass(omega, dt) {
+            match self.pass(unit, omega, dt) {
                 Pass::Next(next) => {
                     omega = next;
                 }
@@ -269,10 +269,13 @@ impl MomentumBody {
         else {
             return self.overflow();
         };
-        let OptionVec3::Some(omega) = self.omega() else {
+        let OptionQuat::Some(unit) = self.rotation.try_normalize() else {
             return self.overflow();
         };
-        match self.passes(omega, dt) {
+        let OptionVec3::Some(omega) = in_frame(unit, self.inverse_inertia, self.spin) else {
+            return self.overflow();
+        };
+        match self.passes(unit, omega, dt) {
             Pass::Settled(rotation) => {
                 let mut body = self.turned(rotation);
                 body.center = center;
@@ -290,10 +293,11 @@ impl MomentumBody {
     }
 
     // The origin of the body, where `Transform::new` and `set_transform` take it.
-    fn origin(self) -> OptionVec3
+    fn origin(self, unit: Quat) -> OptionVec3
+        requires { ⌜ UnitOf (self .rotation) unit ⌝ }
         ensures { λ r. ⌜ vectorOr arithmeticOverflow r ≡ originOf self ⌝ }
     {
-        let OptionVec3::Some(turned) = self.rotation.rotate_vector(self.center_of_mass) else {
+        let OptionVec3::Some(turned) = unit.rotate_as_unit(self.center_of_mass) else {
             return OptionVec3::None;
         };
         let OptionVec3::Some(origin) = finite(self.center.sub(turned)) else {
@@ -302,7 +306,7 @@ impl MomentumBody {
         if !self.rotation.is_normalized() {
             return OptionVec3::None;
         }
-        match world_center_of_mass(origin, self.rotation, self.center_of_mass) {
+        match finite(turned.add(origin)) {
             OptionVec3::Some(_) => OptionVec3::Some(origin),
             OptionVec3::None => OptionVec3::None,
         }
@@ -312,13 +316,16 @@ impl MomentumBody {
     pub fn state(self, old: BodyState) -> StateAnswer
         ensures { λ r. ⌜ StateAnswered (stateOf self old) r ⌝ }
     {
-        let OptionVec3::Some(origin) = self.origin() else {
+        let OptionQuat::Some(unit) = self.rotation.try_normalize() else {
+            return StateAnswer::ArithmeticOverflow;
+        };
+        let OptionVec3::Some(origin) = self.origin(unit) else {
             return StateAnswer::ArithmeticOverflow;
         };
         let OptionVec3::Some(linear) = finite(self.momentum.div(self.mass)) else {
             return StateAnswer::ArithmeticOverflow;
         };
-        let OptionVec3::Some(angular) = self.omega() else {
+        let OptionVec3::Some(angular) = in_frame(unit, self.inverse_inertia, self.spin) else {
             return StateAnswer::ArithmeticOverflow;
         };
         let rotation = self.rotation;
@@ -338,6 +345,16 @@ impl MomentumBody {
             linear_velocity: linear,
             angular_velocity: angular,
         })
+    }
+}
+
+// The end of the search: the rotation after the whole step.
+fn settled(unit: Quat, omega: Vec3, dt: f64) -> Pass
+    ensures { λ r. ⌜ passAs r ≡ stop (integrateAsUnit unit omega dt) ⌝ }
+{
+    match unit.integrate_as_unit(omega, dt) {
+        OptionQuat::Some(rotation) => Pass::Settled(rotation),
+        OptionQuat::None => Pass::ArithmeticOverflow,
     }
 }
 

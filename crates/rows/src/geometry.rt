@@ -17,18 +17,20 @@ use vectors::vector::OptionVec3;
 use vectors::vector::Vec3;
 ghost use mathlib.Core.Path.{_≡_};
 ghost use mathlib.Core.Bool.{true};
-ghost use mathlib.Core.List.{List};
 ghost use Prim.Native.Nat.{ℕ, _+_, _*_, _≤_};
 ghost use lib.ListN.{length};
 ghost use lib.Ieee as Ieee;
-ghost use lib.Ieee.{Float};
-ghost use Rattle.arith.specs.Real.{ratio};
 ghost use Rattle.arith.specs.Flow.{go};
-ghost use Rattle.rows.specs.Fault.{Result, arithmeticOverflow, numberOr};
-ghost use Rattle.rows.specs.Geometry.{turning, endsOf, toleranceOf, distanceRow, linearRow, rowIf, linearAxes, linearRows, anyLocked, halfTurned, relativeOf, swingX, swingY, localOf, gradientRow, swingRow, twistRow, coneRows, alignedOf, alignRow, alignRows, angularRows, finiteValues, frameRows, writeEqualityRows, rowCount, oneIf};
+ghost use Rattle.rows.specs.Fault.{arithmeticOverflow, numberOr};
+ghost use Rattle.rows.specs.Motions.{motionsOf};
+ghost use Rattle.rows.specs.Geometry.{turning, endsOf, toleranceOf, distanceRow, linearRow, rowIf, axesOf, linearRows};
+ghost use Rattle.rows.specs.Geometry.{anyLocked, halfTurned, relativeOf, swingX, swingY, localOf, gradientRow, swingLocked, swingRow};
+ghost use Rattle.rows.specs.Geometry.{twistLocked, twistRow, coneRows, alignedOf, alignRow, alignRows, turningRows, finiteValues};
+ghost use Rattle.rows.specs.Geometry.{frameRows, writeEqualityRows, oneIf, linearCount, turningCount, rowCount};
 ghost use Rattle.rows.specs.View.{vec3At, rowAt, rowsAt, Out, Kept};
 ghost use Rattle.rows.specs.Answer.{Writes};
-ghost use Rattle.rows.specs.Append.{endsAs, axisAs, relativeAs, rowAs, Stored2, countOf, Appends, Adds, Cleared, followedBy};
+ghost use Rattle.rows.specs.Unit.{UnitOf};
+ghost use Rattle.rows.specs.Append.{endsAs, axisAs, relativeAs, rowAs, Stored2, countOf, Room, Appends, Adds, Follows, Cleared};
 
 // The doubles of a row.
 pub const ROW: usize = 14;
@@ -56,6 +58,34 @@ pub enum Kind {
         twist_lower: f64,
         twist_upper: f64,
     },
+}
+
+// Where b's anchor is held: at a's, on the line through it along frame a's Z, or on the plane through it across that.
+pub enum Linear {
+    Point,
+    Line,
+    Plane,
+}
+
+// The numbers of a cone twist.
+pub struct Cone {
+    pub swing_x: f64,
+    pub swing_y: f64,
+    pub twist_lower: f64,
+    pub twist_upper: f64,
+}
+
+// How frame b turns against frame a: freely, with its Z along a's, or within a cone and a twist.
+pub enum Turning {
+    Free,
+    Align,
+    Cone(Cone),
+}
+
+// What a kind holds: a rod between the anchors, or b's anchor and what turns.
+pub enum Motions {
+    Rod(f64),
+    Frame(Linear, Turning),
 }
 
 pub struct Joint {
@@ -108,19 +138,11 @@ enum EndsAnswer {
     ArithmeticOverflow,
 }
 
-// Which axes of frame a a kind locks the anchors' difference along.
-struct Linear {
+// The axes of frame a along which the anchors' difference is held.
+struct Axes {
     pub x: bool,
     pub y: bool,
     pub z: bool,
-}
-
-// The numbers of a cone twist.
-struct Cone {
-    pub swing_x: f64,
-    pub swing_y: f64,
-    pub twist_lower: f64,
-    pub twist_upper: f64,
 }
 
 // The rotation of frame b seen from frame a, with the square and the root of w * w + z * z.
@@ -287,11 +309,11 @@ fn distance_row(joint: Joint, e: Ends, length: f64) -> RowAnswer
 }
 
 // The anchors' difference along an axis of frame a.
-fn linear_row(joint: Joint, e: Ends, local_axis: Vec3, tolerance: f64) -> RowAnswer
-    requires { ⌜ go tolerance ≡ toleranceOf (e .pa) (e .pb) ⌝ }
+fn linear_row(joint: Joint, e: Ends, unit: Quat, local_axis: Vec3, tolerance: f64) -> RowAnswer
+    requires { ⌜ (UnitOf (e .«frame_a») unit) × (go tolerance ≡ toleranceOf (e .pa) (e .pb)) ⌝ }
     ensures { λ r. ⌜ rowAs r ≡ rowIf true (linearRow joint e «local_axis») ⌝ }
 {
-    let OptionVec3::Some(axis) = e.frame_a.rotate_vector(local_axis) else {
+    let OptionVec3::Some(axis) = unit.rotate_as_unit(local_axis) else {
         return RowAnswer::ArithmeticOverflow;
     };
     let OptionVec3::Some(angular_a) = finite(axis.cross(e.delta).sub(e.arm_a.cross(axis))) else {
@@ -312,24 +334,31 @@ fn linear_row(joint: Joint, e: Ends, local_axis: Vec3, tolerance: f64) -> RowAns
     })
 }
 
-fn linear_row_if(locked: bool, joint: Joint, e: Ends, local_axis: Vec3, tolerance: f64) -> RowAnswer
-    requires { ⌜ go tolerance ≡ toleranceOf (e .pa) (e .pb) ⌝ }
+fn linear_row_if(
+    locked: bool,
+    joint: Joint,
+    e: Ends,
+    unit: Quat,
+    local_axis: Vec3,
+    tolerance: f64,
+) -> RowAnswer
+    requires { ⌜ (UnitOf (e .«frame_a») unit) × (go tolerance ≡ toleranceOf (e .pa) (e .pb)) ⌝ }
     ensures { λ r. ⌜ rowAs r ≡ rowIf locked (linearRow joint e «local_axis») ⌝ }
 {
     if locked {
-        return linear_row(joint, e, local_axis, tolerance);
+        return linear_row(joint, e, unit, local_axis, tolerance);
     }
     RowAnswer::Free
 }
 
 // The Z axis of frame b. The aligning kinds refuse where the Z axes lead apart.
-fn aligned(frame_a: Quat, frame_b: Quat) -> AxisAnswer
-    ensures { λ r. ⌜ axisAs r ≡ alignedOf «frame_a» «frame_b» ⌝ }
+fn aligned(unit: Quat, frame_b: Quat) -> AxisAnswer
+    ensures { λ r. ⌜ ((q : Quat) → UnitOf q unit → axisAs r ≡ alignedOf q «frame_b») ⌝ }
 {
     let OptionVec3::Some(z) = frame_b.rotate_vector(Vec3::Z) else {
         return AxisAnswer::ArithmeticOverflow;
     };
-    let OptionVec3::Some(za) = frame_a.rotate_vector(Vec3::Z) else {
+    let OptionVec3::Some(za) = unit.rotate_as_unit(Vec3::Z) else {
         return AxisAnswer::ArithmeticOverflow;
     };
     if za.dot(z) <= 1.0e-10 {
@@ -339,10 +368,10 @@ fn aligned(frame_a: Quat, frame_b: Quat) -> AxisAnswer
 }
 
 // The Z axis of frame b across an axis of frame a.
-fn align_row(joint: Joint, frame_a: Quat, local_axis: Vec3, z: Vec3) -> RowAnswer
-    ensures { λ r. ⌜ rowAs r ≡ rowIf true (alignRow joint «frame_a» «local_axis» z) ⌝ }
+fn align_row(joint: Joint, unit: Quat, local_axis: Vec3, z: Vec3) -> RowAnswer
+    ensures { λ r. ⌜ ((q : Quat) → UnitOf q unit → rowAs r ≡ rowIf true (alignRow joint q «local_axis» z)) ⌝ }
 {
-    let OptionVec3::Some(axis) = frame_a.rotate_vector(local_axis) else {
+    let OptionVec3::Some(axis) = unit.rotate_as_unit(local_axis) else {
         return RowAnswer::ArithmeticOverflow;
     };
     let OptionVec3::Some(gradient) = finite(axis.cross(z)) else {
@@ -387,15 +416,15 @@ fn local_gradient(q: Quat, gradient: Vec3, scalar: f64) -> Vec3
 // A row along a gradient in the relative rotation.
 fn gradient_row(
     joint: Joint,
-    frame_a: Quat,
-    q: Quat,
+    unit: Quat,
+    relative: Quat,
     gradient: Vec3,
     scalar: f64,
     value: f64,
 ) -> RowAnswer
-    ensures { λ r. ⌜ rowAs r ≡ rowIf true (gradientRow joint «frame_a» q gradient scalar value) ⌝ }
+    ensures { λ r. ⌜ ((q : Quat) → UnitOf q unit → rowAs r ≡ rowIf true (gradientRow joint q relative gradient scalar value)) ⌝ }
 {
-    match frame_a.rotate_vector(local_gradient(q, gradient, scalar)) {
+    match unit.rotate_as_unit(local_gradient(relative, gradient, scalar)) {
         OptionVec3::Some(angular) => {
             RowAnswer::Value(EqualityRow::turning(joint, angular.neg(), angular, value))
         }
@@ -403,8 +432,8 @@ fn gradient_row(
     }
 }
 
-fn swing_row(joint: Joint, frame_a: Quat, r: Relative, swing: Swing) -> RowAnswer
-    ensures { λ out. ⌜ rowAs out ≡ rowIf true (swingRow joint «frame_a» r swing) ⌝ }
+fn swing_row(joint: Joint, unit: Quat, r: Relative, swing: Swing) -> RowAnswer
+    ensures { λ out. ⌜ ((q : Quat) → UnitOf q unit → rowAs out ≡ rowIf true (swingRow joint q r swing)) ⌝ }
 {
     let q = r.rotation;
     let value = 2.0 * swing.numerator / r.norm;
@@ -414,20 +443,20 @@ fn swing_row(joint: Joint, frame_a: Quat, r: Relative, swing: Swing) -> RowAnswe
         .scale(2.0 / r.norm)
         .sub(Vec3::Z.scale(2.0 * swing.numerator * q.z / cubed));
     let scalar = 2.0 * swing.scalar / r.norm - 2.0 * swing.numerator * q.w / cubed;
-    gradient_row(joint, frame_a, q, gradient, scalar, value)
+    gradient_row(joint, unit, q, gradient, scalar, value)
 }
 
-fn swing_row_if(limit: f64, joint: Joint, frame_a: Quat, r: Relative, swing: Swing) -> RowAnswer
-    ensures { λ out. ⌜ rowAs out ≡ rowIf (Ieee.eq limit (ratio 0 1)) (swingRow joint «frame_a» r swing) ⌝ }
+fn swing_row_if(limit: f64, joint: Joint, unit: Quat, r: Relative, swing: Swing) -> RowAnswer
+    ensures { λ out. ⌜ ((q : Quat) → UnitOf q unit → rowAs out ≡ rowIf (swingLocked limit) (swingRow joint q r swing)) ⌝ }
 {
     if limit == 0.0 {
-        return swing_row(joint, frame_a, r, swing);
+        return swing_row(joint, unit, r, swing);
     }
     RowAnswer::Free
 }
 
-fn twist_row(joint: Joint, frame_a: Quat, r: Relative, lower: f64) -> RowAnswer
-    ensures { λ out. ⌜ rowAs out ≡ rowIf true (twistRow joint «frame_a» r lower) ⌝ }
+fn twist_row(joint: Joint, unit: Quat, r: Relative, lower: f64) -> RowAnswer
+    ensures { λ out. ⌜ ((q : Quat) → UnitOf q unit → rowAs out ≡ rowIf true (twistRow joint q r lower)) ⌝ }
 {
     let q = r.rotation;
     let Angle::Value(half) = atan2(q.z, q.w) else {
@@ -439,14 +468,14 @@ fn twist_row(joint: Joint, frame_a: Quat, r: Relative, lower: f64) -> RowAnswer
     }
     let gradient = Vec3::Z.scale(2.0 * q.w / r.norm_squared);
     let scalar = -2.0 * q.z / r.norm_squared;
-    gradient_row(joint, frame_a, q, gradient, scalar, value)
+    gradient_row(joint, unit, q, gradient, scalar, value)
 }
 
-fn twist_row_if(joint: Joint, frame_a: Quat, r: Relative, cone: Cone) -> RowAnswer
-    ensures { λ out. ⌜ rowAs out ≡ rowIf (Ieee.eq (cone .«twist_lower») (cone .«twist_upper»)) (twistRow joint «frame_a» r (cone .«twist_lower»)) ⌝ }
+fn twist_row_if(joint: Joint, unit: Quat, r: Relative, cone: Cone) -> RowAnswer
+    ensures { λ out. ⌜ ((q : Quat) → UnitOf q unit → rowAs out ≡ rowIf (twistLocked cone) (twistRow joint q r (cone .«twist_lower»))) ⌝ }
 {
     if cone.twist_lower == cone.twist_upper {
-        return twist_row(joint, frame_a, r, cone.twist_lower);
+        return twist_row(joint, unit, r, cone.twist_lower);
     }
     RowAnswer::Free
 }
@@ -490,34 +519,52 @@ fn relative_of(cone: Cone, frame_a: Quat, frame_b: Quat) -> RelativeAnswer
     })
 }
 
-fn linear_axes(kind: Kind) -> Linear
-    ensures { λ r. ⌜ r ≡ linearAxes kind ⌝ }
+// The one match on a kind. All else about it follows from what it holds.
+pub fn motions_of(kind: Kind) -> Motions
+    ensures { λ r. ⌜ r ≡ motionsOf kind ⌝ }
 {
-    let all = Linear {
-        x: true,
-        y: true,
-        z: true,
-    };
     match kind {
-        Kind::Ball => all,
-        Kind::Hinge => all,
-        Kind::Cylindrical => Linear {
+        Kind::Ball => Motions::Frame(Linear::Point, Turning::Free),
+        Kind::Hinge => Motions::Frame(Linear::Point, Turning::Align),
+        Kind::Cylindrical => Motions::Frame(Linear::Line, Turning::Align),
+        Kind::Planar => Motions::Frame(Linear::Plane, Turning::Align),
+        Kind::Distance(length) => Motions::Rod(length),
+        Kind::ConeTwist {
+            swing_x,
+            swing_y,
+            twist_lower,
+            twist_upper,
+        } => Motions::Frame(
+            Linear::Point,
+            Turning::Cone(Cone {
+                swing_x,
+                swing_y,
+                twist_lower,
+                twist_upper,
+            }),
+        ),
+    }
+}
+
+fn axes_of(linear: Linear) -> Axes
+    ensures { λ r. ⌜ r ≡ axesOf linear ⌝ }
+{
+    match linear {
+        Linear::Point => Axes {
+            x: true,
+            y: true,
+            z: true,
+        },
+        Linear::Line => Axes {
             x: true,
             y: true,
             z: false,
         },
-        Kind::Planar => Linear {
+        Linear::Plane => Axes {
             x: false,
             y: false,
             z: true,
         },
-        Kind::Distance(_) => all,
-        Kind::ConeTwist {
-            swing_x: _,
-            swing_y: _,
-            twist_lower: _,
-            twist_upper: _,
-        } => all,
     }
 }
 
@@ -548,29 +595,43 @@ fn append(s: &mut [f64], at: usize, written: Written, answer: RowAnswer) -> Writ
     }
 }
 
-fn write_linear(s: &mut [f64], at: usize, joint: Joint, e: Ends, tolerance: f64) -> Written
-    requires { ⌜ (at + 84 ≤ length (now s)) × (go tolerance ≡ toleranceOf (e .pa) (e .pb)) ⌝ }
-    ensures { λ r. ⌜ Adds (joint .«body_a») (joint .«body_b») at 3 (now (s .entry)) (now (s .exit)) r (linearRows joint e) ⌝ }
+fn write_linear(
+    s: &mut [f64],
+    at: usize,
+    joint: Joint,
+    e: Ends,
+    linear: Linear,
+    unit: Quat,
+    tolerance: f64,
+) -> Written
+    requires { ⌜ (at + 84 ≤ length (now s)) × (UnitOf (e .«frame_a») unit) × (go tolerance ≡ toleranceOf (e .pa) (e .pb)) ⌝ }
+    ensures { λ r. ⌜ Adds (joint .«body_a») (joint .«body_b») at 3 (now (s .entry)) (now (s .exit)) r (linearRows linear joint e) ⌝ }
 {
-    let kind = joint.kind;
-    let locked = linear_axes(kind);
-    let x = linear_row_if(locked.x, joint, e, Vec3::X, tolerance);
+    let locked = axes_of(linear);
+    let x = linear_row_if(locked.x, joint, e, unit, Vec3::X, tolerance);
     let one = append(s, at, Written::Rows(0), x);
-    let y = linear_row_if(locked.y, joint, e, Vec3::Y, tolerance);
+    let y = linear_row_if(locked.y, joint, e, unit, Vec3::Y, tolerance);
     let two = append(s, at, one, y);
-    let z = linear_row_if(locked.z, joint, e, Vec3::Z, tolerance);
+    let z = linear_row_if(locked.z, joint, e, unit, Vec3::Z, tolerance);
     append(s, at, two, z)
 }
 
-fn write_align(s: &mut [f64], at: usize, written: Written, joint: Joint, e: Ends) -> Written
-    requires { ⌜ (at + 84 ≤ length (now s)) × (countOf written ≤ 3) ⌝ }
-    ensures { λ r. ⌜ ((start : List Float) (d : Result (List EqualityRow)) → Adds (joint .«body_a») (joint .«body_b») at 3 start (now (s .entry)) written d → Adds (joint .«body_a») (joint .«body_b») at 6 start (now (s .exit)) r (followedBy d (alignRows joint e))) ⌝ }
+fn write_align(
+    s: &mut [f64],
+    at: usize,
+    written: Written,
+    joint: Joint,
+    e: Ends,
+    unit: Quat,
+) -> Written
+    requires { ⌜ (Room at 3 (now s) written) × (UnitOf (e .«frame_a») unit) ⌝ }
+    ensures { λ r. ⌜ Follows joint at (now (s .entry)) (now (s .exit)) written r (alignRows joint e) ⌝ }
 {
-    match aligned(e.frame_a, e.frame_b) {
+    match aligned(unit, e.frame_b) {
         AxisAnswer::Value(z) => {
-            let x = align_row(joint, e.frame_a, Vec3::X, z);
+            let x = align_row(joint, unit, Vec3::X, z);
             let one = append(s, at, written, x);
-            let y = align_row(joint, e.frame_a, Vec3::Y, z);
+            let y = align_row(joint, unit, Vec3::Y, z);
             append(s, at, one, y)
         }
         AxisAnswer::NonConvergent => append(s, at, written, RowAnswer::NonConvergent),
@@ -584,18 +645,19 @@ fn write_cone(
     written: Written,
     joint: Joint,
     e: Ends,
+    unit: Quat,
     cone: Cone,
 ) -> Written
-    requires { ⌜ (at + 84 ≤ length (now s)) × (countOf written ≤ 3) ⌝ }
-    ensures { λ r. ⌜ ((start : List Float) (d : Result (List EqualityRow)) → Adds (joint .«body_a») (joint .«body_b») at 3 start (now (s .entry)) written d → Adds (joint .«body_a») (joint .«body_b») at 6 start (now (s .exit)) r (followedBy d (coneRows joint e cone))) ⌝ }
+    requires { ⌜ (Room at 3 (now s) written) × (UnitOf (e .«frame_a») unit) ⌝ }
+    ensures { λ r. ⌜ Follows joint at (now (s .entry)) (now (s .exit)) written r (coneRows joint e cone) ⌝ }
 {
     match relative_of(cone, e.frame_a, e.frame_b) {
         RelativeAnswer::Value(r) => {
-            let x = swing_row_if(cone.swing_x, joint, e.frame_a, r, swing_x(r.rotation));
+            let x = swing_row_if(cone.swing_x, joint, unit, r, swing_x(r.rotation));
             let one = append(s, at, written, x);
-            let y = swing_row_if(cone.swing_y, joint, e.frame_a, r, swing_y(r.rotation));
+            let y = swing_row_if(cone.swing_y, joint, unit, r, swing_y(r.rotation));
             let two = append(s, at, one, y);
-            let twist = twist_row_if(joint, e.frame_a, r, cone);
+            let twist = twist_row_if(joint, unit, r, cone);
             append(s, at, two, twist)
         }
         RelativeAnswer::NonConvergent => append(s, at, written, RowAnswer::NonConvergent),
@@ -603,36 +665,23 @@ fn write_cone(
     }
 }
 
-// The rows on rotations that a kind adds to its linear ones.
-fn write_angular(s: &mut [f64], at: usize, written: Written, joint: Joint, e: Ends) -> Written
-    requires { ⌜ (at + 84 ≤ length (now s)) × (countOf written ≤ 3) ⌝ }
-    ensures { λ r. ⌜ ((start : List Float) (d : Result (List EqualityRow)) → Adds (joint .«body_a») (joint .«body_b») at 3 start (now (s .entry)) written d → Adds (joint .«body_a») (joint .«body_b») at 6 start (now (s .exit)) r (followedBy d (angularRows (joint .kind) joint e))) ⌝ }
+// The rows on rotations behind the linear ones.
+fn write_turning(
+    s: &mut [f64],
+    at: usize,
+    written: Written,
+    joint: Joint,
+    e: Ends,
+    turning: Turning,
+    unit: Quat,
+) -> Written
+    requires { ⌜ (Room at 3 (now s) written) × (UnitOf (e .«frame_a») unit) ⌝ }
+    ensures { λ r. ⌜ Follows joint at (now (s .entry)) (now (s .exit)) written r (turningRows turning joint e) ⌝ }
 {
-    let kind = joint.kind;
-    match kind {
-        Kind::Ball => written,
-        Kind::Distance(_) => written,
-        Kind::ConeTwist {
-            swing_x,
-            swing_y,
-            twist_lower,
-            twist_upper,
-        } => write_cone(
-            s,
-            at,
-            written,
-            joint,
-            e,
-            Cone {
-                swing_x,
-                swing_y,
-                twist_lower,
-                twist_upper,
-            },
-        ),
-        Kind::Hinge => write_align(s, at, written, joint, e),
-        Kind::Cylindrical => write_align(s, at, written, joint, e),
-        Kind::Planar => write_align(s, at, written, joint, e),
+    match turning {
+        Turning::Free => written,
+        Turning::Align => write_align(s, at, written, joint, e, unit),
+        Turning::Cone(cone) => write_cone(s, at, written, joint, e, unit, cone),
     }
 }
 
@@ -648,16 +697,27 @@ fn values_finite(s: &[f64], at: usize, count: usize) -> bool
     true
 }
 
-// All rows but a rod's: the linear ones, then those on rotations.
-fn write_frames(s: &mut [f64], at: usize, joint: Joint, e: Ends) -> Written
+// All rows but a rod's: the linear ones, then those on rotations. What every row wants is taken once: the tolerance, and frame a
+// normalized. A failure of either is the first row's, since there is always a linear row.
+fn write_frames(
+    s: &mut [f64],
+    at: usize,
+    joint: Joint,
+    e: Ends,
+    linear: Linear,
+    turning: Turning,
+) -> Written
     requires { ⌜ at + 84 ≤ length (now s) ⌝ }
-    ensures { λ r. ⌜ Adds (joint .«body_a») (joint .«body_b») at 6 (now (s .entry)) (now (s .exit)) r (frameRows joint e) ⌝ }
+    ensures { λ r. ⌜ Adds (joint .«body_a») (joint .«body_b») at 6 (now (s .entry)) (now (s .exit)) r (frameRows linear turning joint e) ⌝ }
 {
     let OptionF64::Some(tolerance) = tolerance(e.pa, e.pb) else {
         return Written::ArithmeticOverflow;
     };
-    let linear = write_linear(s, at, joint, e, tolerance);
-    let written = write_angular(s, at, linear, joint, e);
+    let OptionQuat::Some(unit) = e.frame_a.try_normalize() else {
+        return Written::ArithmeticOverflow;
+    };
+    let along = write_linear(s, at, joint, e, linear, unit, tolerance);
+    let written = write_turning(s, at, along, joint, e, turning, unit);
     match written {
         Written::Rows(count) => {
             if values_finite(s, at, count) {
@@ -670,7 +730,7 @@ fn write_frames(s: &mut [f64], at: usize, joint: Joint, e: Ends) -> Written
     }
 }
 
-// The rows of a joint by its kind.
+// The rows of a joint by what its kind holds.
 fn write_kind(s: &mut [f64], at: usize, joint: Joint, a: MomentumBody, b: MomentumBody) -> Written
     requires { ⌜ at + 84 ≤ length (now s) ⌝ }
     ensures { λ r. ⌜ Adds (joint .«body_a») (joint .«body_b») at 6 (now (s .entry)) (now (s .exit)) r (writeEqualityRows joint a b) ⌝ }
@@ -679,20 +739,9 @@ fn write_kind(s: &mut [f64], at: usize, joint: Joint, a: MomentumBody, b: Moment
         return Written::ArithmeticOverflow;
     };
     let kind = joint.kind;
-    match kind {
-        Kind::Ball => write_frames(s, at, joint, e),
-        Kind::Hinge => write_frames(s, at, joint, e),
-        Kind::Cylindrical => write_frames(s, at, joint, e),
-        Kind::Planar => write_frames(s, at, joint, e),
-        Kind::Distance(length) => {
-            append(s, at, Written::Rows(0), distance_row(joint, e, length))
-        }
-        Kind::ConeTwist {
-            swing_x: _,
-            swing_y: _,
-            twist_lower: _,
-            twist_upper: _,
-        } => write_frames(s, at, joint, e),
+    match motions_of(kind) {
+        Motions::Rod(length) => { append(s, at, Written::Rows(0), distance_row(joint, e, length)) }
+        Motions::Frame(linear, turning) => write_frames(s, at, joint, e, linear, turning),
     }
 }
 
@@ -730,30 +779,42 @@ pub fn write_equality_rows(
     }
 }
 
-// The rows of a kind, as many as `write_equality_rows` writes.
-pub fn row_count(kind: Kind) -> usize
-    ensures { λ r. ⌜ r ≡ rowCount kind ⌝ }
+fn linear_count(linear: Linear) -> usize
+    ensures { λ r. ⌜ (r ≡ linearCount linear) × (r ≤ 3) ⌝ }
 {
-    match kind {
-        Kind::Ball => 3,
-        Kind::Hinge => 5,
-        Kind::Cylindrical => 4,
-        Kind::Planar => 3,
-        Kind::Distance(_) => 1,
-        Kind::ConeTwist {
-            swing_x,
-            swing_y,
-            twist_lower,
-            twist_upper,
-        } => 3
-            + one_if_equal(swing_x, 0.0)
-            + one_if_equal(swing_y, 0.0)
-            + one_if_equal(twist_lower, twist_upper),
+    match linear {
+        Linear::Point => 3,
+        Linear::Line => 2,
+        Linear::Plane => 1,
     }
 }
 
 fn one_if_equal(a: f64, b: f64) -> usize
-    ensures { λ r. ⌜ r ≡ oneIf (Ieee.eq a b) ⌝ }
+    ensures { λ r. ⌜ (r ≡ oneIf (Ieee.eq a b)) × (r ≤ 1) ⌝ }
 {
     if a == b { 1 } else { 0 }
+}
+
+fn turning_count(turning: Turning) -> usize
+    ensures { λ r. ⌜ (r ≡ turningCount turning) × (r ≤ 3) ⌝ }
+{
+    match turning {
+        Turning::Free => 0,
+        Turning::Align => 2,
+        Turning::Cone(cone) => {
+            one_if_equal(cone.swing_x, 0.0)
+                + one_if_equal(cone.swing_y, 0.0)
+                + one_if_equal(cone.twist_lower, cone.twist_upper)
+        }
+    }
+}
+
+// The rows of a kind, as many as `write_equality_rows` writes.
+pub fn row_count(kind: Kind) -> usize
+    ensures { λ r. ⌜ r ≡ rowCount kind ⌝ }
+{
+    match motions_of(kind) {
+        Motions::Rod(_) => 1,
+        Motions::Frame(linear, turning) => linear_count(linear) + turning_count(turning),
+    }
 }

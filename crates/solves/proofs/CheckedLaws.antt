@@ -17,7 +17,7 @@ use Rattle.arith.specs.Laws.Magnitude.{finite-same}
 use Rattle.vectors.specs.declared.vector.Vec3.{Vec3}
 use Rattle.vectors.specs.Vector.{addOf, scaleOf, finiteOf}
 use Rattle.vectors.specs.Laws.UnitTest.{add-finite}
-use Rattle.rows.specs.Fault.{arithmeticOverflow, Result, tryFinite}
+use Rattle.rows.specs.Fault.{arithmeticOverflow, tryFinite}
 use Rattle.solves.specs.declared.places.Generalized.{Generalized}
 use Rattle.solves.specs.Solver.{generalizedIn, noGeneralized, noShare, pushed, pushInto}
 use Rattle.solves.specs.Checked.{added, finiteShare, allFinite, checked}

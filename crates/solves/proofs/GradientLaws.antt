@@ -12,7 +12,7 @@ use Rattle.arith.specs.Root.{sqrt}
 use Rattle.arith.specs.Flow.{Turn, go, stop, turns, loop, tab}
 use Rattle.arith.specs.FlowLaws.{turns-more, turns-end, then-go, then-stop, loop-none, loop-more, loop-stop, loop-end}
 use Rattle.arith.specs.Run.{ran, again, leave, fail, over, upTo}
-use Rattle.arith.specs.RunLaws.{try-go, try-stop, leave-yes, leave-no}
+use Rattle.arith.specs.RunLaws.{ticks, try-go, try-stop, leave-yes, leave-no}
 use Rattle.vectors.specs.declared.vector.Vec3.{Vec3}
 use Rattle.vectors.specs.Vector.{dotOf}
 use Rattle.vectors.specs.Matrix.{applyOf}
@@ -38,7 +38,7 @@ use Rattle.solves.specs.View.{VECTOR, ROWS-MOST, MASSES, RHS, SOLUTION, 
 use Rattle.solves.specs.DoesLaws.{goes-on, returns-if, does-stop, does-as}
 use Rattle.solves.specs.ViewLaws.{row-in, mass-in, passing-vector, passing-moves, passing-testing}
 use Rattle.solves.proofs.OperatorLaws.{on-a, on-b}
-use Rattle.solves.proofs.SearchLaws.{ticks, passing-system, work-system}
+use Rattle.solves.proofs.SearchLaws.{passing-system, work-system}
 
 -- residual_test
 module _ (residual : List Float) (tolerance : Float) where
@@ -57,7 +57,8 @@ test-is e h = sym (ap testAs h) ∙ e
 
 -- diagonal_entry
 module _ (row : EqualityRow) (ma mb : MassResponse) where
-  pub diagonal-is : {p q : Float} {v w : Vec3} {x y : Float} → p ≡ dotOf (row .«linear_a») (row .«linear_a») → v ≡ applyOf (ma .angular) (row .«angular_a») → x ≡ dotOf (row .«angular_a») v
+  pub diagonal-is : {p q : Float} {v w : Vec3} {x y : Float} → p ≡ dotOf (row .«linear_a») (row .«linear_a»)
+      → v ≡ applyOf (ma .angular) (row .«angular_a») → x ≡ dotOf (row .«angular_a») v
       → q ≡ dotOf (row .«linear_b») (row .«linear_b») → w ≡ applyOf (mb .angular) (row .«angular_b») → y ≡ dotOf (row .«angular_b») w
       → ma .linear ⊗ p ⊕ x ⊕ mb .linear ⊗ q ⊕ y ≡ diagonalOf row ma mb
   unfolding diagonalOf
@@ -95,10 +96,13 @@ module _ {z : List Float} {ia ib : List ℕ} {rows n count : ℕ} (pre : Rows z 
 
   pub prepared-none : {zero : Float} → zero ≡ ratio 0 1 → PreparedSo 0 s₀ zero
   unfolding tab
-  prepared-none e = record { kept = kept-refl _ s₀; is = (λ j. go (record { diagonal = []; direction = []; rho = e j })) ∙ loop-none (prepareRow S E) nothing }
+  prepared-none e =
+      record { kept = kept-refl _ s₀; is = (λ j. go (record { diagonal = []; direction = []; rho = e j })) ∙ loop-none (prepareRow S E) nothing }
 
-  module _ {k : ℕ} {s : List Float} {rho : Float} (inv : PreparedSo k s rho) (h : k < n) (l : length s ≡ length z) {row : EqualityRow} {ma mb : MassResponse} {d zero : Float} {f : Bool}
-      (er : row ≡ rowOn ia ib s rows k) (ea : ma ≡ massAt s MASSES (row .a)) (eb : mb ≡ massAt s MASSES (row .b)) (ed : d ≡ diagonalOf row ma mb) (ef : f ≡ isFinite d) (ez : zero ≡ ratio 0 1) where
+  module _ {k : ℕ} {s : List Float} {rho : Float} (inv : PreparedSo k s rho) (h : k < n) (l : length s ≡ length z) {row : EqualityRow}
+      {ma mb : MassResponse} {d zero : Float} {f : Bool}
+      (er : row ≡ rowOn ia ib s rows k) (ea : ma ≡ massAt s MASSES (row .a)) (eb : mb ≡ massAt s MASSES (row .b)) (ed : d ≡ diagonalOf row ma mb)
+      (ef : f ≡ isFinite d) (ez : zero ≡ ratio 0 1) where
     d-is : d ≡ diagonalOf (rowIn R k) (massIn M (rowIn R k .a)) (massIn M (rowIn R k .b))
     d-is =
         let x : row ≡ rowIn R k = row-in (inv .kept) ia ib rows n k (λ i x y. omega arith) h er in
@@ -142,7 +146,9 @@ module _ {z : List Float} {ia ib : List ℕ} {rows n count : ℕ} (pre : Rows z 
     x-is = λ j. r-is j ⊘ d-is j
 
     diagonal-more : vecAt t DIAGONAL (k + 1) ≡ vecAt s DIAGONAL k ++ (D ∷ [])
-    diagonal-more = kept-vec (kept-set (set s (DIAGONAL + k) d) (DIRECTION + k) x) DIAGONAL (k + 1) (λ i a b. omega (arith, pre .most)) ∙ vec-more s DIAGONAL k d (omega (arith, pre .whole, pre .most))
+    diagonal-more =
+        kept-vec (kept-set (set s (DIAGONAL + k) d) (DIRECTION + k) x) DIAGONAL (k + 1) (λ i a b. omega (arith, pre .most))
+        ∙ vec-more s DIAGONAL k d (omega (arith, pre .whole, pre .most))
         ∙ ap (λ (y : Float). vecAt s DIAGONAL k ++ (y ∷ [])) d-is
 
     direction-more : vecAt t DIRECTION (k + 1) ≡ vecAt s DIRECTION k ++ (at E k ⊘ D ∷ [])
@@ -153,18 +159,25 @@ module _ {z : List Float} {ia ib : List ℕ} {rows n count : ℕ} (pre : Rows z 
     pub prepared-again : not f ≡ false → Ieee.le d zero ≡ false → PreparedSo (k + 1) t (rho ⊕ at s (RESIDUAL + k) ⊗ x)
     unfolding prepareRow
     prepared-again q w = record {
-      kept = kept-then (kept-then (inv .kept) (kept-set s (DIAGONAL + k) d) (λ i y. one-out DIAGONAL k i (omega (arith, pre .most)) (y .0))) (kept-set (set s (DIAGONAL + k) d) (DIRECTION + k) x) (λ i y. one-out DIRECTION k i (omega (arith, pre .most)) (y .1));
+      kept =
+          kept-then (kept-then (inv .kept) (kept-set s (DIAGONAL + k) d) (λ i y. one-out DIAGONAL k i (omega (arith, pre .most)) (y .0)))
+          (kept-set (set s (DIAGONAL + k) d) (DIRECTION + k) x) (λ i y. one-out DIRECTION k i (omega (arith, pre .most)) (y .1));
       is = loop-more (prepareRow S E) nothing (inv .is)
           ((λ j. go (record { diagonal = diagonal-more j; direction = direction-more j; rho = rho ⊕ r-is j ⊗ x-is j }))
           ∙ then-go _ (goes-on _ (small false q w)));
     }
 
-  pub prepared-ends : {k : ℕ} {s : List Float} {rho : Float} → PreparedSo k s rho → k ≤ n → n ≤ k 
+  pub prepared-ends : {k : ℕ} {s : List Float} {rho : Float} → PreparedSo k s rho → k ≤ n → n ≤ k
       → Does Preparing s₀ s (go (preparedAt s n rho)) (prepare S E)
   unfolding prepare
   prepared-ends {k} {s} {rho} inv a b =
       let same : k ≡ n = omega arith in
-      record { kept = inv .kept; is = ap (λ (m : ℕ). go (preparedAt s m rho)) (sym same) ∙ loop-end (prepareRow S E) nothing a b (inv .is) ∙ ap (λ (m : ℕ). loop m (prepareRow S E) nothing) (sym (tab-length n (rowOn ia ib s₀ rows))) }
+      record {
+        kept = inv .kept;
+        is =
+            ap (λ (m : ℕ). go (preparedAt s m rho)) (sym same) ∙ loop-end (prepareRow S E) nothing a b (inv .is)
+            ∙ ap (λ (m : ℕ). loop m (prepareRow S E) nothing) (sym (tab-length n (rowOn ia ib s₀ rows)));
+      }
 
 -- scaled_square
 abbrev pub squareTurn : List Float → List Float → ℕ → Float → Float
@@ -175,9 +188,11 @@ pub square-more : (s : List Float) (a b n k : ℕ) {total : Float} → k < n →
 square-more s a b n k {total} h e =
     (λ j. total ⊕ vec-at s a n k h j ⊗ vec-at s a n k h j ⊘ vec-at s b n k h j) ∙ turns-more (squareTurn (vecAt s a n) (vecAt s b n)) k (ratio 0 1) e
 
-pub square-ends : (s : List Float) (a b n k : ℕ) {total : Float} → k ≤ n → n ≤ k → total ≡ turns (squareTurn (vecAt s a n) (vecAt s b n)) k (ratio 0 1) → total ≡ scaledSquare (vecAt s a n) (vecAt s b n)
+pub square-ends : (s : List Float) (a b n k : ℕ) {total : Float} → k ≤ n → n ≤ k
+    → total ≡ turns (squareTurn (vecAt s a n) (vecAt s b n)) k (ratio 0 1) → total ≡ scaledSquare (vecAt s a n) (vecAt s b n)
 unfolding scaledSquare
-square-ends s a b n k l m e = turns-end _ _ l m e ∙ ap (λ (i : ℕ). turns (squareTurn (vecAt s a n) (vecAt s b n)) i (ratio 0 1)) (sym (tab-length n (λ j. at s (a + j))))
+square-ends s a b n k l m e =
+    turns-end _ _ l m e ∙ ap (λ (i : ℕ). turns (squareTurn (vecAt s a n) (vecAt s b n)) i (ratio 0 1)) (sym (tab-length n (λ j. at s (a + j))))
 
 -- next_direction
 module _ (s : List Float) (beta : Float) where
@@ -200,7 +215,8 @@ module _ (s : List Float) (beta : Float) where
       record {
         kept = kept-more (f .kept) (λ i x. omega arith);
         is = ap (vecAt t DIRECTION) (sym same) ∙ filled-vec f ∙ tab-ext k (λ j q. three j (omega arith))
-            ∙ ap (λ (m : ℕ). tab m (λ i. at (vecAt s RESIDUAL n) i ⊘ at (vecAt s DIAGONAL n) i ⊕ beta ⊗ at (vecAt s DIRECTION n) i)) (same ∙ sym (tab-length n (λ j. at s (RESIDUAL + j))));
+            ∙ ap (λ (m : ℕ). tab m (λ i. at (vecAt s RESIDUAL n) i ⊘ at (vecAt s DIAGONAL n) i ⊕ beta ⊗ at (vecAt s DIRECTION n) i))
+            (same ∙ sym (tab-length n (λ j. at s (RESIDUAL + j))));
       }
     where
       three : (j : ℕ) → j < n → direct j ≡ at (vecAt s RESIDUAL n) j ⊘ at (vecAt s DIAGONAL n) j ⊕ beta ⊗ at (vecAt s DIRECTION n) j
@@ -259,7 +275,8 @@ module _ {s : List Float} {ia ib : List ℕ} (table : Table) (pre : Rows s ia ib
   abbrev Advanced : Result Search
   Advanced = advance M₂ (searchAt s n₂ rho)
 
-  pub advance-unmoved : {s₁ : List Float} {f : Fault} → Does (Moves PRODUCT) s s₁ (stop f) (operator M₂ (vecAt s DIRECTION n₂)) → Does Passing s s₁ (stop f) Advanced
+  pub advance-unmoved : {s₁ : List Float} {f : Fault} → Does (Moves PRODUCT) s s₁ (stop f) (operator M₂ (vecAt s DIRECTION n₂))
+      → Does Passing s s₁ (stop f) Advanced
   unfolding advance
   advance-unmoved d = does-stop _ (passing-moves PRODUCT (omega arith) (omega arith)) d
 
@@ -337,7 +354,8 @@ module _ {s : List Float} {ia ib : List ℕ} (table : Table) (pre : Rows s ia ib
     sol₀ : {x : Result Tested} → Does Testing s t x Truth → vecAt t SOLUTION n₃ ≡ vecAt s SOLUTION n₃
     sol₀ d = kept-vec (d .kept) SOLUTION n₃ (λ i x y. omega (arith, pre .most))
 
-    over-is : (end : End) → Does Testing s t (ranAs end (record { residual = vecAt t RESIDUAL n₃; solved = true })) Truth → ran (over (ranAs end (vecAt t SOLUTION n₃))) 0 0 ≡ Settled
+    over-is : (end : End) → Does Testing s t (ranAs end (record { residual = vecAt t RESIDUAL n₃; solved = true })) Truth
+        → ran (over (ranAs end (vecAt t SOLUTION n₃))) 0 0 ≡ Settled
     unfolding settle
     over-is Ends.Done d = ap leave (sol₀ d) ∙ leave-yes _ _ refl ∙ try-go _ (d .is)
     over-is Ends.NonConvergent d = try-stop _ (d .is)
@@ -345,34 +363,38 @@ module _ {s : List Float} {ia ib : List ℕ} (table : Table) (pre : Rows s ia ib
 
     pub settle-over : (r : Pass) (end : End) → r ≡ Passes.Over end → Does Testing s t (trueAs r (vecAt t RESIDUAL n₃)) Truth
         → Does Passing s t (ran (over (ranAs end (vecAt t SOLUTION n₃))) 0 0) Settled
-    settle-over r end e d = record { kept = kept-more (d .kept) passing-testing; is = over-is end (does-as (λ (q : Pass). trueAs q (vecAt t RESIDUAL n₃)) e d) }
+    settle-over r end e d =
+        record { kept = kept-more (d .kept) passing-testing; is = over-is end (does-as (λ (q : Pass). trueAs q (vecAt t RESIDUAL n₃)) e d) }
 
     module _ (r : Pass) (h : r ≡ Passes.Again) (d : Does Testing s t (trueAs r (vecAt t RESIDUAL n₃)) Truth) {next : Float}
         (en : next ≡ scaledSquare (vecAt t RESIDUAL n₃) (vecAt t DIAGONAL n₃)) {u : List Float}
-        (e : Does (Beside DIRECTION) t u (vecAt u DIRECTION n₃) (nextDirection (vecAt t RESIDUAL n₃) (vecAt t DIAGONAL n₃) (next ⊘ rho) (vecAt t DIRECTION n₃))) where
-      diag : vecAt t DIAGONAL n₃ ≡ vecAt s DIAGONAL n₃
-      diag = kept-vec (d .kept) DIAGONAL n₃ (λ i x y. omega (arith, pre .most))
+        (e : Does (Beside DIRECTION) t u (vecAt u DIRECTION n₃) (nextDirection (vecAt t RESIDUAL n₃) (vecAt t DIAGONAL n₃) (next ⊘ rho) (vecAt t DIRECTION n₃)))
+      where
+        diag : vecAt t DIAGONAL n₃ ≡ vecAt s DIAGONAL n₃
+        diag = kept-vec (d .kept) DIAGONAL n₃ (λ i x y. omega (arith, pre .most))
 
-      next-is : next ≡ scaledSquare (vecAt t RESIDUAL n₃) (vecAt s DIAGONAL n₃)
-      next-is = en ∙ ap (scaledSquare (vecAt t RESIDUAL n₃)) diag
+        next-is : next ≡ scaledSquare (vecAt t RESIDUAL n₃) (vecAt s DIAGONAL n₃)
+        next-is = en ∙ ap (scaledSquare (vecAt t RESIDUAL n₃)) diag
 
-      sol : vecAt u SOLUTION n₃ ≡ vecAt s SOLUTION n₃
-      sol = kept-vec (e .kept) SOLUTION n₃ (λ i x y. omega (arith, pre .most)) ∙ sol₀ d
+        sol : vecAt u SOLUTION n₃ ≡ vecAt s SOLUTION n₃
+        sol = kept-vec (e .kept) SOLUTION n₃ (λ i x y. omega (arith, pre .most)) ∙ sol₀ d
 
-      res : vecAt u RESIDUAL n₃ ≡ vecAt t RESIDUAL n₃
-      res = kept-vec (e .kept) RESIDUAL n₃ (λ i x y. omega (arith, pre .most))
+        res : vecAt u RESIDUAL n₃ ≡ vecAt t RESIDUAL n₃
+        res = kept-vec (e .kept) RESIDUAL n₃ (λ i x y. omega (arith, pre .most))
 
-      dir : vecAt u DIRECTION n₃
-          ≡ nextDirection (vecAt t RESIDUAL n₃) (vecAt s DIAGONAL n₃) (scaledSquare (vecAt t RESIDUAL n₃) (vecAt s DIAGONAL n₃) ⊘ rho) (vecAt s DIRECTION n₃)
-      dir = e .is ∙ λ j. nextDirection (vecAt t RESIDUAL n₃) (diag j) (next-is j ⊘ rho) (kept-vec (d .kept) DIRECTION n₃ (λ i x y. omega (arith, pre .most)) j)
+        dir : vecAt u DIRECTION n₃
+            ≡ nextDirection (vecAt t RESIDUAL n₃) (vecAt s DIAGONAL n₃) (scaledSquare (vecAt t RESIDUAL n₃) (vecAt s DIAGONAL n₃) ⊘ rho) (vecAt s DIRECTION n₃)
+        dir =
+            e .is
+            ∙ λ j. nextDirection (vecAt t RESIDUAL n₃) (diag j) (next-is j ⊘ rho) (kept-vec (d .kept) DIRECTION n₃ (λ i x y. omega (arith, pre .most)) j)
 
-      pub settle-next : Does Passing s u (ran (go (go (searchAt u n₃ next))) 0 1) Settled
-      unfolding settle
-      settle-next = record {
-        kept = kept-then (kept-more (d .kept) passing-testing) (e .kept) (passing-vector DIRECTION (omega arith) (omega arith));
-        is = (λ j. ran (go (go (record { solution = sol j; residual = res j; direction = dir j; rho = next-is j }))) 0 1) ∙ ticks (again _)
-            ∙ leave-no _ _ refl ∙ try-go _ (does-as (λ (q : Pass). trueAs q (vecAt t RESIDUAL n₃)) h d .is);
-      }
+        pub settle-next : Does Passing s u (ran (go (go (searchAt u n₃ next))) 0 1) Settled
+        unfolding settle
+        settle-next = record {
+          kept = kept-then (kept-more (d .kept) passing-testing) (e .kept) (passing-vector DIRECTION (omega arith) (omega arith));
+          is = (λ j. ran (go (go (record { solution = sol j; residual = res j; direction = dir j; rho = next-is j }))) 0 1) ∙ ticks (again _)
+              ∙ leave-no _ _ refl ∙ try-go _ (does-as (λ (q : Pass). trueAs q (vecAt t RESIDUAL n₃)) h d .is);
+        }
 
 -- gradient_pass
 module _ {s : List Float} {ia ib : List ℕ} (table : Table) (pre : Rows s ia ib (table .place) (table .rows) (table .bodies)) (tolerance rho : Float) where
@@ -453,7 +475,8 @@ module _ {s : List Float} {ia ib : List ℕ} (table : Table) (pre : Rows s ia ib
       }
 
       pub gradients-whole : {t : List Float} {y : Counting (List Float)}
-          → Does Work s₁ t y (upTo (2 * n₅ + 32) nonConvergent (gradientPass (systemOn ia ib s₁ table) (vecAt s₁ RHS n₅) (vecAt s₁ DIAGONAL n₅) tolerance) (searchAt s₁ n₅ rho))
+          → Does Work s₁ t y
+          (upTo (2 * n₅ + 32) nonConvergent (gradientPass (systemOn ia ib s₁ table) (vecAt s₁ RHS n₅) (vecAt s₁ DIAGONAL n₅) tolerance) (searchAt s₁ n₅ rho))
           → Does Work s t y Gradients
       unfolding gradients
       gradients-whole {t} {y} d = record {

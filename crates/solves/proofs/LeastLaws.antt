@@ -11,7 +11,7 @@ use Rattle.arith.specs.Real.{ratio, _⊘_}
 use Rattle.arith.specs.Root.{sqrt}
 use Rattle.arith.specs.Flow.{Turn, go, stop}
 use Rattle.arith.specs.Run.{ran, again, leave, fail, upTo}
-use Rattle.arith.specs.RunLaws.{try-go, try-stop, fail-yes, fail-no, leave-yes, leave-no}
+use Rattle.arith.specs.RunLaws.{ticks, try-go, try-stop, fail-yes, fail-no, leave-yes, leave-no}
 use Rattle.rows.specs.declared.geometry.EqualityRow.{EqualityRow}
 use Rattle.rows.specs.Fault.{Fault, nonConvergent, arithmeticOverflow}
 use Rattle.rows.specs.View.{Kept}
@@ -24,7 +24,7 @@ use Rattle.solves.specs.Solver.{dot, operator, plus, minus, toleranceFor
 use Rattle.solves.specs.Search.{leastPass, leastSquares}
 use Rattle.solves.specs.View.{rowOn, systemOn, searchAt, Rows, Beside, Moves, Passing, Work, RHS, SOLUTION, RESIDUAL, DIRECTION, PRODUCT, NORMAL}
 use Rattle.solves.specs.ViewLaws.{passing-vector, passing-moves, passing-normal}
-use Rattle.solves.proofs.SearchLaws.{ticks, passing-system, work-system}
+use Rattle.solves.proofs.SearchLaws.{passing-system, work-system}
 
 module _ {s : List Float} {ia ib : List ℕ} (table : Table) (pre : Rows s ia ib (table .place) (table .rows) (table .bodies)) (tolerance norm : Float) where
   abbrev n : ℕ
@@ -45,7 +45,8 @@ module _ {s : List Float} {ia ib : List ℕ} (table : Table) (pre : Rows s ia ib
       on : Ieee.le (sqrt binary64 norm) tolerance ≡ false
       on = ap (λ (y : Float). Ieee.le y tolerance) (sym ex) ∙ h
 
-      pub pass-unmoved : {s₁ : List Float} {f : Fault} → Does (Moves PRODUCT) s s₁ (stop f) (operator M (vecAt s DIRECTION n)) → Does Passing s s₁ (fail f) Pass
+      pub pass-unmoved : {s₁ : List Float} {f : Fault} → Does (Moves PRODUCT) s s₁ (stop f) (operator M (vecAt s DIRECTION n))
+          → Does Passing s s₁ (fail f) Pass
       unfolding leastPass
       pass-unmoved d = record { kept = kept-more (d .kept) (passing-moves PRODUCT (omega arith) (omega arith)); is = try-stop _ (d .is) ∙ leave-no _ _ on }
 
@@ -91,7 +92,8 @@ module _ {s : List Float} {ia ib : List ℕ} (table : Table) (pre : Rows s ia ib
             op₃ : operator (systemOn ia ib s₃ table) (vecAt s₃ RESIDUAL n) ≡ operator M (minus (vecAt s RESIDUAL n) (norm ⊘ y) (vecAt s₁ PRODUCT n))
             op₃ = λ j. operator (passing-system table pre k₃ j) (res₃ j)
 
-            pub pass-unreturned : {s₄ : List Float} {f : Fault} → Does (Moves NORMAL) s₃ s₄ (stop f) (operator (systemOn ia ib s₃ table) (vecAt s₃ RESIDUAL n))
+            pub pass-unreturned : {s₄ : List Float} {f : Fault}
+                → Does (Moves NORMAL) s₃ s₄ (stop f) (operator (systemOn ia ib s₃ table) (vecAt s₃ RESIDUAL n))
                 → Does Passing s s₄ (fail f) Pass
             unfolding leastPass
             pass-unreturned d = record {
@@ -99,7 +101,8 @@ module _ {s : List Float} {ia ib : List ℕ} (table : Table) (pre : Rows s ia ib
               is = try-stop _ (d .is ∙ op₃) ∙ fail-no _ _ on₁ ∙ try-go _ e₁ ∙ try-go _ (d₁ .is) ∙ leave-no _ _ on;
             }
 
-            module _ {s₄ : List Float} (d₄ : Does (Moves NORMAL) s₃ s₄ (go (vecAt s₄ NORMAL n)) (operator (systemOn ia ib s₃ table) (vecAt s₃ RESIDUAL n))) where
+            module _ {s₄ : List Float}
+                (d₄ : Does (Moves NORMAL) s₃ s₄ (go (vecAt s₄ NORMAL n)) (operator (systemOn ia ib s₃ table) (vecAt s₃ RESIDUAL n))) where
               k₄ : Kept Passing s s₄
               k₄ = kept-then k₃ (d₄ .kept) passing-normal
 

@@ -6,6 +6,7 @@ pub mod SearchLaws
 pub mod LeastLaws
 pub mod GradientLaws
 pub mod BlockLaws
+pub mod WalkLaws
 pub mod FactorLaws
 pub mod RefineLaws
 pub mod SolveLaws

@@ -10,7 +10,7 @@ use lib.ListN.{length, set, replicate}
 use lib.Ieee.{Float}
 use Rattle.arith.specs.Real.{ratio, isFinite, _⊕_, _⊗_}
 use Rattle.arith.specs.Flow.{go, stop, _>>=_, turns, tab, loop, each, every}
-use Rattle.arith.specs.FlowLaws.{turns-more, cond-no, not-yes, not-no, then-go, then-stop, loop-none, loop-more, loop-stop, loop-end, each-none, each-more, each-stop, each-end}
+use Rattle.arith.specs.FlowLaws.{turns-more, cond-no, not-yes, not-no, loop-none, each-none, each-more, each-stop, each-end}
 use Rattle.vectors.specs.declared.vector.Vec3.{Vec3}
 use Rattle.vectors.specs.Vector.{dotOf, finiteOf}
 use Rattle.vectors.specs.Matrix.{applyOf}
@@ -20,16 +20,15 @@ use Rattle.rows.specs.View.{at, Out, Kept}
 use Rattle.rows.specs.Region.{tab-length, tab-at, kept-set, kept-refl, kept-then, kept-more}
 use Rattle.solves.specs.declared.places.Generalized.{Generalized}
 use Rattle.solves.specs.declared.places.MassResponse.{MassResponse}
-use Rattle.solves.specs.declared.End.{End}
 use Rattle.solves.specs.declared.Table.{Table}
 use Rattle.solves.specs.Region.{vecAt, Filled, Does}
 use Rattle.solves.specs.RegionLaws.{vec-at, vec-in, kept-vec, vec-more}
-use Rattle.solves.specs.Solver.{rowIn, generalizedIn, massIn, noGeneralized, noMass, tryNumber, sumProducts, dot, pushed, pushInto, pushRow, transpose, scaled, scaleAll, rate, rates, operator, noShare, through, addThrough, crossEnd, crossMass}
+use Rattle.solves.specs.Solver.{rowIn, generalizedIn, massIn, noGeneralized, noMass, tryNumber, sumProducts, dot, pushInto, pushRow, transpose}
+use Rattle.solves.specs.Solver.{scaled, scaleAll, rate, rates, operator, noShare, through, addThrough, crossEnd, crossMass}
 use Rattle.solves.specs.Checked.{added, finiteShare, allFinite, checked}
-use Rattle.solves.specs.Answer.{ranAs}
 use Rattle.solves.specs.View.{rowOn, rowsOn, generalizedAt, sharesIn, massAt, massesAt, systemOn, Rows, Place, Shares, Beside, Moves}
 use Rattle.solves.specs.View.{BODIES-MOST, VECTOR, RHS, GENERALIZED, MASSES, END}
-use Rattle.solves.specs.DoesLaws.{number-yes, number-no, faultOf, does-stop, does-then, does-eq}
+use Rattle.solves.specs.DoesLaws.{number-yes, number-no, does-stop, does-then}
 use Rattle.solves.specs.ViewLaws.{out-within, kept-rows, kept-masses, row-in, share-in, mass-in, shares-set, shares-more, shares-none}
 use Rattle.solves.proofs.CheckedLaws.{then-then, loop-next, push-is, zeros-checked}
 
@@ -153,7 +152,8 @@ module _ {z : List Float} {ia ib : List ℕ} {rows n count : ℕ} (pre : Rows z 
       let same : k ≡ n = omega arith in
       record { kept = inv .kept; is = e ∙ inv .is ∙ ap (λ (m : ℕ). loop m (rowTurn R Vs) (sharesIn s₀ count)) same }
 
-  pub transpose-from : {t : List Float} {y : Result (List Generalized)} → Filled GENERALIZED (6 * count) (λ _. ratio 0 1) z s₀ → Does Shares s₀ t y (loop n (rowTurn R Vs) (sharesIn s₀ count))
+  pub transpose-from : {t : List Float} {y : Result (List Generalized)} → Filled GENERALIZED (6 * count) (λ _. ratio 0 1) z s₀
+      → Does Shares s₀ t y (loop n (rowTurn R Vs) (sharesIn s₀ count))
       → Does Shares z t y (transpose (rowsOn ia ib z rows n) (vecAt z values n) count)
   unfolding transpose
   transpose-from {t} {y} f d = record {
@@ -177,14 +177,16 @@ module _ (s₀ : List Float) (count : ℕ) (most : count ≤ BODIES-MOST) where
   unfolding tab
   scale-none = record { kept = kept-refl _ s₀; is = each-none scaling }
 
-  module _ {k : ℕ} {s : List Float} {value : Generalized} {mass : MassResponse} (inv : ScaleSo k s) (h : k < count) (ev : value ≡ generalizedAt s GENERALIZED k) (em : mass ≡ massAt s MASSES k) where
+  module _ {k : ℕ} {s : List Float} {value : Generalized} {mass : MassResponse} (inv : ScaleSo k s) (h : k < count)
+      (ev : value ≡ generalizedAt s GENERALIZED k) (em : mass ≡ massAt s MASSES k) where
     scale-turn : scaled value mass ≡ scaling k
     scale-turn =
         let a : value ≡ generalizedIn (sharesIn s₀ count) k = share-in (inv .kept) GENERALIZED count k (λ i x y. omega arith) h ev in
         let b : mass ≡ massIn (massesAt s₀ MASSES count) k = mass-in (inv .kept) MASSES count k (λ i x y. omega arith) h em in
         cc
 
-    pub scale-again : {t : List Float} {g : Generalized} → go g ≡ scaled value mass → (Kept (λ j. Out (GENERALIZED + 6 * k) 6 j) s t) × (generalizedAt t GENERALIZED k ≡ g) → ScaleSo (k + 1) t
+    pub scale-again : {t : List Float} {g : Generalized} → go g ≡ scaled value mass
+        → (Kept (λ j. Out (GENERALIZED + 6 * k) 6 j) s t) × (generalizedAt t GENERALIZED k ≡ g) → ScaleSo (k + 1) t
     scale-again q st = record {
       kept = kept-then (kept-more (inv .kept) (λ i x. omega arith)) (st .0) (λ i x. omega arith);
       is = ap go (shares-more GENERALIZED k st) ∙ each-more scaling (inv .is) (q ∙ scale-turn);
@@ -216,7 +218,8 @@ module _ {z : List Float} {ia ib : List ℕ} {rows n count : ℕ} (pre : Rows z 
   unfolding tab
   rates-none = record { kept = kept-refl _ s₀; is = each-none rating }
 
-  module _ {k : ℕ} {s : List Float} {row : EqualityRow} {a b : Generalized} {v : Float} {t : Bool} (inv : RatesSo k s) (h : k < n) (l : length s ≡ length z) (er : row ≡ rowOn ia ib s rows k)
+  module _ {k : ℕ} {s : List Float} {row : EqualityRow} {a b : Generalized} {v : Float} {t : Bool} (inv : RatesSo k s) (h : k < n)
+      (l : length s ≡ length z) (er : row ≡ rowOn ia ib s rows k)
       (ea : a ≡ generalizedAt s GENERALIZED (row .a)) (eb : b ≡ generalizedAt s GENERALIZED (row .b)) (ev : v ≡ rate row a b) (et : t ≡ isFinite v) where
     rate-turn : v ≡ rate (rowIn Q k) (generalizedIn M (rowIn Q k .a)) (generalizedIn M (rowIn Q k .b))
     rate-turn =
@@ -250,7 +253,8 @@ pub place-of : {s : List Float} (off : ℕ) → RHS ≤ off → off + VECTOR ≤
 place-of off h l w = record { low = h; apart = omega arith; there = omega arith }
 
 -- a row that was loaded is on bodies below count
-module _ {s : List Float} {ia ib : List ℕ} {rows n count : ℕ} (pre : Rows s ia ib rows n count) {k : ℕ} (h : k < n) (t : List Float) {row : EqualityRow} (e : row ≡ rowOn ia ib t rows k) where
+module _ {s : List Float} {ia ib : List ℕ} {rows n count : ℕ} (pre : Rows s ia ib rows n count) {k : ℕ} (h : k < n) (t : List Float)
+    {row : EqualityRow} (e : row ≡ rowOn ia ib t rows k) where
   pub on-a : row .a < count
   on-a = subst (λ (q : EqualityRow). q .a < count) (sym e) (pre .a-there k h)
 
@@ -288,11 +292,13 @@ module _ {s : List Float} {ia ib : List ℕ} (table : Table) (pre : Rows s ia ib
         is = e .is ∙ λ j. scaleAll (sharesIn t count) (kept-masses (d .kept) MASSES count (λ i x y. omega (arith, pre .bodies)) j) (len j);
       }
 
-      pub operator-scales-failed : {f : Fault} → Does Shares t u (stop f) (scaleAll (sharesIn t count) (massesAt t MASSES count) count) → Does (Moves out) s u (stop f) Whole
+      pub operator-scales-failed : {f : Fault} → Does Shares t u (stop f) (scaleAll (sharesIn t count) (massesAt t MASSES count) count)
+          → Does (Moves out) s u (stop f) Whole
       unfolding operator
       operator-scales-failed e = does-then _ (λ i x. x .0) (λ i x. x) (first d) (does-stop _ (λ i x. x .0) (second e))
 
-      pub operator-rates : Does Shares t u (go (sharesIn u count)) (scaleAll (sharesIn t count) (massesAt t MASSES count) count) → {w : List Float} {y : Result (List Float)}
+      pub operator-rates : Does Shares t u (go (sharesIn u count)) (scaleAll (sharesIn t count) (massesAt t MASSES count) count)
+          → {w : List Float} {y : Result (List Float)}
           → Does (Beside out) u w y (rates (rowsOn ia ib u (table .place) (table .rows)) (table .rows) (sharesIn u count)) → Does (Moves out) s w y Whole
       unfolding operator
       operator-rates e {w} {y} f = does-then _ (λ i x. x .0) (λ i x. x) (first d) (does-then _ (λ i x. x .0) (λ i x. x .1) (second e) third)
@@ -301,16 +307,23 @@ module _ {s : List Float} {ia ib : List ℕ} (table : Table) (pre : Rows s ia ib
           kept = kept-rows (e .kept) ia ib (table .place) (table .rows) (λ i x y. omega (arith, pre .table, pre .most))
               ∙ kept-rows (d .kept) ia ib (table .place) (table .rows) (λ i x y. omega (arith, pre .table, pre .most))
 
-          third : Does (Beside out) u w y (rates (rowsOn ia ib s (table .place) (table .rows)) (length (rowsOn ia ib s (table .place) (table .rows))) (sharesIn u count))
-          third = record { kept = f .kept; is = f .is ∙ λ j. rates (kept j) (sym (tab-length (table .rows) (rowOn ia ib s (table .place))) j) (sharesIn u count) }
+          third : Does (Beside out) u w y
+              (rates (rowsOn ia ib s (table .place) (table .rows)) (length (rowsOn ia ib s (table .place) (table .rows))) (sharesIn u count))
+          third =
+              record {
+                kept = f .kept;
+                is = f .is ∙ λ j. rates (kept j) (sym (tab-length (table .rows) (rowOn ia ib s (table .place))) j) (sharesIn u count);
+              }
 
 -- cross_mass
-pub through-is : (mass : MassResponse) (al aa bl ba : Vec3) {d e : Float} {w : Vec3} → d ≡ dotOf al bl → w ≡ applyOf (mass .angular) ba → e ≡ dotOf aa w → mass .linear ⊗ d ⊕ e ≡ through mass al aa bl ba
+pub through-is : (mass : MassResponse) (al aa bl ba : Vec3) {d e : Float} {w : Vec3} → d ≡ dotOf al bl → w ≡ applyOf (mass .angular) ba
+    → e ≡ dotOf aa w → mass .linear ⊗ d ⊕ e ≡ through mass al aa bl ba
 unfolding through
 through-is mass al aa bl ba a b c = cc
 
 module _ (s : List Float) (count ai bi : ℕ) (h : ai < count) (al aa bl ba : Vec3) (value : Float) where
-  pub same-body : ai ≡ bi → {mass : MassResponse} {x : Float} → mass ≡ massAt s MASSES ai → x ≡ through mass al aa bl ba → value ⊕ x ≡ addThrough (massesAt s MASSES count) ai al aa bi bl ba value
+  pub same-body : ai ≡ bi → {mass : MassResponse} {x : Float} → mass ≡ massAt s MASSES ai → x ≡ through mass al aa bl ba
+      → value ⊕ x ≡ addThrough (massesAt s MASSES count) ai al aa bi bl ba value
   same-body e {mass} {x} em ex =
       let t : eqb ai bi ≡ true = eq-eqb ai bi e in
       let m : mass ≡ massIn (massesAt s MASSES count) ai = em ∙ sym (tab-at count (massAt s MASSES) noMass ai h) in
@@ -320,12 +333,14 @@ module _ (s : List Float) (count ai bi : ℕ) (h : ai < count) (al aa bl ba : Ve
   other-body e = cond-no _ _ (ne-eqb ai bi e)
 
 pub end-is : (masses : List MassResponse) (ai : ℕ) (al aa : Vec3) (b : EqualityRow) (value : Float) {half x : Float}
-    → half ≡ addThrough masses ai al aa (b .a) (b .«linear_a») (b .«angular_a») value → x ≡ addThrough masses ai al aa (b .b) (b .«linear_b») (b .«angular_b») half → x ≡ crossEnd masses ai al aa b value
+    → half ≡ addThrough masses ai al aa (b .a) (b .«linear_a») (b .«angular_a») value
+    → x ≡ addThrough masses ai al aa (b .b) (b .«linear_b») (b .«angular_b») half → x ≡ crossEnd masses ai al aa b value
 unfolding crossEnd
 end-is masses ai al aa b value e f = f ∙ ap (addThrough masses ai al aa (b .b) (b .«linear_b») (b .«angular_b»)) e
 
 module _ (masses : List MassResponse) (a b : EqualityRow) {zero half x : Float} {t : Bool} (ez : zero ≡ ratio 0 1)
-    (e : half ≡ crossEnd masses (a .a) (a .«linear_a») (a .«angular_a») b zero) (f : x ≡ crossEnd masses (a .b) (a .«linear_b») (a .«angular_b») b half) (g : t ≡ isFinite x) where
+    (e : half ≡ crossEnd masses (a .a) (a .«linear_a») (a .«angular_a») b zero)
+    (f : x ≡ crossEnd masses (a .b) (a .«linear_b») (a .«angular_b») b half) (g : t ≡ isFinite x) where
   both-ends : x ≡ crossEnd masses (a .b) (a .«linear_b») (a .«angular_b») b (crossEnd masses (a .a) (a .«linear_a») (a .«angular_a») b (ratio 0 1))
   both-ends = f ∙ ap (crossEnd masses (a .b) (a .«linear_b») (a .«angular_b») b) (e ∙ ap (crossEnd masses (a .a) (a .«linear_a») (a .«angular_a») b) ez)
 

@@ -10,7 +10,7 @@ use Rattle.arith.specs.Real.{ratio}
 use Rattle.arith.specs.Flow.{Turn, go, stop, tab}
 use Rattle.arith.specs.FlowLaws.{then-go, then-stop, cond-yes, cond-no}
 use Rattle.arith.specs.Run.{ran, after, fail, over, upTo}
-use Rattle.arith.specs.RunLaws.{try-go, try-stop, leave-yes, leave-no}
+use Rattle.arith.specs.RunLaws.{ticks, try-go, try-stop, leave-yes, leave-no}
 use Rattle.rows.specs.declared.geometry.EqualityRow.{EqualityRow}
 use Rattle.rows.specs.Fault.{Fault, nonConvergent, Result}
 use Rattle.rows.specs.View.{Kept}
@@ -26,17 +26,19 @@ use Rattle.solves.specs.Region.{vecAt, Filled, Does}
 use Rattle.solves.specs.RegionLaws.{kept-vec, filled-vec}
 use Rattle.solves.specs.Solver.{operator, difference, within, toleranceFor}
 use Rattle.solves.specs.Path.{Factor, forward, backward, Refined, refine, pathOrder, pathFactored}
-use Rattle.solves.specs.Search.{leastSquares, gradients, refinement, pathAlong, Choice, byLeastSquares, byPath, byGradients, ordered, choose, solveBy, linearSolve}
+use Rattle.solves.specs.Search.{leastSquares, gradients, refinement, pathAlong, Choice, byLeastSquares, byPath, byGradients, ordered, choose}
+use Rattle.solves.specs.Search.{solveBy, linearSolve}
 use Rattle.solves.specs.Answer.{ranAs, testAs, orderAs, endedAs, endedWith}
 use Rattle.solves.specs.View.{rowOn, rowsOn, systemOn, listAt, bandAt, factorAt, refinedAt, Rows, Beside, Moves, Factoring, Refining, Work}
 use Rattle.solves.specs.View.{RHS, SOLUTION, RESIDUAL, PRODUCT, PATH-BAND, PATH-SCALE, PATH-RHS}
 use Rattle.solves.specs.ViewLaws.{system-kept, passing-vector, passing-moves}
-use Rattle.solves.proofs.SearchLaws.{ticks, work-system, Came, came-again, came-over, came-out}
+use Rattle.solves.proofs.SearchLaws.{work-system, Came, came-again, came-over, came-out}
 use Rattle.solves.proofs.GradientLaws.{test-is}
 use Rattle.solves.proofs.RefineLaws.{Backs}
 
 -- what stands for the whole solve while it refines
-module _ {z : List Float} {ia ib : List ℕ} (table : Table) (pre : Rows z ia ib (table .place) (table .rows) (table .bodies)) {s t : List Float} (k : Kept Refining s t) where
+module _ {z : List Float} {ia ib : List ℕ} (table : Table) (pre : Rows z ia ib (table .place) (table .rows) (table .bodies)) {s t : List Float}
+    (k : Kept Refining s t) where
   pub refining-system : systemOn ia ib t table ≡ systemOn ia ib s table
   refining-system = system-kept ia ib table (λ i x y. omega arith) (pre .table) (pre .most) (pre .bodies) k
 
@@ -57,62 +59,67 @@ module _ {s : List Float} {ia ib : List ℕ} (table : Table) (pre : Rows s ia ib
   abbrev Fine : Result Refined
   Fine = refine (systemOn ia ib s table) (vecAt s RHS n) (listAt order n) (factorAt s n) (refinedAt s n)
 
-  abbrev Forward : List Float
-  Forward = forward n (listAt order n) (vecAt s PATH-SCALE n) (bandAt s n) (vecAt s RESIDUAL n)
+  -- the solves of the factor over k rows
+  abbrev Forward : ℕ → List Float
+  Forward k = forward k (listAt order n) (vecAt s PATH-SCALE n) (bandAt s n) (vecAt s RESIDUAL n)
 
-  abbrev Solution : List Float
-  Solution = backward n (listAt order n) (vecAt s PATH-SCALE n) (bandAt s n) Forward (vecAt s SOLUTION n)
+  abbrev Solution : ℕ → List Float
+  Solution k = backward k (listAt order n) (vecAt s PATH-SCALE n) (bandAt s n) (Forward k) (vecAt s SOLUTION n)
 
   len : n ≡ length (rowsOn ia ib s (table .place) n)
   len = sym (tab-length n (rowOn ia ib s (table .place)))
 
-  -- the same, with the length of the rows for n
-  long : {m : ℕ} → n ≡ m
-      → Solution ≡ backward m (listAt order n) (vecAt s PATH-SCALE n) (bandAt s n) (forward m (listAt order n) (vecAt s PATH-SCALE n) (bandAt s n) (vecAt s RESIDUAL n)) (vecAt s SOLUTION n)
-  long e = λ j. backward (e j) (listAt order n) (vecAt s PATH-SCALE n) (bandAt s n) (forward (e j) (listAt order n) (vecAt s PATH-SCALE n) (bandAt s n) (vecAt s RESIDUAL n)) (vecAt s SOLUTION n)
+  long : Solution n ≡ Solution (length (rowsOn ia ib s (table .place) n))
+  long = ap Solution len
 
-  module _ {s₁ s₂ : List Float} (d₁ : Does (Beside PATH-RHS) s s₁ (vecAt s₁ PATH-RHS n) Forward)
-      (d₂ : Does Backs s₁ s₂ (vecAt s₂ SOLUTION n) (backward n (listAt order n) (vecAt s₁ PATH-SCALE n) (bandAt s₁ n) (vecAt s₁ PATH-RHS n) (vecAt s₁ SOLUTION n))) where
-    k₂ : Kept Refining s s₂
-    k₂ = kept-then (kept-more (d₁ .kept) (λ i x. x .1)) (d₂ .kept) (λ i x. (x .1, passing-vector SOLUTION (omega arith) (omega arith) i (x .0)))
+  module _ {s₁ s₂ : List Float} (d₁ : Does (Beside PATH-RHS) s s₁ (vecAt s₁ PATH-RHS n) (Forward n))
+      (d₂ : Does Backs s₁ s₂ (vecAt s₂ SOLUTION n)
+      (backward n (listAt order n) (vecAt s₁ PATH-SCALE n) (bandAt s₁ n) (vecAt s₁ PATH-RHS n) (vecAt s₁ SOLUTION n)))
+    where
+      k₂ : Kept Refining s s₂
+      k₂ = kept-then (kept-more (d₁ .kept) (λ i x. x .1)) (d₂ .kept) (λ i x. (x .1, passing-vector SOLUTION (omega arith) (omega arith) i (x .0)))
 
-    solution-is : vecAt s₂ SOLUTION n ≡ Solution
-    solution-is = d₂ .is ∙ λ j. backward n (listAt order n) (kept-vec (d₁ .kept) PATH-SCALE n (λ i x y. omega (arith, pre .most)) j)
-        (kept-vec (d₁ .kept) PATH-BAND (12 * n) (λ i x y. omega (arith, pre .most)) j) (d₁ .is j) (kept-vec (d₁ .kept) SOLUTION n (λ i x y. omega (arith, pre .most)) j)
+      solution-is : vecAt s₂ SOLUTION n ≡ Solution n
+      solution-is = d₂ .is ∙ λ j. backward n (listAt order n) (kept-vec (d₁ .kept) PATH-SCALE n (λ i x y. omega (arith, pre .most)) j)
+          (kept-vec (d₁ .kept) PATH-BAND (12 * n) (λ i x y. omega (arith, pre .most)) j) (d₁ .is j)
+          (kept-vec (d₁ .kept) SOLUTION n (λ i x y. omega (arith, pre .most)) j)
 
-    abbrev Op : Result (List Float)
-    Op = operator (systemOn ia ib s₂ table) (vecAt s₂ SOLUTION n)
+      abbrev Op : Result (List Float)
+      Op = operator (systemOn ia ib s₂ table) (vecAt s₂ SOLUTION n)
 
-    op-is : Op ≡ operator (systemOn ia ib s table) Solution
-    op-is = λ j. operator (refining-system table pre k₂ j) (solution-is j)
+      op-is : Op ≡ operator (systemOn ia ib s table) (Solution n)
+      op-is = λ j. operator (refining-system table pre k₂ j) (solution-is j)
 
-    pub refine-failed : {s₃ : List Float} {f : Fault} → Does (Moves PRODUCT) s₂ s₃ (stop f) Op → Does Refining s s₃ (stop f) Fine
-    unfolding refine
-    refine-failed d = record {
-      kept = kept-then k₂ (d .kept) (λ i x. passing-moves PRODUCT (omega arith) (omega arith) i (x .0));
-      is = then-stop _ (d .is ∙ op-is ∙ ap (operator (systemOn ia ib s table)) (long len));
-    }
+      pub refine-failed : {s₃ : List Float} {f : Fault} → Does (Moves PRODUCT) s₂ s₃ (stop f) Op → Does Refining s s₃ (stop f) Fine
+      unfolding refine
+      refine-failed d = record {
+        kept = kept-then k₂ (d .kept) (λ i x. passing-moves PRODUCT (omega arith) (omega arith) i (x .0));
+        is = then-stop _ (d .is ∙ op-is ∙ ap (operator (systemOn ia ib s table)) long);
+      }
 
-    pub refine-done : {s₃ s₄ : List Float} → Does (Moves PRODUCT) s₂ s₃ (go (vecAt s₃ PRODUCT n)) Op
-        → Does (Beside RESIDUAL) s₃ s₄ (vecAt s₄ RESIDUAL n) (difference (vecAt s₃ RHS n) (vecAt s₃ PRODUCT n)) → Does Refining s s₄ (go (refinedAt s₄ n)) Fine
-    unfolding refine
-    refine-done {s₃} {s₄} d e = record {
-      kept = kept-then k₃ (e .kept) (λ i x. passing-vector RESIDUAL (omega arith) (omega arith) i (x .0));
-      is = (λ j. go (record { solution = sol₄ j; residual = res₄ j })) ∙ then-go _ (d .is ∙ op-is ∙ ap (operator (systemOn ia ib s table)) (long len));
-    }
-      where
-        k₃ : Kept Refining s s₃
-        k₃ = kept-then k₂ (d .kept) (λ i x. passing-moves PRODUCT (omega arith) (omega arith) i (x .0))
+      pub refine-done : {s₃ s₄ : List Float} → Does (Moves PRODUCT) s₂ s₃ (go (vecAt s₃ PRODUCT n)) Op
+          → Does (Beside RESIDUAL) s₃ s₄ (vecAt s₄ RESIDUAL n) (difference (vecAt s₃ RHS n) (vecAt s₃ PRODUCT n))
+          → Does Refining s s₄ (go (refinedAt s₄ n)) Fine
+      unfolding refine
+      refine-done {s₃} {s₄} d e = record {
+        kept = kept-then k₃ (e .kept) (λ i x. passing-vector RESIDUAL (omega arith) (omega arith) i (x .0));
+        is = (λ j. go (record { solution = sol₄ j; residual = res₄ j })) ∙ then-go _ (d .is ∙ op-is ∙ ap (operator (systemOn ia ib s table)) long);
+      }
+        where
+          k₃ : Kept Refining s s₃
+          k₃ = kept-then k₂ (d .kept) (λ i x. passing-moves PRODUCT (omega arith) (omega arith) i (x .0))
 
-        sol₄ : vecAt s₄ SOLUTION n ≡ backward (length (rowsOn ia ib s (table .place) n)) (listAt order n) (vecAt s PATH-SCALE n) (bandAt s n)
-            (forward (length (rowsOn ia ib s (table .place) n)) (listAt order n) (vecAt s PATH-SCALE n) (bandAt s n) (vecAt s RESIDUAL n)) (vecAt s SOLUTION n)
-        sol₄ = kept-vec (e .kept) SOLUTION n (λ i x y. omega (arith, pre .most)) ∙ kept-vec (d .kept) SOLUTION n (λ i x y. omega (arith, pre .most)) ∙ solution-is ∙ long len
+          sol₄ : vecAt s₄ SOLUTION n ≡ Solution (length (rowsOn ia ib s (table .place) n))
+          sol₄ =
+              kept-vec (e .kept) SOLUTION n (λ i x y. omega (arith, pre .most)) ∙ kept-vec (d .kept) SOLUTION n (λ i x y. omega (arith, pre .most))
+              ∙ solution-is ∙ long
 
-        res₄ : vecAt s₄ RESIDUAL n ≡ difference (vecAt s RHS n) (vecAt s₃ PRODUCT n)
-        res₄ = e .is ∙ ap (λ (l : List Float). difference l (vecAt s₃ PRODUCT n)) (refining-rhs table pre k₃)
+          res₄ : vecAt s₄ RESIDUAL n ≡ difference (vecAt s RHS n) (vecAt s₃ PRODUCT n)
+          res₄ = e .is ∙ ap (λ (l : List Float). difference l (vecAt s₃ PRODUCT n)) (refining-rhs table pre k₃)
 
 -- refinements: k were counted, and the next goes on from s
-module _ {z : List Float} {ia ib : List ℕ} (table : Table) (pre : Rows z ia ib (table .place) (table .rows) (table .bodies)) (order : List ℕ) (tolerance : Float) (s₀ : List Float) where
+module _ {z : List Float} {ia ib : List ℕ} (table : Table) (pre : Rows z ia ib (table .place) (table .rows) (table .bodies)) (order : List ℕ)
+    (tolerance : Float) (s₀ : List Float) where
   abbrev m : ℕ
   m = table .rows
 
@@ -197,7 +204,9 @@ module _ {s : List Float} {ia ib : List ℕ} (table : Table) (pre : Rows s ia ib
 
       begun : refinedAt u n₁ ≡ record { solution = vecAt s SOLUTION n₁; residual = vecAt s RHS n₁ }
       begun = λ j. record {
-        solution = (kept-vec (c .kept) SOLUTION n₁ (λ i x y. omega (arith, pre .most)) ∙ kept-vec (d .kept) SOLUTION n₁ (λ i x y. omega (arith, pre .most))) j;
+        solution =
+            (kept-vec (c .kept) SOLUTION n₁ (λ i x y. omega (arith, pre .most)) ∙ kept-vec (d .kept) SOLUTION n₁ (λ i x y. omega (arith, pre .most)))
+            j;
         residual = (c .is ∙ rhs₁) j;
       }
 
@@ -207,14 +216,18 @@ module _ {s : List Float} {ia ib : List ℕ} (table : Table) (pre : Rows s ia ib
         band = kept-vec (c .kept) PATH-BAND (12 * n₁) (λ i x y. omega (arith, pre .most)) j;
       }
 
+      rhs-is : vecAt u RHS n₁ ≡ vecAt s RHS n₁
+      rhs-is = kept-vec kᵦ RHS n₁ (λ i x y. omega (arith, pre .most))
+
       pub along-whole : {v : List Float} {y : Counting (List Float)}
-          → Does Work u v y (upTo 4 nonConvergent (refinement (systemOn ia ib u table) (vecAt u RHS n₁) (listAt order n₁) (factorAt u n₁) tolerance) (refinedAt u n₁))
+          → Does Work u v y
+          (upTo 4 nonConvergent (refinement (systemOn ia ib u table) (vecAt u RHS n₁) (listAt order n₁) (factorAt u n₁) tolerance) (refinedAt u n₁))
           → Does Work s v y Along
       unfolding pathAlong
       along-whole f = record {
         kept = kept-then kᵦ (f .kept) (λ i x. x);
         is = f .is
-            ∙ (λ j. upTo 4 nonConvergent (refinement (work-system table pre kᵦ j) (kept-vec kᵦ RHS n₁ (λ i x y. omega (arith, pre .most)) j) (listAt order n₁) (factor-is j) tolerance) (begun j))
+            ∙ (λ j. upTo 4 nonConvergent (refinement (work-system table pre kᵦ j) (rhs-is j) (listAt order n₁) (factor-is j) tolerance) (begun j))
             ∙ try-go _ (tolerance-is e) ∙ try-go _ (factored-is (d .is));
       }
 
@@ -229,8 +242,10 @@ unfolding sideOf tab
 side-tab side zero f = refl
 side-tab side (suc n) f = side-append side (tab n f) (f n) ∙ ap (λ (l : List ℕ). l ++ (side (f n) ∷ [])) (side-tab side n f)
 
-module _ {s : List Float} {ia ib : List ℕ} (table : Table) (pre : Rows s ia ib (table .place) (table .rows) (table .bodies)) (cyclic : Bool) {s₁ s₂ : List Float}
-    (f : Filled SOLUTION (table .rows) (λ _. ratio 0 1) s s₁) (d : Does (Beside RESIDUAL) s₁ s₂ (vecAt s₂ RESIDUAL (table .rows)) (vecAt s₁ RHS (table .rows))) where
+module _ {s : List Float} {ia ib : List ℕ} (table : Table) (pre : Rows s ia ib (table .place) (table .rows) (table .bodies)) (cyclic : Bool)
+    {s₁ s₂ : List Float}
+    (f : Filled SOLUTION (table .rows) (λ _. ratio 0 1) s s₁)
+    (d : Does (Beside RESIDUAL) s₁ s₂ (vecAt s₂ RESIDUAL (table .rows)) (vecAt s₁ RHS (table .rows))) where
   abbrev n₂ : ℕ
   n₂ = table .rows
 
@@ -254,7 +269,9 @@ module _ {s : List Float} {ia ib : List ℕ} (table : Table) (pre : Rows s ia ib
 
   zeros₂ : vecAt s₂ SOLUTION n₂ ≡ zeros
   zeros₂ = kept-vec (d .kept) SOLUTION n₂ (λ i x y. omega (arith, pre .most)) ∙ filled-vec f
-      ∙ sym (is-tab n₂ (λ _. ratio 0 1) (ratio 0 1) (replicate n₂ (ratio 0 1)) (length-replicate n₂ (ratio 0 1)) (λ k h. getD-replicate n₂ k (ratio 0 1) (ratio 0 1) h))
+      ∙ sym
+      (is-tab n₂ (λ _. ratio 0 1) (ratio 0 1) (replicate n₂ (ratio 0 1)) (length-replicate n₂ (ratio 0 1))
+      (λ k h. getD-replicate n₂ k (ratio 0 1) (ratio 0 1) h))
       ∙ ap (λ (m : ℕ). replicate m (ratio 0 1)) (sym (tab-length n₂ (rowOn ia ib s (table .place))))
 
   residual₂ : vecAt s₂ RESIDUAL n₂ ≡ vecAt s RHS n₂
@@ -284,7 +301,9 @@ module _ {s : List Float} {ia ib : List ℕ} (table : Table) (pre : Rows s ia ib
   module _ (h : cyclic ≡ false) where
     chosen : {x : Turn (List ℕ) (Unit {0})} → x ≡ pathOrder (listAt ia n₂) (listAt ib n₂) n₂ → ordered x ≡ Chosen
     unfolding choose
-    chosen e = ap ordered (e ∙ λ j. pathOrder (sym (side-tab (λ r. r .a) n₂ (rowOn ia ib s (table .place))) j) (sym (side-tab (λ r. r .b) n₂ (rowOn ia ib s (table .place))) j)
+    chosen e =
+        ap ordered (e ∙ λ j. pathOrder (sym (side-tab (λ r. r .a) n₂ (rowOn ia ib s (table .place))) j)
+        (sym (side-tab (λ r. r .b) n₂ (rowOn ia ib s (table .place))) j)
         (sym (tab-length n₂ (rowOn ia ib s (table .place))) j)) ∙ cond-no _ _ h
 
     pub linear-gradients : stop tt ≡ pathOrder (listAt ia n₂) (listAt ib n₂) n₂ → {t : List Float} {y : Counting (List Float)}
@@ -302,5 +321,6 @@ module _ {s : List Float} {ia ib : List ℕ} (table : Table) (pre : Rows s ia ib
 pub order-no : (r : PathOrder) {d : Turn (List ℕ) (Unit {0})} → orderAs r ≡ d → r .found ≡ false → stop tt ≡ d
 order-no r e h = cond-no _ _ h ∙ e
 
-pub order-yes : (r : PathOrder) (n : ℕ) {d : Turn (List ℕ) (Unit {0})} → orderAs r ≡ d → r .found ≡ true → r .order .count ≡ n → go (listAt (r .order .rows) n) ≡ d
+pub order-yes : (r : PathOrder) (n : ℕ) {d : Turn (List ℕ) (Unit {0})} → orderAs r ≡ d → r .found ≡ true → r .order .count ≡ n
+    → go (listAt (r .order .rows) n) ≡ d
 order-yes r n e h c = ap (λ (m : ℕ). go (listAt (r .order .rows) m)) (sym c) ∙ cond-yes _ _ h ∙ e

@@ -27,12 +27,13 @@ use Rattle.solves.specs.declared.gradients.Prepared.the-variants as Rhos
 use Rattle.solves.specs.declared.search.Which.{Which}
 use Rattle.solves.specs.declared.search.Which.the-variants as Whichs
 use Rattle.solves.specs.declared.path.PathOrder.{PathOrder}
-use Rattle.solves.specs.System.{System, rowsIn, Counting}
+use Rattle.solves.specs.System.{System, Counting}
 use Rattle.solves.specs.Solver.{Search, Prepared, Tested}
 use Rattle.solves.specs.Path.{Seen}
 use Rattle.solves.specs.Search.{leastPass, gradientPass}
-use Rattle.solves.specs.Region.{Lent, came, left, vecAt, Does}
-use Rattle.solves.specs.View.{searchAt, preparedAt, orderOf, seenOf, rowsOn, sharesIn, systemIn, Shares, Work, SOLUTION}
+use Rattle.solves.specs.Lent.{Lent, came, left}
+use Rattle.solves.specs.Region.{vecAt, Does}
+use Rattle.solves.specs.View.{searchAt, preparedAt, orderOf, rowsOn, sharesIn, systemIn, Shares, Work, SOLUTION}
 
 -- ---- the Rust's Result
 abbrev pub sumAs : Sum → Result Float
@@ -106,10 +107,6 @@ endedAs r x = ran (ranAs (r .end) x) 0 (r .linear)
 abbrev pub edgesAs : Bool → List ℕ → Turn (List ℕ) (Unit {0})
 edgesAs true edges = go edges
 edgesAs false edges = stop tt
-
--- a walk that left visited, or declined
-abbrev pub seenAs : PathOrder → List Bool → Turn Seen (Unit {0})
-seenAs r visited = cond (r .found) (go (seenOf (r .order) visited)) (stop tt)
 
 -- the order along the paths, or declined
 abbrev pub orderAs : PathOrder → Turn (List ℕ) (Unit {0})

@@ -1,4 +1,5 @@
--- solver.rs, fn path_solve up to its refinements. A path's Schur matrix is block tridiagonal once its rows are ordered along the path, and a Cholesky factor of band 12 solves it.
+-- solver.rs, fn path_solve up to its refinements. A path's Schur matrix is block tridiagonal once its rows are ordered along the path, and a
+-- Cholesky factor of band 12 solves it.
 use Prim.Native.Nat.{ℕ, _+_, _*_, _-_, min}
 use mathlib.Core.List.{List, [], _∷_, _++_}
 use mathlib.Core.Bool.{Bool, true, false, cond, not, _&&_, _||_}

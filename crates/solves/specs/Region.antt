@@ -3,23 +3,8 @@ use Prim.Native.Nat.{ℕ, _+_, _<_}
 use mathlib.Core.Path.{_≡_}
 use mathlib.Core.List.{List}
 use lib.Ieee.{Float}
-use denote.Ref.{RefT}
-use denote.Triple.Both.{Both}
 use Rattle.arith.specs.Flow.{tab}
 use Rattle.rows.specs.View.{at, Out, Kept}
-
--- a lent slice: `s` in a `requires` is a Slice, in an `ensures` a Lent, with what came and what is left
-abbrev pub Slice : Type 0 → Type 0
-Slice X = RefT (List X)
-
-abbrev pub Lent : Type 0 → Type 0
-Lent X = Both (Slice X) (Slice X)
-
-abbrev pub came : {X : Type 0} → Lent X → List X
-came s = s .entry .now
-
-abbrev pub left : {X : Type 0} → Lent X → List X
-left s = s .exit .now
 
 -- the n doubles at off
 abbrev pub vecAt : List Float → ℕ → ℕ → List Float

@@ -38,7 +38,8 @@ vec-more s off k v h = tab-more k (λ i l. kept-set s (off + k) v .same (off + i
 pub filled-none : (off : ℕ) (f : ℕ → Float) (s : List Float) → Filled off 0 f s s
 filled-none off f s = record { kept = kept-refl _ s; there = λ k h. absurd (omega arith) }
 
-pub filled-more : {off k : ℕ} {f : ℕ → Float} {s t : List Float} {v : Float} → Filled off k f s t → off + k < length t → v ≡ f k → Filled off (k + 1) f s (set t (off + k) v)
+pub filled-more : {off k : ℕ} {f : ℕ → Float} {s t : List Float} {v : Float} → Filled off k f s t → off + k < length t → v ≡ f k
+    → Filled off (k + 1) f s (set t (off + k) v)
 filled-more {off} {k} {f} {s} {t} {v} fill h e = record {
   kept = kept-then (kept-more (fill .kept) (λ i p. omega arith)) (kept-set t (off + k) v) (λ i p. omega arith);
   there = λ j q. step j q (ℕ-discrete j k);

@@ -1,7 +1,7 @@
 -- Reads of the scratch as plain values, and what a write leaves alone. The places are those of Layout.
-use Prim.Native.Nat.{ℕ, zero, suc, _+_, _*_, _-_, _≤_, _<_, min}
+use Prim.Native.Nat.{ℕ, _+_, _*_, _-_, _≤_, _<_, min}
 use mathlib.Core.Path.{_≡_}
-use mathlib.Core.Bool.{Bool, false, cond}
+use mathlib.Core.Bool.{false}
 use mathlib.Core.List.{List}
 use lib.ListN.{length, getD, replicate}
 use lib.Ieee.{Float}
@@ -12,16 +12,16 @@ use Rattle.rows.specs.declared.geometry.EqualityRow.{EqualityRow}
 use Rattle.rows.specs.View.{at, vec3At, rowAt, Out}
 use Rattle.solves.specs.declared.places.Generalized.{Generalized}
 use Rattle.solves.specs.declared.places.MassResponse.{MassResponse}
-use Rattle.solves.specs.declared.path.Blocks.{Blocks}
 use Rattle.solves.specs.declared.path.Order.{Order}
 use Rattle.solves.specs.declared.path.PathOrder.{PathOrder}
 use Rattle.solves.specs.declared.Table.{Table}
 pub use Rattle.solves.specs.Layout.{ROWS-MOST, BODIES-MOST, VECTOR, SHARES, BAND, START-ROWS, ROWS, MASSES, RHS, SOLUTION, RESIDUAL, DIRECTION}
 pub use Rattle.solves.specs.Layout.{PRODUCT, DIAGONAL, NORMAL, GENERALIZED, PATH-BAND, PATH-SCALE, PATH-RHS, END}
-use Rattle.solves.specs.Region.{Slice, Lent, came, vecAt}
+use Rattle.solves.specs.Lent.{Slice, Lent, came}
+use Rattle.solves.specs.Region.{vecAt}
 use Rattle.solves.specs.System.{System}
 use Rattle.solves.specs.Solver.{Search, Prepared}
-use Rattle.solves.specs.Path.{none, Seen, Factor, Refined}
+use Rattle.solves.specs.Path.{Factor, Refined}
 
 -- a row is 14 doubles at off + 14 k, and its bodies are in two lists beside the scratch
 abbrev pub rowOn : List ℕ → List ℕ → List Float → ℕ → ℕ → EqualityRow
@@ -159,56 +159,8 @@ Onto s n to from = (n ≤ ROWS-MOST) × (to + VECTOR ≤ length (s .now)) × (fr
 abbrev pub listAt : List ℕ → ℕ → List ℕ
 listAt l n = tab n (λ k. getD l k 0)
 
--- the first row of each block; after the last block stands the number of rows
-abbrev pub startsOf : Blocks → List ℕ
-startsOf blocks = listAt (blocks .starts) (blocks .count)
-
-abbrev pub rowsOf : Blocks → ℕ
-rowsOf blocks = getD (blocks .starts) (blocks .count) 0
-
-abbrev pub sizeOf : Blocks → ℕ → ℕ
-sizeOf blocks k = getD (blocks .starts) (k + 1) 0 - getD (blocks .starts) k 0
-
-pub record Blocked (ia ib : List ℕ) (blocks : Blocks) : Type 0 where
-  pub most : rowsOf blocks ≤ 96
-  pub few : blocks .count ≤ rowsOf blocks
-  pub inside : (k : ℕ) → k < blocks .count → getD (blocks .starts) k 0 < rowsOf blocks
-  pub ends : (k : ℕ) → k < blocks .count → getD (blocks .starts) (k + 1) 0 ≤ rowsOf blocks
-  pub rising : (k : ℕ) → k < blocks .count → getD (blocks .starts) k 0 ≤ getD (blocks .starts) (k + 1) 0
-  pub a-there : (k : ℕ) → k < rowsOf blocks → getD ia k 0 < 16
-  pub b-there : (k : ℕ) → k < rowsOf blocks → getD ib k 0 < 16
-
--- an edge: no block, or one below m
-pub record Linked (m x : ℕ) : Type 0 where
-  pub low : x ≤ none
-  pub block : min (suc x - m) (none - x) ≡ 0
-
-pub record Linking (m : ℕ) (edges : List ℕ) : Type 0 where
-  pub size : length edges ≡ 32
-  pub each : (i : ℕ) → i < 32 → Linked m (getD edges i 0)
-
--- how many rows the blocks before k have that were not visited
-unfoldable pub room : Blocks → List Bool → ℕ → ℕ
-room blocks visited zero = 0
-room blocks visited (suc k) = room blocks visited k + cond (getD visited k false) 0 (sizeOf blocks k)
-
 abbrev pub orderOf : Order → List ℕ
 orderOf order = listAt (order .rows) (order .count)
-
-abbrev pub seenOf : Order → List Bool → Seen
-seenOf order visited = record { order = orderOf order; visited = visited }
-
--- what an order lists are rows below n; behind them its table is 0
-pub record Listed (order : Order) (n : ℕ) : Type 0 where
-  pub size : length (order .rows) ≡ 96
-  pub rows : (i : ℕ) → i < order .count → getD (order .rows) i 0 < n
-  pub blank : (i : ℕ) → order .count ≤ i → i < 96 → getD (order .rows) i 0 ≡ 0
-
--- an order and what was visited: there is room for the rows of all other blocks
-pub record Free (blocks : Blocks) (order : Order) (visited : List Bool) : Type 0 where
-  pub size : length visited ≡ 96
-  pub left : order .count + room blocks visited (blocks .count) ≤ 96
-  pub listed : Listed order (rowsOf blocks)
 
 -- the first n of an order are rows below n
 abbrev pub Along : List ℕ → ℕ → Type 0

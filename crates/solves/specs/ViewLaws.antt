@@ -16,7 +16,8 @@ use Rattle.solves.specs.declared.places.MassResponse.{MassResponse}
 use Rattle.solves.specs.declared.Table.{Table}
 use Rattle.solves.specs.Region.{Filled}
 use Rattle.solves.specs.Solver.{noShare, noRow, noGeneralized, noMass, rowIn, generalizedIn, massIn}
-use Rattle.solves.specs.View.{rowOn, rowsOn, generalizedAt, generalizedsAt, massAt, massesAt, systemOn, Beside, Moves, Passing, Testing, Refining, Work, Tables, ROWS, RHS, ROWS-MOST, BODIES-MOST, MASSES, SOLUTION}
+use Rattle.solves.specs.View.{rowOn, rowsOn, generalizedAt, generalizedsAt, massAt, massesAt, systemOn, Beside, Moves, Passing, Testing}
+use Rattle.solves.specs.View.{Refining, Work, Tables, ROWS, RHS, ROWS-MOST, BODIES-MOST, MASSES, SOLUTION}
 use Rattle.solves.specs.View.{RESIDUAL, DIRECTION, PRODUCT, DIAGONAL, NORMAL, GENERALIZED, PATH-BAND, PATH-SCALE, PATH-RHS, VECTOR, SHARES, BAND, END}
 
 -- views that a write keeps, and elements of them
@@ -42,7 +43,8 @@ module _ {P : ℕ → Type 0} {s t : List Float} (kept : Kept P s t) where
   pub kept-masses : (off m : ℕ) → Over P off (10 * m) → massesAt t off m ≡ massesAt s off m
   kept-masses off m w = tab-ext m λ i h. kept-mass off i (λ k a b. w k (omega arith) (omega arith))
 
-  pub row-in : (ia ib : List ℕ) (off n k : ℕ) {row : EqualityRow} → Over P off (14 * n) → k < n → row ≡ rowOn ia ib t off k → row ≡ rowIn (rowsOn ia ib s off n) k
+  pub row-in : (ia ib : List ℕ) (off n k : ℕ) {row : EqualityRow} → Over P off (14 * n) → k < n → row ≡ rowOn ia ib t off k
+      → row ≡ rowIn (rowsOn ia ib s off n) k
   row-in ia ib off n k w h e = e ∙ sym (tab-at n (rowOn ia ib t off) noRow k h) ∙ ap (λ (l : List EqualityRow). rowIn l k) (kept-rows ia ib off n w)
 
   pub share-in : (off m i : ℕ) {g : Generalized} → Over P (off + 6 * i) 6 → i < m → g ≡ generalizedAt t off i → g ≡ generalizedIn (generalizedsAt s off m) i
@@ -55,7 +57,8 @@ module _ {P : ℕ → Type 0} {s t : List Float} (kept : Kept P s t) where
 pub shares-set : {s t : List Float} (off m i : ℕ) {g : Generalized} → i < m → (Kept (λ j. Out (off + 6 * i) 6 j) s t) × (generalizedAt t off i ≡ g)
     → set (generalizedsAt s off m) i g ≡ generalizedsAt t off m
 shares-set {s} {t} off m i {g} h e =
-    ap (set (generalizedsAt s off m) i) (sym (e .1)) ∙ tab-set m (generalizedAt s off) (generalizedAt t off) g i h λ k l r. kept-share (e .0) off k (λ x y z. omega arith)
+    ap (set (generalizedsAt s off m) i) (sym (e .1))
+    ∙ tab-set m (generalizedAt s off) (generalizedAt t off) g i h λ k l r. kept-share (e .0) off k (λ x y z. omega arith)
 
 pub shares-more : {s t : List Float} (off k : ℕ) {g : Generalized} → (Kept (λ j. Out (off + 6 * k) 6 j) s t) × (generalizedAt t off k ≡ g)
     → generalizedsAt t off (k + 1) ≡ generalizedsAt s off k ++ (g ∷ [])
@@ -78,8 +81,18 @@ shares-none {s} {t} off m e = sym (is-tab m (generalizedAt t off) noShare (repli
 
     share : (k : ℕ) → k < m → generalizedAt t off k ≡ noShare
     share k h = λ j. record {
-      linear = record { x = zeroed k (off + 6 * k) h (omega arith) (omega arith) j; y = zeroed k (off + 6 * k + 1) h (omega arith) (omega arith) j; z = zeroed k (off + 6 * k + 2) h (omega arith) (omega arith) j };
-      angular = record { x = zeroed k (off + 6 * k + 3) h (omega arith) (omega arith) j; y = zeroed k (off + 6 * k + 3 + 1) h (omega arith) (omega arith) j; z = zeroed k (off + 6 * k + 3 + 2) h (omega arith) (omega arith) j };
+      linear =
+          record {
+            x = zeroed k (off + 6 * k) h (omega arith) (omega arith) j;
+            y = zeroed k (off + 6 * k + 1) h (omega arith) (omega arith) j;
+            z = zeroed k (off + 6 * k + 2) h (omega arith) (omega arith) j;
+          };
+      angular =
+          record {
+            x = zeroed k (off + 6 * k + 3) h (omega arith) (omega arith) j;
+            y = zeroed k (off + 6 * k + 3 + 1) h (omega arith) (omega arith) j;
+            z = zeroed k (off + 6 * k + 3 + 2) h (omega arith) (omega arith) j;
+          };
     }
 
 -- ---- frames within frames

@@ -33,7 +33,8 @@ ghost use lib.ListN.{length};
 ghost use Rattle.solves.specs.Solver.{within, diagonalOf, prepare as prepareOf, trueResidual, scaledSquare, nextDirection, advance as advanceOf};
 ghost use Rattle.solves.specs.Search.{settle as settleOf, gradientPass, gradients as gradientsOf};
 ghost use Rattle.solves.specs.Answer.{ranAs, testAs, preparedAs, trueAs, searchAs, Solves};
-ghost use Rattle.solves.specs.Region.{came, left, vecAt, Does};
+ghost use Rattle.solves.specs.Lent.{came, left};
+ghost use Rattle.solves.specs.Region.{vecAt, Does};
 ghost use Rattle.solves.specs.View.{searchAt, systemIn, rhsOn, diagonalOn, solutionOn, residualOn, searchOn, Ready, Passing, Preparing, Testing, Beside};
 ghost use Rattle.solves.specs.View.{ROWS-MOST, RESIDUAL, DIRECTION, DIAGONAL, END};
 
@@ -109,7 +110,8 @@ fn scaled_square(s: &[f64], n: usize) -> f64
 
 fn next_direction(s: &mut [f64], beta: f64, n: usize)
     requires { ⌜ (END ≤ length (now s)) × (n ≤ ROWS-MOST) ⌝ }
-    ensures { λ _. ⌜ Does (Beside DIRECTION) (came s) (left s) (vecAt (left s) DIRECTION n) (nextDirection (vecAt (came s) RESIDUAL n) (vecAt (came s) DIAGONAL n) beta (vecAt (came s) DIRECTION n)) ⌝ }
+    ensures { λ _. ⌜ Does (Beside DIRECTION) (came s) (left s) (vecAt (left s) DIRECTION n)
+        (nextDirection (vecAt (came s) RESIDUAL n) (vecAt (came s) DIAGONAL n) beta (vecAt (came s) DIRECTION n)) ⌝ }
 {
     for k in 0..n {
         s[DIRECTION + k] = s[RESIDUAL + k] / s[DIAGONAL + k] + beta * s[DIRECTION + k];
@@ -117,9 +119,16 @@ fn next_direction(s: &mut [f64], beta: f64, n: usize)
 }
 
 // Recomputes the residual, to prevent a success of the recurrence only. Over where it is within the tolerance still.
-fn true_residual(s: &mut [f64], ia: &[usize; 96], ib: &[usize; 96], t: Table, tolerance: f64) -> Pass
+fn true_residual(
+    s: &mut [f64],
+    ia: &[usize; 96],
+    ib: &[usize; 96],
+    t: Table,
+    tolerance: f64,
+) -> Pass
     requires { ⌜ Ready s ia ib t ⌝ }
-    ensures { λ r. ⌜ Does Testing (came s) (left s) (trueAs r (vecAt (left s) RESIDUAL (t .rows))) (trueResidual (systemIn s ia ib t) (rhsOn s t) tolerance (solutionOn s t) (residualOn s t)) ⌝ }
+    ensures { λ r. ⌜ Does Testing (came s) (left s) (trueAs r (vecAt (left s) RESIDUAL (t .rows)))
+        (trueResidual (systemIn s ia ib t) (rhsOn s t) tolerance (solutionOn s t) (residualOn s t)) ⌝ }
 {
     let n = t.rows;
     let Pass::Over(near) = residual_test(s, n, tolerance) else {
@@ -171,7 +180,8 @@ fn settle(
     rho: f64,
 ) -> Next
     requires { ⌜ Ready s ia ib t ⌝ }
-    ensures { λ r. ⌜ Does Passing (came s) (left s) (searchAs r (left s) (t .rows)) (settleOf (systemIn s ia ib t) (rhsOn s t) (diagonalOn s t) tolerance (searchOn s t rho)) ⌝ }
+    ensures { λ r. ⌜ Does Passing (came s) (left s) (searchAs r (left s) (t .rows))
+        (settleOf (systemIn s ia ib t) (rhsOn s t) (diagonalOn s t) tolerance (searchOn s t rho)) ⌝ }
 {
     let n = t.rows;
     if let Pass::Over(end) = true_residual(s, ia, ib, t, tolerance) {
@@ -191,7 +201,8 @@ pub(crate) fn gradient_pass(
     rho: f64,
 ) -> Next
     requires { ⌜ Ready s ia ib t ⌝ }
-    ensures { λ r. ⌜ Does Passing (came s) (left s) (searchAs r (left s) (t .rows)) (gradientPass (systemIn s ia ib t) (rhsOn s t) (diagonalOn s t) tolerance (searchOn s t rho)) ⌝ }
+    ensures { λ r. ⌜ Does Passing (came s) (left s) (searchAs r (left s) (t .rows))
+        (gradientPass (systemIn s ia ib t) (rhsOn s t) (diagonalOn s t) tolerance (searchOn s t rho)) ⌝ }
 {
     if let Pass::Over(end) = residual_test(s, t.rows, tolerance) {
         return Next::Over(end);

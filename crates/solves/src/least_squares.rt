@@ -22,7 +22,8 @@ use crate::values::sub_scaled;
 use arith::root::sqrt;
 ghost use Rattle.solves.specs.Search.{leastPass, leastSquares};
 ghost use Rattle.solves.specs.Answer.{searchAs, Solves};
-ghost use Rattle.solves.specs.Region.{came, left, Does};
+ghost use Rattle.solves.specs.Lent.{came, left};
+ghost use Rattle.solves.specs.Region.{Does};
 ghost use Rattle.solves.specs.View.{systemIn, rhsOn, solutionOn, residualOn, searchOn, Ready, Passing};
 
 pub(crate) fn least_pass(

@@ -22,7 +22,8 @@ ghost use mathlib.Core.Path.{_≡_};
 ghost use Prim.Native.Nat.{_+_, _≤_, _<_};
 ghost use lib.ListN.{length};
 ghost use Rattle.solves.specs.Answer.{sumAs, shareAs, ranAs, Pushes};
-ghost use Rattle.solves.specs.Region.{came, left, vecAt, Does};
+ghost use Rattle.solves.specs.Lent.{came, left};
+ghost use Rattle.solves.specs.Region.{vecAt, Does};
 ghost use Rattle.solves.specs.Solver.{sumProducts, dot as dotOf, toleranceFor, pushInto, pushRow, transpose as transposeOf};
 ghost use Rattle.solves.specs.Checked.{added, allFinite, checked, checkedThen};
 ghost use Rattle.solves.specs.Solver.{scaled as scaledOf, scaleAll, rate as rateOf, rates as ratesOf, operator as operatorOf};
@@ -158,7 +159,8 @@ fn scaled(value: Generalized, mass: MassResponse) -> Share
 
 fn scale_all(s: &mut [f64], bodies: usize) -> End
     requires { ⌜ (END ≤ length (now s)) × (bodies ≤ BODIES-MOST) ⌝ }
-    ensures { λ r. ⌜ Does Shares (came s) (left s) (ranAs r (sharesIn (left s) bodies)) (scaleAll (sharesIn (came s) bodies) (massesAt (came s) MASSES bodies) bodies) ⌝ }
+    ensures { λ r. ⌜ Does Shares (came s) (left s) (ranAs r (sharesIn (left s) bodies))
+        (scaleAll (sharesIn (came s) bodies) (massesAt (came s) MASSES bodies) bodies) ⌝ }
 {
     for k in 0..bodies {
         let value = load_generalized(s, GENERALIZED, k);
@@ -184,7 +186,8 @@ fn rate(row: EqualityRow, a: Generalized, b: Generalized) -> f64
 
 fn rates(s: &mut [f64], ia: &[usize; 96], ib: &[usize; 96], t: Table, out: usize) -> End
     requires { ⌜ (Ready s ia ib t) × (Place (now s) out) ⌝ }
-    ensures { λ r. ⌜ Does (Beside out) (came s) (left s) (ranAs r (vecAt (left s) out (t .rows))) (ratesOf (systemIn s ia ib t .rows) (t .rows) (sharesIn (came s) (t .bodies))) ⌝ }
+    ensures { λ r. ⌜ Does (Beside out) (came s) (left s) (ranAs r (vecAt (left s) out (t .rows)))
+        (ratesOf (systemIn s ia ib t .rows) (t .rows) (sharesIn (came s) (t .bodies))) ⌝ }
 {
     let n = t.rows;
     for k in 0..n {
@@ -210,7 +213,8 @@ pub(crate) fn operator(
     out: usize,
 ) -> End
     requires { ⌜ (Ready s ia ib t) × (Place (now s) input) × (Place (now s) out) ⌝ }
-    ensures { λ r. ⌜ Does (Moves out) (came s) (left s) (ranAs r (vecAt (left s) out (t .rows))) (operatorOf (systemIn s ia ib t) (vecAt (came s) input (t .rows))) ⌝ }
+    ensures { λ r. ⌜ Does (Moves out) (came s) (left s) (ranAs r (vecAt (left s) out (t .rows)))
+        (operatorOf (systemIn s ia ib t) (vecAt (came s) input (t .rows))) ⌝ }
 {
     let pushed = transpose(s, ia, ib, t, input);
     if !done(pushed) {

@@ -34,21 +34,17 @@ ghost use Rattle.arith.specs.Flow.{loop};
 ghost use Rattle.arith.specs.Run.{upTo};
 ghost use Rattle.rows.specs.Fault.{nonConvergent};
 ghost use Rattle.rows.specs.View.{Out};
-ghost use Rattle.solves.specs.Path.{begins as beginsOf, pathStarts, addEdge, blockEdges, neighbor as neighborOf, follows as followsOf, nextBlock, run, walk as walkOf, walkFrom, isEnd, pathWalks, pathOrder, pathScale, reduced as reducedOf, pathEntry, pathRow, pathFactor, pathFactored, forwardSum, forward as forwardOf, backwardSum, backward as backwardOf, refine as refineOf};
+ghost use Rattle.solves.specs.Path.{begins as beginsOf, addEdge, neighbor as neighborOf, follows as followsOf, nextBlock, pathOrder, pathScale, reduced as reducedOf, pathEntry, pathRow, pathFactor, pathFactored, forwardSum, forward as forwardOf, backwardSum, backward as backwardOf, refine as refineOf};
+ghost use Rattle.solves.specs.Answer.{ranAs, partAs, edgesAs, orderAs, Solves};
+ghost use Rattle.solves.specs.Lent.{came, left};
+ghost use Rattle.solves.specs.PathView.{Bodies, blocksAt, rowsOf, Blocked, Parted, Linking, orderAt, seenOf, Listed, Appended, Free, edgesOn, walkOn, endOn, fromOn, walksOn, Walks, Orders};
+ghost use Rattle.solves.specs.Region.{vecAt, Does};
+ghost use Rattle.solves.specs.View.{rowsOn, massesAt, listAt, Along, Blank, noPath, bandAt, factorAt, refinedAt, Refining, Factoring, Rows, MASSES, SOLUTION, RESIDUAL, PATH-BAND, PATH-SCALE, PATH-RHS, END};
 ghost use Rattle.solves.specs.Search.{refinement, pathAlong};
-ghost use Rattle.solves.specs.Answer.{ranAs, partAs, edgesAs, seenAs, orderAs, orderIn, Solves};
-ghost use Rattle.solves.specs.Region.{came, left, vecAt, Does};
-ghost use Rattle.solves.specs.View.{rowsOn, massesAt, listAt, startsOf, rowsOf, Blocked, Linking, Free, orderOf, seenOf, Listed, Along, Blank, noPath, bandAt, factorAt, refinedAt, Refining, Factoring, Rows, MASSES, SOLUTION, RESIDUAL, PATH-BAND, PATH-SCALE, PATH-RHS, END};
 ghost use Rattle.solves.specs.View.{systemIn, rhsOn, solutionOn, orderOn, Ready};
 
 // No block: the Rust's `usize::MAX`. There are at most 96 blocks.
 const NONE: usize = 96;
-
-// Runs of rows on one pair of bodies: block k is the rows from `starts[k]` to before `starts[k + 1]`.
-pub(crate) struct Blocks {
-    pub starts: [usize; 97],
-    pub count: usize,
-}
 
 // The rows in the order of the path, and how many there are.
 pub(crate) struct Order {
@@ -61,23 +57,29 @@ pub(crate) struct PathOrder {
     pub order: Order,
 }
 
-fn path_blocks(ia: &[usize; 96], ib: &[usize; 96], n: usize) -> Blocks
-    requires { ⌜ (n ≤ 96) × ((k : ℕ) → k < n → getD (now ia) k 0 < 16) × ((k : ℕ) → k < n → getD (now ib) k 0 < 16) ⌝ }
-    ensures { λ r. ⌜ (Blocked (now (ia .entry)) (now (ib .entry)) r) × (rowsOf r ≡ n) × (startsOf r ≡ pathStarts (listAt (now (ia .entry)) n) (listAt (now (ib .entry)) n) n) ⌝ }
+// Whether a walk came to an end of the path, and how many rows stand in order then.
+pub(crate) struct Walked {
+    pub found: bool,
+    pub listed: usize,
+}
+
+// How many runs of rows on one pair of bodies there are: block k is the rows from `starts[k]` to before `starts[k + 1]`.
+fn path_blocks(ia: &[usize; 96], ib: &[usize; 96], n: usize, starts: &mut [usize; 97]) -> usize
+    requires { ⌜ (n ≤ 96) × (Bodies (now ia) n) × (Bodies (now ib) n) × (length (now starts) ≡ 97) ⌝ }
+    ensures { λ r. ⌜ Parted (came ia) (came ib) n (came starts) (left starts) r ⌝ }
 {
-    let mut starts = [0usize; 97];
-    let mut count = 0;
+    let mut blocks = 0;
     for i in 0..n {
-        count = note_start(ia, ib, &mut starts, count, i);
+        blocks = note_start(ia, ib, starts, blocks, i);
     }
-    starts[count] = n;
-    Blocks { starts, count }
+    starts[blocks] = n;
+    blocks
 }
 
 // Whether row i joins another pair than the row before it.
 fn begins(ia: &[usize; 96], ib: &[usize; 96], i: usize) -> bool
     requires { ⌜ i < 96 ⌝ }
-    ensures { λ r. ⌜ r ≡ beginsOf (now (ia .entry)) (now (ib .entry)) i ⌝ }
+    ensures { λ r. ⌜ r ≡ beginsOf (came ia) (came ib) i ⌝ }
 {
     if i == 0 {
         return true;
@@ -95,23 +97,25 @@ fn note_start(
     ia: &[usize; 96],
     ib: &[usize; 96],
     starts: &mut [usize; 97],
-    count: usize,
+    blocks: usize,
     i: usize,
 ) -> usize
-    requires { ⌜ (i < 96) × (count < 97) ⌝ }
-    ensures { λ r. ⌜ (r ≡ cond (beginsOf (now (ia .entry)) (now (ib .entry)) i) (count + 1) count) × (now (starts .exit) ≡ cond (beginsOf (now (ia .entry)) (now (ib .entry)) i) (set (now (starts .entry)) count i) (now (starts .entry))) ⌝ }
+    requires { ⌜ (i < 96) × (blocks < 97) ⌝ }
+    ensures { λ r. ⌜
+        (r ≡ cond (beginsOf (came ia) (came ib) i) (blocks + 1) blocks)
+        × (left starts ≡ cond (beginsOf (came ia) (came ib) i) (set (came starts) blocks i) (came starts)) ⌝ }
 {
     if begins(ia, ib, i) {
-        starts[count] = i;
-        return count + 1;
+        starts[blocks] = i;
+        return blocks + 1;
     }
-    count
+    blocks
 }
 
 // Notes a block on a body, which has room for two.
 fn add_edge(edges: &mut [usize; 32], body: usize, block: usize) -> bool
     requires { ⌜ body < 16 ⌝ }
-    ensures { λ r. ⌜ edgesAs r (now (edges .exit)) ≡ addEdge body block (now (edges .entry)) ⌝ }
+    ensures { λ r. ⌜ edgesAs r (left edges) ≡ addEdge body block (came edges) ⌝ }
 {
     if edges[2 * body] == NONE {
         edges[2 * body] = block;
@@ -124,13 +128,20 @@ fn add_edge(edges: &mut [usize; 32], body: usize, block: usize) -> bool
     false
 }
 
-fn path_edges(ia: &[usize; 96], ib: &[usize; 96], blocks: Blocks, edges: &mut [usize; 32]) -> bool
-    requires { ⌜ (Blocked (now ia) (now ib) blocks) × (Linking (blocks .count) (now edges)) ⌝ }
-    ensures { λ r. ⌜ (edgesAs r (now (edges .exit)) ≡ loop (blocks .count) (blockEdges (listAt (now (ia .entry)) (rowsOf blocks)) (listAt (now (ib .entry)) (rowsOf blocks)) (startsOf blocks)) (now (edges .entry))) × (r ≡ true → Linking (blocks .count) (now (edges .exit))) ⌝ }
+fn path_edges(
+    ia: &[usize; 96],
+    ib: &[usize; 96],
+    starts: &[usize; 97],
+    blocks: usize,
+    edges: &mut [usize; 32],
+) -> bool
+    requires { ⌜ (Blocked (now ia) (now ib) (blocksAt (now starts) blocks)) × (Linking blocks (now edges)) ⌝ }
+    ensures { λ r. ⌜
+        (edgesAs r (left edges) ≡ loop blocks (edgesOn (came ia) (came ib) (blocksAt (came starts) blocks)) (came edges))
+        × (r ≡ true → Linking blocks (left edges)) ⌝ }
 {
-    let count = blocks.count;
-    for k in 0..count {
-        let row = blocks.starts[k];
+    for k in 0..blocks {
+        let row = starts[k];
         if !add_edge(edges, ia[row], k) {
             return false;
         }
@@ -144,7 +155,7 @@ fn path_edges(ia: &[usize; 96], ib: &[usize; 96], blocks: Blocks, edges: &mut [u
 // The other block of a body.
 fn neighbor(edges: &[usize; 32], body: usize, block: usize) -> usize
     requires { ⌜ body < 16 ⌝ }
-    ensures { λ r. ⌜ r ≡ neighborOf (now (edges .entry)) body block ⌝ }
+    ensures { λ r. ⌜ r ≡ neighborOf (came edges) body block ⌝ }
 {
     if edges[2 * body] == block {
         return edges[2 * body + 1];
@@ -175,61 +186,70 @@ fn next_block(a: usize, b: usize, previous: usize) -> usize
     NONE
 }
 
-// The rows of a block at the end of the order.
-fn append(order: Order, from: usize, to: usize) -> Order
-    requires { ⌜ (from ≤ to) × (to ≤ 96) × (order .count + (to - from) ≤ 96) × (length (order .rows) ≡ 96) ⌝ }
-    ensures { λ r. ⌜ (r .count ≡ order .count + (to - from)) × (orderOf r ≡ orderOf order ++ run from to) × ((n : ℕ) → to ≤ n → Listed order n → Listed r n) ⌝ }
+// The rows of a block at the end of the order, and how many stand there then.
+fn append(rows: &mut [usize; 96], listed: usize, from: usize, to: usize) -> usize
+    requires { ⌜ (from ≤ to) × (to ≤ 96) × (listed + (to - from) ≤ 96) × (length (now rows) ≡ 96) ⌝ }
+    ensures { λ r. ⌜ Appended (orderAt (came rows) listed) from to to (orderAt (left rows) r) ⌝ }
 {
-    let mut out = order;
+    let mut count = listed;
     for i in from..to {
-        let at = out.count;
-        out.rows[at] = i;
-        out.count = at + 1;
+        rows[count] = i;
+        count += 1;
     }
-    out
+    count
 }
 
-// Follows the blocks from `first` to the other end.
+// Follows the blocks from `first` to the other end. The order is lent, so that no table is copied from call to call.
 fn walk(
     ia: &[usize; 96],
     ib: &[usize; 96],
-    blocks: Blocks,
+    starts: &[usize; 97],
+    blocks: usize,
     edges: &[usize; 32],
     visited: &mut [bool; 96],
     first: usize,
-    start: Order,
-) -> PathOrder
-    requires { ⌜ (Blocked (now ia) (now ib) blocks) × (Linking (blocks .count) (now edges)) × (first < blocks .count) × (Free blocks start (now visited)) ⌝ }
-    ensures { λ r. ⌜ (seenAs r (now (visited .exit)) ≡ walkOf (listAt (now (ia .entry)) (rowsOf blocks)) (listAt (now (ib .entry)) (rowsOf blocks)) (rowsOf blocks) (startsOf blocks) (now (edges .entry)) first (seenOf start (now (visited .entry)))) × (r .found ≡ true → Free blocks (r .order) (now (visited .exit))) ⌝ }
+    rows: &mut [usize; 96],
+    listed: usize,
+) -> Walked
+    requires { ⌜
+        (Blocked (now ia) (now ib) (blocksAt (now starts) blocks))
+        × (Linking blocks (now edges))
+        × (first < blocks)
+        × (Free (blocksAt (now starts) blocks) (orderAt (now rows) listed) (now visited)) ⌝ }
+    ensures { λ r. ⌜
+        Walks (blocksAt (came starts) blocks) (r .found) (orderAt (left rows) (r .listed)) (left visited)
+        (walkOn (came ia) (came ib) (blocksAt (came starts) blocks) (came edges) first (seenOf (orderAt (came rows) listed) (came visited))) ⌝ }
 {
-    let mut order = start;
+    let mut count = listed;
     let mut current = first;
     let mut previous = NONE;
-    let most = blocks.count;
-    for k in 0..most {
+    for k in 0..blocks {
         if visited[current] {
-            return PathOrder {
+            return Walked {
                 found: false,
-                order,
+                listed: count,
             };
         }
         visited[current] = true;
-        let row = blocks.starts[current];
-        order = append(order, row, blocks.starts[current + 1]);
+        let row = starts[current];
+        count = append(rows, count, row, starts[current + 1]);
         let next = next_block(
             neighbor(edges, ia[row], current),
             neighbor(edges, ib[row], current),
             previous,
         );
         if next == NONE {
-            return PathOrder { found: true, order };
+            return Walked {
+                found: true,
+                listed: count,
+            };
         }
         previous = current;
         current = next;
     }
-    PathOrder {
+    Walked {
         found: false,
-        order,
+        listed: count,
     }
 }
 
@@ -237,18 +257,22 @@ fn walk(
 fn is_end(
     ia: &[usize; 96],
     ib: &[usize; 96],
-    blocks: Blocks,
+    starts: &[usize; 97],
+    blocks: usize,
     edges: &[usize; 32],
     visited: &[bool; 96],
     block: usize,
 ) -> bool
-    requires { ⌜ (Blocked (now ia) (now ib) blocks) × (Linking (blocks .count) (now edges)) × (block < blocks .count) ⌝ }
-    ensures { λ r. ⌜ r ≡ isEnd (listAt (now (ia .entry)) (rowsOf blocks)) (listAt (now (ib .entry)) (rowsOf blocks)) (rowsOf blocks) (startsOf blocks) (now (edges .entry)) (now (visited .entry)) block ⌝ }
+    requires { ⌜
+        (Blocked (now ia) (now ib) (blocksAt (now starts) blocks))
+        × (Linking blocks (now edges))
+        × (block < blocks) ⌝ }
+    ensures { λ r. ⌜ r ≡ endOn (came ia) (came ib) (blocksAt (came starts) blocks) (came edges) (came visited) block ⌝ }
 {
     if visited[block] {
         return false;
     }
-    let row = blocks.starts[block];
+    let row = starts[block];
     if neighbor(edges, ia[row], block) == NONE {
         return true;
     }
@@ -259,42 +283,75 @@ fn is_end(
 fn walk_from(
     ia: &[usize; 96],
     ib: &[usize; 96],
-    blocks: Blocks,
+    starts: &[usize; 97],
+    blocks: usize,
     edges: &[usize; 32],
     visited: &mut [bool; 96],
     first: usize,
-    order: Order,
-) -> PathOrder
-    requires { ⌜ (Blocked (now ia) (now ib) blocks) × (Linking (blocks .count) (now edges)) × (first < blocks .count) × (Free blocks order (now visited)) ⌝ }
-    ensures { λ r. ⌜ (seenAs r (now (visited .exit)) ≡ walkFrom (listAt (now (ia .entry)) (rowsOf blocks)) (listAt (now (ib .entry)) (rowsOf blocks)) (rowsOf blocks) (startsOf blocks) (now (edges .entry)) first (seenOf order (now (visited .entry)))) × (r .found ≡ true → Free blocks (r .order) (now (visited .exit))) ⌝ }
+    rows: &mut [usize; 96],
+    listed: usize,
+) -> Walked
+    requires { ⌜
+        (Blocked (now ia) (now ib) (blocksAt (now starts) blocks))
+        × (Linking blocks (now edges))
+        × (first < blocks)
+        × (Free (blocksAt (now starts) blocks) (orderAt (now rows) listed) (now visited)) ⌝ }
+    ensures { λ r. ⌜
+        Walks (blocksAt (came starts) blocks) (r .found) (orderAt (left rows) (r .listed)) (left visited)
+        (fromOn (came ia) (came ib) (blocksAt (came starts) blocks) (came edges) first (seenOf (orderAt (came rows) listed) (came visited))) ⌝ }
 {
-    if is_end(ia, ib, blocks, edges, visited, first) {
-        return walk(ia, ib, blocks, edges, visited, first, order);
+    if is_end(ia, ib, starts, blocks, edges, visited, first) {
+        return walk(ia, ib, starts, blocks, edges, visited, first, rows, listed);
     }
-    PathOrder { found: true, order }
+    Walked {
+        found: true,
+        listed,
+    }
 }
 
-fn path_walks(ia: &[usize; 96], ib: &[usize; 96], blocks: Blocks, edges: &[usize; 32]) -> PathOrder
-    requires { ⌜ (Blocked (now ia) (now ib) blocks) × (Linking (blocks .count) (now edges)) ⌝ }
-    ensures { λ r. ⌜ (orderAs r ≡ orderIn (pathWalks (listAt (now (ia .entry)) (rowsOf blocks)) (listAt (now (ib .entry)) (rowsOf blocks)) (rowsOf blocks) (startsOf blocks) (now (edges .entry)))) × (r .found ≡ true → Listed (r .order) (rowsOf blocks)) ⌝ }
+// Walks from every end into `rows`, which comes blank.
+fn path_walks(
+    ia: &[usize; 96],
+    ib: &[usize; 96],
+    starts: &[usize; 97],
+    blocks: usize,
+    edges: &[usize; 32],
+    rows: &mut [usize; 96],
+) -> Walked
+    requires { ⌜
+        (Blocked (now ia) (now ib) (blocksAt (now starts) blocks))
+        × (Linking blocks (now edges))
+        × (Listed (orderAt (now rows) 0) (rowsOf (blocksAt (now starts) blocks))) ⌝ }
+    ensures { λ r. ⌜
+        Orders (blocksAt (came starts) blocks) (r .found) (orderAt (left rows) (r .listed))
+        (walksOn (came ia) (came ib) (blocksAt (came starts) blocks) (came edges)) ⌝ }
 {
     let mut visited = [false; 96];
-    let mut order = Order {
-        rows: [0usize; 96],
-        count: 0,
-    };
-    let count = blocks.count;
-    for first in 0..count {
-        let walked = walk_from(ia, ib, blocks, edges, &mut visited, first, order);
-        order = walked.order;
+    let mut listed = 0;
+    for first in 0..blocks {
+        let walked = walk_from(
+            ia,
+            ib,
+            starts,
+            blocks,
+            edges,
+            &mut visited,
+            first,
+            rows,
+            listed,
+        );
+        listed = walked.listed;
         if !walked.found {
-            return PathOrder {
+            return Walked {
                 found: false,
-                order,
+                listed,
             };
         }
     }
-    PathOrder { found: true, order }
+    Walked {
+        found: true,
+        listed,
+    }
 }
 
 fn no_path() -> PathOrder
@@ -311,21 +368,28 @@ fn no_path() -> PathOrder
 
 // The rows along the path, if the graph is one.
 pub(crate) fn path_order(ia: &[usize; 96], ib: &[usize; 96], n: usize) -> PathOrder
-    requires { ⌜ (n ≤ 96) × ((k : ℕ) → k < n → getD (now ia) k 0 < 16) × ((k : ℕ) → k < n → getD (now ib) k 0 < 16) ⌝ }
-    ensures { λ r. ⌜ (orderAs r ≡ pathOrder (listAt (now (ia .entry)) n) (listAt (now (ib .entry)) n) n) × (r .found ≡ true → (r .order .count ≡ n) × (Along (r .order .rows) n) × (Blank (r .order .rows) n)) × (r .found ≡ false → r ≡ noPath) ⌝ }
+    requires { ⌜ (n ≤ 96) × (Bodies (now ia) n) × (Bodies (now ib) n) ⌝ }
+    ensures { λ r. ⌜
+        (orderAs r ≡ pathOrder (listAt (came ia) n) (listAt (came ib) n) n)
+        × (r .found ≡ true → (r .order .count ≡ n) × (Along (r .order .rows) n) × (Blank (r .order .rows) n))
+        × (r .found ≡ false → r ≡ noPath) ⌝ }
 {
-    let blocks = path_blocks(ia, ib, n);
+    let mut starts = [0usize; 97];
+    let blocks = path_blocks(ia, ib, n, &mut starts);
     let mut edges = [NONE; 32];
-    if !path_edges(ia, ib, blocks, &mut edges) {
+    if !path_edges(ia, ib, &starts, blocks, &mut edges) {
         return no_path();
     }
-    let walked = path_walks(ia, ib, blocks, &edges);
+    let mut rows = [0usize; 96];
+    let walked = path_walks(ia, ib, &starts, blocks, &edges, &mut rows);
     if !walked.found {
         return no_path();
     }
-    let order = walked.order;
-    if order.count == n {
-        return walked;
+    if walked.listed == n {
+        return PathOrder {
+            found: true,
+            order: Order { rows, count: n },
+        };
     }
     no_path()
 }
@@ -545,7 +609,8 @@ fn path_factored(
 // One refinement, up to the new residual.
 fn refine(s: &mut [f64], ia: &[usize; 96], ib: &[usize; 96], t: Table, order: &[usize; 96]) -> End
     requires { ⌜ (Ready s ia ib t) × (Along (now order) (t .rows)) ⌝ }
-    ensures { λ r. ⌜ Does Refining (came s) (left s) (ranAs r (refinedAt (left s) (t .rows))) (refineOf (systemIn s ia ib t) (rhsOn s t) (orderOn order t) (factorAt (came s) (t .rows)) (refinedAt (came s) (t .rows))) ⌝ }
+    ensures { λ r. ⌜ Does Refining (came s) (left s) (ranAs r (refinedAt (left s) (t .rows)))
+        (refineOf (systemIn s ia ib t) (rhsOn s t) (orderOn order t) (factorAt (came s) (t .rows)) (refinedAt (came s) (t .rows))) ⌝ }
 {
     let n = t.rows;
     forward(s, order, n);
@@ -568,7 +633,8 @@ fn refinements(
     tolerance: f64,
 ) -> Ended
     requires { ⌜ (Ready s ia ib t) × (Along (now order) (t .rows)) ⌝ }
-    ensures { λ r. ⌜ Solves s ia ib t r (λ system. upTo 4 nonConvergent (refinement system (rhsOn s t) (orderOn order t) (factorAt (came s) (t .rows)) tolerance) (refinedAt (came s) (t .rows))) ⌝ }
+    ensures { λ r. ⌜ Solves s ia ib t r (λ system.
+        upTo 4 nonConvergent (refinement system (rhsOn s t) (orderOn order t) (factorAt (came s) (t .rows)) tolerance) (refinedAt (came s) (t .rows))) ⌝ }
 {
     for k in 0..4usize {
         let refined = refine(s, ia, ib, t, order);

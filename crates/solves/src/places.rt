@@ -9,7 +9,7 @@ ghost use mathlib.Core.Path.{_≡_};
 ghost use Prim.Native.Nat.{_+_, _*_, _≤_, _<_};
 ghost use lib.ListN.{length};
 ghost use Rattle.rows.specs.View.{vec3At, Out, Kept};
-ghost use Rattle.solves.specs.Region.{came, left};
+ghost use Rattle.solves.specs.Lent.{came, left};
 ghost use Rattle.solves.specs.View.{rowOn, generalizedAt, massAt, massOf};
 
 // A body's linear and angular share, as the rows push it: the Rust's `[Vec3; 2]`.

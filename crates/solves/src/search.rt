@@ -10,7 +10,8 @@ ghost use Prim.Native.Nat.{_≤_};
 ghost use Rattle.arith.specs.Run.{upTo};
 ghost use Rattle.rows.specs.Fault.{nonConvergent};
 ghost use Rattle.solves.specs.Answer.{searchAs, passOf, limitOf, Solves};
-ghost use Rattle.solves.specs.Region.{came, left, Does};
+ghost use Rattle.solves.specs.Lent.{came, left};
+ghost use Rattle.solves.specs.Region.{Does};
 ghost use Rattle.solves.specs.View.{systemIn, rhsOn, diagonalOn, searchOn, Ready, Passing, ROWS-MOST};
 
 pub(crate) enum Which {
@@ -39,7 +40,8 @@ fn search_pass(
     rho: f64,
 ) -> Next
     requires { ⌜ Ready s ia ib t ⌝ }
-    ensures { λ r. ⌜ Does Passing (came s) (left s) (searchAs r (left s) (t .rows)) (passOf which (systemIn s ia ib t) (rhsOn s t) (diagonalOn s t) tolerance (searchOn s t rho)) ⌝ }
+    ensures { λ r. ⌜ Does Passing (came s) (left s) (searchAs r (left s) (t .rows))
+        (passOf which (systemIn s ia ib t) (rhsOn s t) (diagonalOn s t) tolerance (searchOn s t rho)) ⌝ }
 {
     match which {
         Which::LeastSquares => least_pass(s, ia, ib, t, tolerance, rho),
@@ -58,7 +60,8 @@ pub(crate) fn search(
     start: f64,
 ) -> Ended
     requires { ⌜ Ready s ia ib t ⌝ }
-    ensures { λ r. ⌜ Solves s ia ib t r (λ system. upTo (limitOf which (t .rows)) nonConvergent (passOf which system (rhsOn s t) (diagonalOn s t) tolerance) (searchOn s t start)) ⌝ }
+    ensures { λ r. ⌜ Solves s ia ib t r (λ system.
+        upTo (limitOf which (t .rows)) nonConvergent (passOf which system (rhsOn s t) (diagonalOn s t) tolerance) (searchOn s t start)) ⌝ }
 {
     let most = limit(which, t.rows);
     let mut rho = start;

@@ -3,7 +3,8 @@ ghost use Prim.Native.Nat.{_+_, _≤_};
 ghost use lib.ListN.{length};
 ghost use Rattle.arith.specs.Real.{ratio};
 ghost use Rattle.solves.specs.Solver.{plus, minus, difference as differenceOf};
-ghost use Rattle.solves.specs.Region.{came, left, vecAt, Filled, Does};
+ghost use Rattle.solves.specs.Lent.{came, left};
+ghost use Rattle.solves.specs.Region.{vecAt, Filled, Does};
 ghost use Rattle.solves.specs.View.{Beside, Onto};
 
 pub fn clear(s: &mut [f64], off: usize, n: usize)

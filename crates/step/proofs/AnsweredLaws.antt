@@ -17,7 +17,8 @@ use Rattle.step.specs.Step.{Stepped, runOf, cleared, settled, solveOf}
 use Rattle.step.specs.Answered.{Answered}
 use Rattle.step.specs.MeetLaws.{answered}
 
-module _ (bodies : List Float) (joints : List Joint) (count : ℕ) (dt : Float) (scratch : List Float) {o : Outcome} {b : Bool} (e : o ≡ refusalOf bodies joints count dt (length scratch)) (f : b ≡ isAccepted o) where
+module _ (bodies : List Float) (joints : List Joint) (count : ℕ) (dt : Float) (scratch : List Float) {o : Outcome} {b : Bool}
+    (e : o ≡ refusalOf bodies joints count dt (length scratch)) (f : b ≡ isAccepted o) where
   abbrev left-alone : Outcome → Stepped
   left-alone o = record { outcome = o; nonlinear = 0; linear = 0; bodies = bodies; scratch = scratch }
 
@@ -25,7 +26,8 @@ module _ (bodies : List Float) (joints : List Joint) (count : ℕ) (dt : Float) 
   unfolding solveOf
   solve-refused h = ap left-alone e ∙ cond-no _ _ (sym (ap isAccepted e) ∙ sym f ∙ not-true b h)
 
-  solve-run : {s : Stepped} → not b ≡ false → s ≡ settled bodies (cleared scratch) (runOf (recordsOf bodies) joints count dt) → s ≡ solveOf bodies joints count dt scratch
+  solve-run : {s : Stepped} → not b ≡ false → s ≡ settled bodies (cleared scratch) (runOf (recordsOf bodies) joints count dt)
+      → s ≡ solveOf bodies joints count dt scratch
   unfolding solveOf
   solve-run h q = q ∙ cond-yes _ _ (sym (ap isAccepted e) ∙ sym f ∙ not-false b h)
 
@@ -36,6 +38,14 @@ module _ (bodies : List Float) (joints : List Joint) (count : ℕ) (dt : Float) 
   answered-refused h = answered bodies bodies joints count dt scratch scratch (record { outcome = o; nonlinear = 0; linear = 0 }) (solve-refused h)
 
   pub answered-run : (after left : List Float) (r : Report) → not b ≡ false
-      → record { outcome = r .outcome; nonlinear = r .nonlinear; linear = r .linear; bodies = after; scratch = left } ≡ settled bodies (cleared scratch) (runOf (recordsOf bodies) joints count dt)
+      → record {
+        outcome =
+            r .outcome;
+        nonlinear = r .nonlinear;
+        linear = r .linear;
+        bodies = after;
+        scratch = left;
+      } ≡ settled bodies (cleared scratch) (runOf
+      (recordsOf bodies) joints count dt)
       → Answered bodies after joints count dt scratch left r
   answered-run after left r h q = answered bodies after joints count dt scratch left r (solve-run h q)

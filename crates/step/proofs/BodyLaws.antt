@@ -21,23 +21,39 @@ use Rattle.step.specs.ViewLaws.{kept-quat, kept-mat, kept-state}
 use Rattle.step.specs.View.{colsOf, Moving, Fixed, movingAt, movingOf, fixedAt, fixedOf, bodyFrom, startBodyAt, candidateAt, heldOf, movedTo, Handed}
 
 -- loads
-pub mat-loaded : (s : List Float) (i : ℕ) {m : Mat3} {x y z : Vec3} → x ≡ vec3At s i → y ≡ vec3At s (i + 3) → z ≡ vec3At s (i + 6) → m ≡ fromCols x y z → m ≡ matAt s i
+pub mat-loaded : (s : List Float) (i : ℕ) {m : Mat3} {x y z : Vec3} → x ≡ vec3At s i → y ≡ vec3At s (i + 3) → z ≡ vec3At s (i + 6)
+    → m ≡ fromCols x y z → m ≡ matAt s i
 mat-loaded s i {m} {x} {y} {z} a b c e = e ∙ cols
   where
     cols : fromCols x y z ≡ matAt s i
     cols = λ j. fromCols (a j) (b j) (c j)
 
-pub state-loaded : (s : List Float) (i : ℕ) {o v w : Vec3} {q : Quat} → o ≡ vec3At s i → q ≡ quatAt s (i + 3) → v ≡ vec3At s (i + 7) → w ≡ vec3At s (i + 10)
+pub state-loaded : (s : List Float) (i : ℕ) {o v w : Vec3} {q : Quat} → o ≡ vec3At s i → q ≡ quatAt s (i + 3) → v ≡ vec3At s (i + 7)
+    → w ≡ vec3At s (i + 10)
     → record { origin = o; rotation = q; «linear_velocity» = v; «angular_velocity» = w } ≡ stateAt s i
 state-loaded s i a b c d = λ j. record { origin = a j; rotation = b j; «linear_velocity» = c j; «angular_velocity» = d j }
 
-pub record-loaded : (s : List Float) (i : ℕ) {o v w p : Vec3} {q : Quat} {m : Mat3} → o ≡ vec3At s i → q ≡ quatAt s (i + 3) → v ≡ vec3At s (i + 7) → w ≡ vec3At s (i + 10) → p ≡ vec3At s (i + 14) → m ≡ matAt s (i + 17)
-    → record { origin = o; rotation = q; «linear_velocity» = v; «angular_velocity» = w; mass = at s (i + 13); «center_of_mass» = p; inertia = m } ≡ recordFrom s i
-record-loaded s i a b c d e f = λ j. record { origin = a j; rotation = b j; «linear_velocity» = c j; «angular_velocity» = d j; mass = at s (i + 13); «center_of_mass» = e j; inertia = f j }
+pub record-loaded : (s : List Float) (i : ℕ) {o v w p : Vec3} {q : Quat} {m : Mat3} → o ≡ vec3At s i → q ≡ quatAt s (i + 3) → v ≡ vec3At s (i + 7)
+    → w ≡ vec3At s (i + 10) → p ≡ vec3At s (i + 14) → m ≡ matAt s (i + 17)
+    → record {
+      origin =
+          o;
+      rotation = q;
+      «linear_velocity» = v;
+      «angular_velocity» = w;
+      mass = at s (i + 13);
+      «center_of_mass» = p;
+      inertia = m;
+    } ≡ recordFrom s i
+record-loaded s i a b c d e f =
+    λ j.
+    record { origin = a j; rotation = b j; «linear_velocity» = c j; «angular_velocity» = d j; mass = at s (i + 13); «center_of_mass» = e j; inertia = f j }
 
-pub body-loaded : (s : List Float) (i k : ℕ) {o v w p : Vec3} {q : Quat} {m : Mat3} → o ≡ vec3At s i → q ≡ quatAt s (i + 3) → v ≡ vec3At s (i + 7) → w ≡ vec3At s (i + 10) → p ≡ vec3At s (k + 14) → m ≡ matAt s (k + 17)
+pub body-loaded : (s : List Float) (i k : ℕ) {o v w p : Vec3} {q : Quat} {m : Mat3} → o ≡ vec3At s i → q ≡ quatAt s (i + 3) → v ≡ vec3At s (i + 7)
+    → w ≡ vec3At s (i + 10) → p ≡ vec3At s (k + 14) → m ≡ matAt s (k + 17)
     → record { center = o; rotation = q; momentum = v; spin = w; mass = at s (k + 13); «center_of_mass» = p; «inverse_inertia» = m } ≡ bodyFrom s i k
-body-loaded s i k a b c d e f = λ j. record { center = a j; rotation = b j; momentum = c j; spin = d j; mass = at s (k + 13); «center_of_mass» = e j; «inverse_inertia» = f j }
+body-loaded s i k a b c d e f =
+    λ j. record { center = a j; rotation = b j; momentum = c j; spin = d j; mass = at s (k + 13); «center_of_mass» = e j; «inverse_inertia» = f j }
 
 -- stores
 abbrev pub Stored3 : ℕ → Vec3 → List Float → List Float → Type 0
@@ -46,7 +62,8 @@ Stored3 i v s t = (Kept (λ j. Out i 3 j) s t) × (vec3At t i ≡ v)
 abbrev pub Stored4 : ℕ → Quat → List Float → List Float → Type 0
 Stored4 i q s t = (Kept (λ j. Out i 4 j) s t) × (quatAt t i ≡ q)
 
-pub stored4 : (s : List Float) (i : ℕ) (q : Quat) → i + 4 ≤ length s → Stored4 i q s (set (set (set (set s i (q .x)) (i + 1) (q .y)) (i + 2) (q .z)) (i + 3) (q .w))
+pub stored4 : (s : List Float) (i : ℕ) (q : Quat) → i + 4 ≤ length s
+    → Stored4 i q s (set (set (set (set s i (q .x)) (i + 1) (q .y)) (i + 2) (q .z)) (i + 3) (q .w))
 stored4 s i q h =
     let s₁ = set s i (q .x) in
     let s₂ = set s₁ (i + 1) (q .y) in
@@ -81,12 +98,17 @@ stored-mat {s} {t} {u} {w} i m x y z ea eb ec = (
     second : vec3At w (i + 3) ≡ columnOf m 1
     second = kept-vec3 (z .0) (i + 3) (λ k h l. omega arith) ∙ y .1 ∙ eb
 
-module _ {s t u v w : List Float} (i : ℕ) {a c d : Vec3} {b : Quat} (one : Stored3 i a s t) (two : Stored4 (i + 3) b t u) (three : Stored3 (i + 7) c u v) (four : Stored3 (i + 10) d v w) where
+module _ {s t u v w : List Float} (i : ℕ) {a c d : Vec3} {b : Quat} (one : Stored3 i a s t) (two : Stored4 (i + 3) b t u)
+    (three : Stored3 (i + 7) c u v) (four : Stored3 (i + 10) d v w) where
   moves : Kept (λ j. Out i 13 j) s w
-  moves = kept-then (kept-then (kept-then (kept-more (one .0) (λ j q. omega arith)) (two .0) (λ j q. omega arith)) (three .0) (λ j q. omega arith)) (four .0) (λ j q. omega arith)
+  moves =
+      kept-then (kept-then (kept-then (kept-more (one .0) (λ j q. omega arith)) (two .0) (λ j q. omega arith)) (three .0) (λ j q. omega arith))
+      (four .0) (λ j q. omega arith)
 
   ea : vec3At w i ≡ a
-  ea = kept-vec3 (four .0) i (λ k h l. omega arith) ∙ kept-vec3 (three .0) i (λ k h l. omega arith) ∙ kept-vec3 (two .0) i (λ k h l. omega arith) ∙ one .1
+  ea =
+      kept-vec3 (four .0) i (λ k h l. omega arith) ∙ kept-vec3 (three .0) i (λ k h l. omega arith) ∙ kept-vec3 (two .0) i (λ k h l. omega arith) ∙
+      one .1
 
   eb : quatAt w (i + 3) ≡ b
   eb = kept-quat (four .0) (i + 3) (λ k h l. omega arith) ∙ kept-quat (three .0) (i + 3) (λ k h l. omega arith) ∙ two .1
@@ -160,7 +182,8 @@ stored-candidate {s} {t} k body h x = (
 pub handed-none : (s bodies : List Float) → Handed 0 s bodies bodies
 handed-none s bodies = record { kept = kept-refl _ bodies; there = λ k h. absurd (omega arith) }
 
-pub handed-more : {k : ℕ} {s b t u : List Float} {state : BodyState} → Handed k s b t → (Kept (λ j. Out (26 * k) 13 j) t u) × (stateAt u (26 * k) ≡ state) → state ≡ stateAt s (CANDIDATE + 13 * k) → Handed (k + 1) s b u
+pub handed-more : {k : ℕ} {s b t u : List Float} {state : BodyState} → Handed k s b t
+    → (Kept (λ j. Out (26 * k) 13 j) t u) × (stateAt u (26 * k) ≡ state) → state ≡ stateAt s (CANDIDATE + 13 * k) → Handed (k + 1) s b u
 handed-more {k} {s} {b} {t} {u} {state} h x e = record {
   kept = kept-then (kept-more (h .kept) (λ i p j q. p j (omega arith))) (x .0) (λ i p. p k (omega arith));
   there = λ j q. case j q (ℕ-discrete j k);

@@ -2,6 +2,7 @@
 use Prim.Native.Nat.{ℕ, _^_, _/_, _%_, _≤_, _<_}
 use borrow.Author.Tests.{lt-ltb, le-ltb, eq-eqb, ne-eqb}
 use lib.Dec.{ltb, leb, eqb}
+use lib.Ieee as Ieee
 use lib.Ieee.{Float, ofBits, round}
 use mathlib.Core.Path.{_≡_, refl, sym, ap, _∙_}
 use mathlib.Core.Bool.{Bool, true, false, cond, not, _&&_, _||_}
@@ -62,6 +63,9 @@ pub beyond : {A : Type 0} {p : Bool} (x : A) {r y : A} → p ≡ false → r ≡
 beyond x {r} {y} h q = q ∙ ap (λ (b : Bool). cond b x y) (sym h)
 
 -- a callee's test of what another callee gave
+pub under : {x y : Float} (limit : Float) → x ≡ y → Ieee.le x limit ≡ Ieee.le y limit
+under limit e = ap (λ (z : Float). Ieee.le z limit) e
+
 pub within-at : {r : Bool} {v w : Vec3} {l m : Float} → r ≡ withinOf v l → v ≡ w → l ≡ m → r ≡ withinOf w m
 within-at {r} {v} {w} {l} {m} e a b = e ∙ ap (λ (x : Vec3). withinOf x l) a ∙ ap (withinOf w) b
 

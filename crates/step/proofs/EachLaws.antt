@@ -19,12 +19,16 @@ module _ {A : Type 0} (view : List Float → ℕ → A) (f : ℕ → Result A) (
   so-none P = record { kept = kept-refl P s₀; is = each-none f }
 
   module _ {P : ℕ → Type 0} (k : ℕ) (s : List Float) (so : Does P s₀ s (go (tab k (view s))) (each k f)) (R : ℕ → Type 0) (w : (i : ℕ) → R i → P i) where
-    pub so-more : {Q : ℕ → Type 0} {t : List Float} {x : A} → Kept Q s t → ((i : ℕ) → R i → Q i) → ((i : ℕ) → i < k → view t i ≡ view s i) → view t k ≡ x → go x ≡ f k → Does R s₀ t (go (tab (k + 1) (view t))) (each (k + 1) f)
-    so-more {Q} {t} {x} kept v same here e = record { kept = kept-then (kept-more (so .kept) w) kept v; is = ap go (tab-more k same here) ∙ each-more f (so .is) e }
+    pub so-more : {Q : ℕ → Type 0} {t : List Float} {x : A} → Kept Q s t → ((i : ℕ) → R i → Q i) → ((i : ℕ) → i < k → view t i ≡ view s i)
+        → view t k ≡ x → go x ≡ f k → Does R s₀ t (go (tab (k + 1) (view t))) (each (k + 1) f)
+    so-more {Q} {t} {x} kept v same here e =
+        record { kept = kept-then (kept-more (so .kept) w) kept v; is = ap go (tab-more k same here) ∙ each-more f (so .is) e }
 
     -- f fails, and whatever was written meanwhile is outside of R
-    pub so-stop : {n m : ℕ} {Q : ℕ → Type 0} {t : List Float} {e : Fault} → n ≡ m → k < n → Kept Q s t → ((i : ℕ) → R i → Q i) → stop e ≡ f k → Does R s₀ t (stop e) (each m f)
-    so-stop {n} {m} {Q} {t} {e} q h kept v g = record { kept = kept-then (kept-more (so .kept) w) kept v; is = each-stop f m (let l : k < m = omega arith in l) (so .is) g }
+    pub so-stop : {n m : ℕ} {Q : ℕ → Type 0} {t : List Float} {e : Fault} → n ≡ m → k < n → Kept Q s t → ((i : ℕ) → R i → Q i) → stop e ≡ f k
+        → Does R s₀ t (stop e) (each m f)
+    so-stop {n} {m} {Q} {t} {e} q h kept v g =
+        record { kept = kept-then (kept-more (so .kept) w) kept v; is = each-stop f m (let l : k < m = omega arith in l) (so .is) g }
 
     pub so-end : (n : ℕ) {m : ℕ} → n ≡ m → k ≤ n → n ≤ k → Does R s₀ s (go (tab n (view s))) (each m f)
     so-end n {m} q a b =
@@ -32,6 +36,9 @@ module _ {A : Type 0} (view : List Float → ℕ → A) (f : ℕ → Result A) (
         record { kept = kept-more (so .kept) w; is = ap (λ (j : ℕ). go (tab j (view s))) same ∙ each-end f (omega arith) (omega arith) (so .is) }
 
 -- one more number, stored in its place
-pub so-put : (off : ℕ) (f : ℕ → Result Float) (s₀ : List Float) {P : ℕ → Type 0} (k : ℕ) (s : List Float) → Does P s₀ s (go (vecAt s off k)) (each k f) → (R : ℕ → Type 0) → ((i : ℕ) → R i → P i)
-    → (x : Float) → ((i : ℕ) → R i → Out (off + k) 1 i) → off + k < length s → go x ≡ f k → Does R s₀ (set s (off + k) x) (go (vecAt (set s (off + k) x) off (k + 1))) (each (k + 1) f)
-so-put off f s₀ k s so R w x v h e = record { kept = kept-then (kept-more (so .kept) w) (kept-set s (off + k) x) v; is = ap go (vec-more s off k x h) ∙ each-more f (so .is) e }
+pub so-put : (off : ℕ) (f : ℕ → Result Float) (s₀ : List Float) {P : ℕ → Type 0} (k : ℕ) (s : List Float)
+    → Does P s₀ s (go (vecAt s off k)) (each k f) → (R : ℕ → Type 0) → ((i : ℕ) → R i → P i)
+    → (x : Float) → ((i : ℕ) → R i → Out (off + k) 1 i) → off + k < length s → go x ≡ f k → Does R s₀ (set s (off + k) x)
+    (go (vecAt (set s (off + k) x) off (k + 1))) (each (k + 1) f)
+so-put off f s₀ k s so R w x v h e =
+    record { kept = kept-then (kept-more (so .kept) w) (kept-set s (off + k) x) v; is = ap go (vec-more s off k x h) ∙ each-more f (so .is) e }

@@ -46,7 +46,8 @@ use Rattle.step.proofs.SolveLaws.{finish-case}
 abbrev RunEnd : Type 0
 RunEnd = Turn (Counted (List BodyState)) (Counted Fault)
 
-ended-then : (nonlinear p : ℕ) (r : Finish) (states : List BodyState) → endedAs r nonlinear p states ≡ (counted nonlinear p (finishAs r states) >>= λ states. go (record { answer = states; nonlinear = nonlinear; linear = p }))
+ended-then : (nonlinear p : ℕ) (r : Finish) (states : List BodyState)
+    → endedAs r nonlinear p states ≡ (counted nonlinear p (finishAs r states) >>= λ states. go (record { answer = states; nonlinear = nonlinear; linear = p }))
 unfolding _>>=_
 ended-then nonlinear p Ends.Done states = refl
 ended-then nonlinear p Ends.NonConvergent states = refl
@@ -69,9 +70,11 @@ module _ (bodies : List RigidBody) (cyclic : Bool) (nonlinear linear : ℕ) (ia 
       let left : Left (List MomentumBody) = velocityLoop cyclic (rowsOn ia ib s ROWS n) masses (candidatesAt s size) in
       counted nonlinear (linear + left .passes) (left .answer) >>= onCandidate (linear + left .passes)
 
-  pub finish-1 : r₁ ≡ Outcomes.ArithmeticOverflow → Finishes s₁ (stop (record { answer = arithmeticOverflow; nonlinear = nonlinear; linear = linear }))
+  pub finish-1 : r₁ ≡ Outcomes.ArithmeticOverflow
+      → Finishes s₁ (stop (record { answer = arithmeticOverflow; nonlinear = nonlinear; linear = linear }))
   unfolding finishOf
-  finish-1 h = record { kept = kept-more (d₁ .kept) (λ i x. omega arith); is = then-stop onMasses (ap (counted nonlinear linear) (ran-over (massesAt s₁ MASSES size) d₁ h)) }
+  finish-1 h =
+      record { kept = kept-more (d₁ .kept) (λ i x. omega arith); is = then-stop onMasses (ap (counted nonlinear linear) (ran-over (massesAt s₁ MASSES size) d₁ h)) }
 
   module _ (h₁ : r₁ ≡ Outcomes.Done) (s₂ : List Float) (r₂ : Looped)
       (d₂ : Does Correcting s₁ s₂ (loopedAs r₂ (candidatesAt s₂ size)) (velocityLoop cyclic (rowsOn ia ib s₁ ROWS n) (massesAt s₁ MASSES size) (candidatesAt s₁ size))) where
@@ -79,7 +82,10 @@ module _ (bodies : List RigidBody) (cyclic : Bool) (nonlinear linear : ℕ) (ia 
     left = velocityLoop cyclic (rowsOn ia ib s ROWS n) (massesAt s₁ MASSES size) (candidatesAt s size)
 
     left-is : loopedAs r₂ (candidatesAt s₂ size) ≡ left
-    left-is = d₂ .is ∙ (λ j. velocityLoop cyclic (kept-rows (d₁ .kept) ia ib ROWS n (λ i a b. omega arith) j) (massesAt s₁ MASSES size) (kept-candidates (d₁ .kept) size (λ i a b. omega arith) (λ i a b. omega arith) j))
+    left-is =
+        d₂ .is ∙
+        (λ j. velocityLoop cyclic (kept-rows (d₁ .kept) ia ib ROWS n (λ i a b. omega arith) j) (massesAt s₁ MASSES size)
+        (kept-candidates (d₁ .kept) size (λ i a b. omega arith) (λ i a b. omega arith) j))
 
     passes-are : linear + r₂ .passes ≡ linear + left .passes
     passes-are = ap (λ (x : Left (List MomentumBody)). linear + x .passes) left-is
@@ -101,13 +107,16 @@ module _ (bodies : List RigidBody) (cyclic : Bool) (nonlinear linear : ℕ) (ia 
           ∙ rest₁ (then-stop (onCandidate (linear + left .passes)) (ap (counted nonlinear (linear + left .passes)) e));
     }
 
-    pub finish-2 : r₂ .finish ≡ Ends.NonConvergent → Finishes s₂ (stop (record { answer = nonConvergent; nonlinear = nonlinear; linear = linear + r₂ .passes }))
+    pub finish-2 : r₂ .finish ≡ Ends.NonConvergent
+        → Finishes s₂ (stop (record { answer = nonConvergent; nonlinear = nonlinear; linear = linear + r₂ .passes }))
     finish-2 h = fails (answer-is h)
 
-    pub finish-3 : r₂ .finish ≡ Ends.ArithmeticOverflow → Finishes s₂ (stop (record { answer = arithmeticOverflow; nonlinear = nonlinear; linear = linear + r₂ .passes }))
+    pub finish-3 : r₂ .finish ≡ Ends.ArithmeticOverflow
+        → Finishes s₂ (stop (record { answer = arithmeticOverflow; nonlinear = nonlinear; linear = linear + r₂ .passes }))
     finish-3 h = fails (answer-is h)
 
-    pub finish-4 : r₂ .finish ≡ Ends.Done → (s₃ : List Float) (r₃ : Finish) → Does (λ i. Out CANDIDATE 208 i) s₂ s₃ (finishAs r₃ (statesAt s₃ size)) (statesOf bodies (candidatesAt s₂ size))
+    pub finish-4 : r₂ .finish ≡ Ends.Done → (s₃ : List Float) (r₃ : Finish)
+        → Does (λ i. Out CANDIDATE 208 i) s₂ s₃ (finishAs r₃ (statesAt s₃ size)) (statesOf bodies (candidatesAt s₂ size))
         → Finishes s₃ (endedAs r₃ nonlinear (linear + r₂ .passes) (statesAt s₃ size))
     finish-4 h s₃ r₃ d₃ = record {
       kept = kept-then kept₂ (d₃ .kept) (λ i x. omega arith);
@@ -119,7 +128,9 @@ module _ (bodies : List RigidBody) (cyclic : Bool) (nonlinear linear : ℕ) (ia 
 
 -- ---- run
 module _ (bodies : List Float) (joints : List Joint) (count : ℕ) (dt : Float) {ia ib : List ℕ} (S : Sides joints count ia ib) (m : ℕ) (em : m ≡ rowsBefore joints count) (s s₁ : List Float) (r₁ : Finish)
-    (f₁ : (ja jb : List ℕ) → Sides joints count ja jb → Does (λ i. Out 0 END i) s s₁ (finishAs r₁ (startedAt ja jb s₁ (rowsBefore joints count) (bodyCount bodies))) (startOf (recordsOf bodies) joints count)) where
+    (f₁ : (ja jb : List ℕ) → Sides joints count ja jb
+    → Does (λ i. Out 0 END i) s s₁ (finishAs r₁ (startedAt ja jb s₁ (rowsBefore joints count) (bodyCount bodies)))
+    (startOf (recordsOf bodies) joints count)) where
   d₁ : Does (λ i. Out 0 END i) s s₁ (finishAs r₁ (startedAt ia ib s₁ m (bodyCount bodies))) (startOf (recordsOf bodies) joints count)
   d₁ = record { kept = f₁ ia ib S .kept; is = ap (λ (k : ℕ). finishAs r₁ (startedAt ia ib s₁ k (bodyCount bodies))) em ∙ f₁ ia ib S .is }
 
@@ -127,7 +138,9 @@ module _ (bodies : List Float) (joints : List Joint) (count : ℕ) (dt : Float) 
   Runs t x = Does (λ i. Out 0 END i) s t x (runOf (recordsOf bodies) joints count dt)
 
   abbrev onLeft : Left Found → RunEnd
-  onLeft left = counted (left .begun) (left .passes) (left .answer) >>= finishOf (recordsOf bodies) (leb (length (recordsOf bodies)) count) (left .begun) (left .passes)
+  onLeft left =
+      counted (left .begun) (left .passes) (left .answer) >>= finishOf (recordsOf bodies) (leb (length (recordsOf bodies)) count) (left .begun)
+      (left .passes)
 
   abbrev onStarted : Started → RunEnd
   onStarted started = onLeft (nonlinearLoop joints count dt (leb (length (recordsOf bodies)) count) started)
@@ -160,20 +173,26 @@ module _ (bodies : List Float) (joints : List Joint) (count : ℕ) (dt : Float) 
     abbrev onFound : Found → RunEnd
     onFound = finishOf (recordsOf bodies) (leb (length (recordsOf bodies)) count) (r₂ .begun) (r₂ .passes)
 
-    abbrev told : {q : Finish} → r₂ .finish ≡ q → counted (r₂ .begun) (r₂ .passes) (finishAs q (foundAt ia ib s₂ m (bodyCount bodies))) ≡ counted (r₂ .begun) (r₂ .passes) (finishAs (r₂ .finish) (foundAt ia ib s₂ m (bodyCount bodies)))
+    abbrev told : {q : Finish} → r₂ .finish ≡ q
+        → counted (r₂ .begun) (r₂ .passes) (finishAs q (foundAt ia ib s₂ m (bodyCount bodies))) ≡ counted (r₂ .begun) (r₂ .passes)
+        (finishAs (r₂ .finish) (foundAt ia ib s₂ m (bodyCount bodies)))
     told h = ap (λ (q : Finish). counted (r₂ .begun) (r₂ .passes) (finishAs q (foundAt ia ib s₂ m (bodyCount bodies)))) (sym h)
 
     pub run-3 : r₂ .finish ≡ Ends.NonConvergent → Runs s₂ (stop (record { answer = nonConvergent; nonlinear = r₂ .begun; linear = r₂ .passes }))
     run-3 h = record { kept = kept-run; is = run-rest (then-stop onFound (told h)) }
 
-    pub run-4 : r₂ .finish ≡ Ends.ArithmeticOverflow → Runs s₂ (stop (record { answer = arithmeticOverflow; nonlinear = r₂ .begun; linear = r₂ .passes }))
+    pub run-4 : r₂ .finish ≡ Ends.ArithmeticOverflow
+        → Runs s₂ (stop (record { answer = arithmeticOverflow; nonlinear = r₂ .begun; linear = r₂ .passes }))
     run-4 h = record { kept = kept-run; is = run-rest (then-stop onFound (told h)) }
 
     pub run-5 : r₂ .finish ≡ Ends.Done → (s₃ : List Float) {x : RunEnd}
-        → Does (λ i. Out MASSES (END - MASSES) i) s₂ s₃ x (finishOf (recordsOf bodies) (leb (bodyCount bodies) count) (r₂ .begun) (r₂ .passes) (foundAt ia ib s₂ m (bodyCount bodies))) → Runs s₃ x
+        → Does (λ i. Out MASSES (END - MASSES) i) s₂ s₃ x
+        (finishOf (recordsOf bodies) (leb (bodyCount bodies) count) (r₂ .begun) (r₂ .passes) (foundAt ia ib s₂ m (bodyCount bodies))) → Runs s₃ x
     run-5 h s₃ d₃ = record {
       kept = kept-then kept-run (d₃ .kept) (λ i x. omega arith);
-      is = d₃ .is ∙ ap (λ (b : Bool). finishOf (recordsOf bodies) b (r₂ .begun) (r₂ .passes) (foundAt ia ib s₂ m (bodyCount bodies))) cyclic-is ∙ run-rest (then-go onFound (told h));
+      is =
+          d₃ .is ∙ ap (λ (b : Bool). finishOf (recordsOf bodies) b (r₂ .begun) (r₂ .passes) (foundAt ia ib s₂ m (bodyCount bodies))) cyclic-is ∙
+          run-rest (then-go onFound (told h));
     }
 
 -- ---- settle
@@ -192,28 +211,60 @@ module _ (n : ℕ) (s bodies : List Float) where
   ground-is : every n (λ k. withinOf (vec3At s (CANDIDATE + 13 * k)) (ratio 8192 1)) ≡ grounded states
   unfolding grounded
   ground-is =
-      every-ext n (λ k h. ap (λ (x : BodyState). withinOf (x .origin) (ratio 8192 1)) (sym (tab-at n (λ j. stateAt s (CANDIDATE + 13 * j)) noState k h)))
+      every-ext n
+      (λ k h. ap (λ (x : BodyState). withinOf (x .origin) (ratio 8192 1)) (sym (tab-at n (λ j. stateAt s (CANDIDATE + 13 * j)) noState k h)))
       ∙ ap (λ (m : ℕ). every m (λ k. withinOf (stateIn states k .origin) (ratio 8192 1))) (sym (tab-length n (λ j. stateAt s (CANDIDATE + 13 * j))))
 
   module _ {b : Bool} (e : b ≡ every n (λ k. withinOf (vec3At s (CANDIDATE + 13 * k)) (ratio 8192 1))) (nonlinear linear : ℕ) (scratch : List Float) where
     pub settle-accepts : b ≡ true → n ≡ bodyCount bodies → length bodies % 26 ≡ 0 → {after : List Float} → Handed n s bodies after
-        → record { outcome = Answers.Accepted; nonlinear = nonlinear; linear = linear; bodies = after; scratch = scratch } ≡ settled bodies scratch (endedAs Ends.Done nonlinear linear states)
+        → record {
+          outcome =
+              Answers.Accepted;
+          nonlinear = nonlinear;
+          linear = linear;
+          bodies = after;
+          scratch = scratch;
+        } ≡ settled bodies scratch (endedAs Ends.Done
+        nonlinear linear states)
     settle-accepts q c w h =
-        ap (λ (a : List Float). record { outcome = Answers.Accepted; nonlinear = nonlinear; linear = linear; bodies = a; scratch = scratch }) (handed-back n s c w h)
+        ap (λ (a : List Float). record { outcome = Answers.Accepted; nonlinear = nonlinear; linear = linear; bodies = a; scratch = scratch })
+        (handed-back n s c w h)
         ∙ cond-yes {b = grounded states} _ _ (sym (sym q ∙ e ∙ ground-is))
 
-    pub settle-grounds : b ≡ false → record { outcome = Answers.Ground; nonlinear = nonlinear; linear = linear; bodies = bodies; scratch = scratch } ≡ settled bodies scratch (endedAs Ends.Done nonlinear linear states)
+    pub settle-grounds : b ≡ false
+        → record { outcome = Answers.Ground; nonlinear = nonlinear; linear = linear; bodies = bodies; scratch = scratch } ≡ settled bodies scratch
+        (endedAs Ends.Done nonlinear linear states)
     settle-grounds q = cond-no {b = grounded states} _ _ (sym (sym q ∙ e ∙ ground-is))
 
 -- in the case of the run's end
-pub settle-as : (bodies scratch : List Float) {after : List Float} {outcome : Answer} (states : List BodyState) (r : Finish) {q : Finish} → r ≡ q → (nonlinear linear : ℕ)
-    → record { outcome = outcome; nonlinear = nonlinear; linear = linear; bodies = after; scratch = scratch } ≡ settled bodies scratch (endedAs q nonlinear linear states)
-    → record { outcome = outcome; nonlinear = nonlinear; linear = linear; bodies = after; scratch = scratch } ≡ settled bodies scratch (endedAs r nonlinear linear states)
-settle-as bodies scratch {after} {outcome} states r h nonlinear linear e = e ∙ ap (λ (x : Finish). settled bodies scratch (endedAs x nonlinear linear states)) (sym h)
+pub settle-as : (bodies scratch : List Float) {after : List Float} {outcome : Answer} (states : List BodyState) (r : Finish) {q : Finish} → r ≡ q
+    → (nonlinear linear : ℕ)
+    → record {
+      outcome =
+          outcome;
+      nonlinear = nonlinear;
+      linear = linear;
+      bodies = after;
+      scratch = scratch;
+    } ≡ settled bodies scratch (endedAs q nonlinear linear
+    states)
+    → record {
+      outcome =
+          outcome;
+      nonlinear = nonlinear;
+      linear = linear;
+      bodies = after;
+      scratch = scratch;
+    } ≡ settled bodies scratch (endedAs r nonlinear linear
+    states)
+settle-as bodies scratch {after} {outcome} states r h nonlinear linear e =
+    e ∙ ap (λ (x : Finish). settled bodies scratch (endedAs x nonlinear linear states)) (sym h)
 
 -- the scratch of a run, cleared
 pub all-zero : {s t : List Float} → length s ≡ 6144 → Filled 0 6144 (λ _. ratio 0 1) s t → t ≡ replicate 6144 (ratio 0 1)
-all-zero {s} {t} e f = ext-getD nan t (replicate 6144 (ratio 0 1)) (f .kept .size ∙ e ∙ sym (length-replicate 6144 (ratio 0 1))) (λ k h. ap (at t) (let z : k ≡ 0 + k = omega arith in z) ∙ f .there k (inside k h) ∙ sym (getD-replicate 6144 k (ratio 0 1) nan (inside k h)))
+all-zero {s} {t} e f =
+    ext-getD nan t (replicate 6144 (ratio 0 1)) (f .kept .size ∙ e ∙ sym (length-replicate 6144 (ratio 0 1)))
+    (λ k h. ap (at t) (let z : k ≡ 0 + k = omega arith in z) ∙ f .there k (inside k h) ∙ sym (getD-replicate 6144 k (ratio 0 1) nan (inside k h)))
   where
     inside : (k : ℕ) → k < length t → k < 6144
     inside k h = omega (arith, f .kept .size)
@@ -221,27 +272,53 @@ all-zero {s} {t} e f = ext-getD nan t (replicate 6144 (ratio 0 1)) (f .kept .siz
 -- ---- solve_in
 module _ (bodies : List Float) (joints : List Joint) (count : ℕ) (dt : Float) (n : ℕ) {P : ℕ → Type 0} (s t u : List Float) (r : Progress)
     (d : Does P s t (progressAs r (statesAt t n)) (runOf (recordsOf bodies) joints count dt)) {outcome : Answer} {after : List Float}
-    (e : (nonlinear linear : ℕ) (scratch : List Float) → record { outcome = outcome; nonlinear = nonlinear; linear = linear; bodies = after; scratch = scratch } ≡ settled bodies scratch (endedAs (r .finish) nonlinear linear (statesAt t n))) where
+    (e : (nonlinear linear : ℕ) (scratch : List Float)
+    → record { outcome = outcome; nonlinear = nonlinear; linear = linear; bodies = after; scratch = scratch } ≡ settled bodies scratch
+    (endedAs (r .finish) nonlinear linear (statesAt t n))) where
   pub solved-in : u ≡ replicate 6144 (ratio 0 1)
-      → record { outcome = outcome; nonlinear = r .nonlinear; linear = r .linear; bodies = after; scratch = u } ≡ settled bodies (replicate 6144 (ratio 0 1)) (runOf (recordsOf bodies) joints count dt)
+      → record {
+        outcome =
+            outcome;
+        nonlinear = r .nonlinear;
+        linear = r .linear;
+        bodies = after;
+        scratch = u;
+      } ≡ settled bodies (replicate 6144 (ratio 0 1)) (runOf
+      (recordsOf bodies) joints count dt)
   solved-in z =
       ap (λ (x : List Float). record { outcome = outcome; nonlinear = r .nonlinear; linear = r .linear; bodies = after; scratch = x }) z
       ∙ e (r .nonlinear) (r .linear) (replicate 6144 (ratio 0 1)) ∙ ap (settled bodies (replicate 6144 (ratio 0 1))) (d .is)
 
 -- the step's scratch is the run's, with what stands behind it
 pub solved-scratch : (bodies scratch : List Float) (end : RunEnd) {outcome : Answer} {nonlinear linear : ℕ} {after work : List Float}
-    → record { outcome = outcome; nonlinear = nonlinear; linear = linear; bodies = after; scratch = work } ≡ settled bodies (replicate 6144 (ratio 0 1)) end
-    → record { outcome = outcome; nonlinear = nonlinear; linear = linear; bodies = after; scratch = work ++ drop 6144 scratch } ≡ settled bodies (cleared scratch) end
+    → record {
+      outcome =
+          outcome;
+      nonlinear = nonlinear;
+      linear = linear;
+      bodies = after;
+      scratch = work;
+    } ≡ settled bodies (replicate 6144 (ratio 0 1)) end
+    → record {
+      outcome =
+          outcome;
+      nonlinear = nonlinear;
+      linear = linear;
+      bodies = after;
+      scratch = work ++ drop 6144 scratch;
+    } ≡ settled bodies (cleared scratch) end
 unfolding cleared
 solved-scratch bodies scratch end e = ap behind e ∙ moved end
   where
     behind : Stepped → Stepped
-    behind x = record { outcome = x .outcome; nonlinear = x .nonlinear; linear = x .linear; bodies = x .bodies; scratch = x .scratch ++ drop 6144 scratch }
+    behind x =
+        record { outcome = x .outcome; nonlinear = x .nonlinear; linear = x .linear; bodies = x .bodies; scratch = x .scratch ++ drop 6144 scratch }
 
     one : (b : Bool) (x y : Stepped) → behind (cond b x y) ≡ cond b (behind x) (behind y)
     one true x y = refl
     one false x y = refl
 
-    moved : (end : RunEnd) → behind (settled bodies (replicate 6144 (ratio 0 1)) end) ≡ settled bodies (replicate 6144 (ratio 0 1) ++ drop 6144 scratch) end
+    moved : (end : RunEnd)
+        → behind (settled bodies (replicate 6144 (ratio 0 1)) end) ≡ settled bodies (replicate 6144 (ratio 0 1) ++ drop 6144 scratch) end
     moved (stop x) = refl
     moved (go x) = one (grounded (x .answer)) _ _

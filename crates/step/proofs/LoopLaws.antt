@@ -50,7 +50,8 @@ finish-then Ends.ArithmeticOverflow x f = refl
 
 -- ---- views that stay
 module _ {P : ℕ → Type 0} {s t : List Float} (kept : Kept P s t) where
-  pub kept-started : (ia ib : List ℕ) (n size : ℕ) → n ≤ 96 → size ≤ 16 → ((i : ℕ) → Trying i → P i) → startedAt ia ib t n size ≡ startedAt ia ib s n size
+  pub kept-started : (ia ib : List ℕ) (n size : ℕ) → n ≤ 96 → size ≤ 16 → ((i : ℕ) → Trying i → P i)
+      → startedAt ia ib t n size ≡ startedAt ia ib s n size
   kept-started ia ib n size l g w = λ j. record {
     start = kept-starts kept size (λ i a b. w i (omega arith)) j;
     rows = kept-rows kept ia ib START-ROWS n (λ i a b. w i (omega arith)) j;
@@ -69,25 +70,29 @@ module _ (bodies : List Float) (joints : List Joint) (count : ℕ) (ia ib : List
   abbrev onStart : List MomentumBody → Result Started
   onStart start = writeRows joints count start >>= onRows start
 
-  pub start-1 : {f : Fault} → stop f ≡ startBodies (recordsOf bodies) → Does (λ i. Out 0 END i) s s₁ (stop f) (startOf (recordsOf bodies) joints count)
+  pub start-1 : {f : Fault} → stop f ≡ startBodies (recordsOf bodies)
+      → Does (λ i. Out 0 END i) s s₁ (stop f) (startOf (recordsOf bodies) joints count)
   unfolding startOf
   start-1 e = record { kept = kept-more (d₁ .kept) (λ i x. omega arith); is = then-stop onStart e }
 
   pub start-1-case : {q : Finish} → r₁ ≡ q → finishAs q (startBodiesAt s₁ size) ≡ startBodies (recordsOf bodies)
   start-1-case h = finish-case (startBodiesAt s₁ size) r₁ begun-is h
 
-  module _ (h₁ : r₁ ≡ Ends.Done) (s₂ : List Float) (r₂ : Finish) (d₂ : Does (λ i. Out START-ROWS 1344 i) s₁ s₂ (finishAs r₂ (rowsOn ia ib s₂ START-ROWS m)) (writeRows joints count (startBodiesAt s₁ size))) where
+  module _ (h₁ : r₁ ≡ Ends.Done) (s₂ : List Float) (r₂ : Finish)
+      (d₂ : Does (λ i. Out START-ROWS 1344 i) s₁ s₂ (finishAs r₂ (rowsOn ia ib s₂ START-ROWS m)) (writeRows joints count (startBodiesAt s₁ size))) where
     kept₂ : Kept (λ i. Out 0 END i) s s₂
     kept₂ = kept-then (kept-more (d₁ .kept) (λ i x. omega arith)) (d₂ .kept) (λ i x. omega arith)
 
-    pub start-2 : {f : Fault} → stop f ≡ writeRows joints count (startBodiesAt s₁ size) → Does (λ i. Out 0 END i) s s₂ (stop f) (startOf (recordsOf bodies) joints count)
+    pub start-2 : {f : Fault} → stop f ≡ writeRows joints count (startBodiesAt s₁ size)
+        → Does (λ i. Out 0 END i) s s₂ (stop f) (startOf (recordsOf bodies) joints count)
     unfolding startOf
     start-2 e = record { kept = kept₂; is = then-stop (onRows (startBodiesAt s₁ size)) e ∙ then-go onStart (start-1-case h₁) }
 
     pub start-2-case : {q : Finish} → r₂ ≡ q → finishAs q (rowsOn ia ib s₂ START-ROWS m) ≡ writeRows joints count (startBodiesAt s₁ size)
     start-2-case h = finish-case (rowsOn ia ib s₂ START-ROWS m) r₂ (d₂ .is) h
 
-    module _ (h₂ : r₂ ≡ Ends.Done) (s₃ : List Float) (r₃ : Outcome) (d₃ : Does (λ i. Out MASSES 160 i) s₂ s₃ (ranAs r₃ (massesAt s₃ MASSES size)) (prepareMasses (startBodiesAt s₂ size))) where
+    module _ (h₂ : r₂ ≡ Ends.Done) (s₃ : List Float) (r₃ : Outcome)
+        (d₃ : Does (λ i. Out MASSES 160 i) s₂ s₃ (ranAs r₃ (massesAt s₃ MASSES size)) (prepareMasses (startBodiesAt s₂ size))) where
       starts₂ : startBodiesAt s₂ size ≡ startBodiesAt s₁ size
       starts₂ = kept-starts (d₂ .kept) size (λ i a b. omega arith)
 
@@ -101,21 +106,31 @@ module _ (bodies : List Float) (joints : List Joint) (count : ℕ) (ia ib : List
       unfolding startOf
       rest e = e ∙ then-go (onRows (startBodiesAt s₁ size)) (start-2-case h₂) ∙ then-go onStart (start-1-case h₁)
 
-      pub start-3 : r₃ ≡ Outcomes.ArithmeticOverflow → Does (λ i. Out 0 END i) s s₃ (stop arithmeticOverflow) (startOf (recordsOf bodies) joints count)
-      start-3 h = record { kept = kept₃; is = rest (then-stop (λ masses. go (record { start = startBodiesAt s₁ size; rows = rowsOn ia ib s₂ START-ROWS m; masses = masses })) (ran-over (massesAt s₃ MASSES size) d₃ h ∙ ap prepareMasses starts₂)) }
+      pub start-3 : r₃ ≡ Outcomes.ArithmeticOverflow
+          → Does (λ i. Out 0 END i) s s₃ (stop arithmeticOverflow) (startOf (recordsOf bodies) joints count)
+      start-3 h =
+          record { kept = kept₃; is = rest (then-stop (λ masses. go (record { start = startBodiesAt s₁ size; rows = rowsOn ia ib s₂ START-ROWS m; masses = masses })) (ran-over (massesAt s₃ MASSES size) d₃ h ∙ ap prepareMasses starts₂)) }
 
       pub start-4 : r₃ ≡ Outcomes.Done → Does (λ i. Out 0 END i) s s₃ (go (startedAt ia ib s₃ m size)) (startOf (recordsOf bodies) joints count)
       start-4 h = record {
         kept = kept₃;
-        is = (λ j. go (record { start = starts₃ j; rows = kept-rows (d₃ .kept) ia ib START-ROWS m (λ i a b. omega arith) j; masses = massesAt s₃ MASSES size }))
-            ∙ rest (then-go (λ masses. go (record { start = startBodiesAt s₁ size; rows = rowsOn ia ib s₂ START-ROWS m; masses = masses })) (ran-done (massesAt s₃ MASSES size) d₃ h ∙ ap prepareMasses starts₂));
+        is =
+            (λ j. go
+            (record { start = starts₃ j; rows = kept-rows (d₃ .kept) ia ib START-ROWS m (λ i a b. omega arith) j; masses = massesAt s₃ MASSES size }))
+            ∙ rest (then-go (λ masses. go (record {
+              start =
+                  startBodiesAt s₁ size;
+              rows = rowsOn ia ib s₂ START-ROWS m;
+              masses = masses;
+            })) (ran-done (massesAt s₃ MASSES size) d₃ h ∙ ap prepareMasses starts₂));
       }
 
 -- ---- candidate
 module _ (joints : List Joint) (count : ℕ) (dt : Float) (ia ib : List ℕ) (n size : ℕ) (l : n ≤ 96) (g : size ≤ 16) (s s₁ : List Float) (r₁ : Outcome)
     (d₁ : Does Shares s s₁ (ranAs r₁ (generalizedsAt s₁ GENERALIZED size)) (transpose (rowsOn ia ib s START-ROWS n) (vecAt s IMPULSES n) size)) where
   abbrev Tried : List Float → Result Found → Type 0
-  Tried t x = (Does Trying s t x (candidateOf joints count dt (startedAt ia ib s n size) (vecAt s IMPULSES n))) × (vecAt t IMPULSES n ≡ vecAt s IMPULSES n)
+  Tried t x =
+      (Does Trying s t x (candidateOf joints count dt (startedAt ia ib s n size) (vecAt s IMPULSES n))) × (vecAt t IMPULSES n ≡ vecAt s IMPULSES n)
 
   abbrev onMoved : List MomentumBody → Result Found
   onMoved candidate = writeRows joints count candidate >>= λ rows. go (record { candidate = candidate; rows = rows })
@@ -129,19 +144,25 @@ module _ (joints : List Joint) (count : ℕ) (dt : Float) (ia ib : List ℕ) (n 
   pub candidate-1 : r₁ ≡ Outcomes.ArithmeticOverflow → Tried s₁ (stop arithmeticOverflow)
   unfolding candidateOf
   candidate-1 h = (
-    record { kept = kept-more (d₁ .kept) (λ i x. omega (arith, x .1)); is = then-stop onShares (ran-over (generalizedsAt s₁ GENERALIZED size) d₁ h ∙ shares-are) },
+    record {
+      kept =
+          kept-more (d₁ .kept) (λ i x. omega (arith, x .1));
+      is = then-stop onShares (ran-over (generalizedsAt s₁ GENERALIZED size) d₁ h ∙ shares-are);
+    },
     kept-vec (d₁ .kept) IMPULSES n (λ i a b. omega arith),
   )
 
   module _ (h₁ : r₁ ≡ Outcomes.Done) (s₂ : List Float) (r₂ : Finish)
       (d₂ : Does (λ i. Out CANDIDATE 208 i) s₁ s₂ (finishAs r₂ (candidatesAt s₂ size)) (moveBodies dt (startBodiesAt s₁ size) (generalizedsAt s₁ GENERALIZED size))) where
     moved-are : moveBodies dt (startBodiesAt s₁ size) (generalizedsAt s₁ GENERALIZED size) ≡ moveBodies dt (startBodiesAt s size) (generalizedsAt s₁ GENERALIZED size)
-    moved-are = ap (λ (b : List MomentumBody). moveBodies dt b (generalizedsAt s₁ GENERALIZED size)) (kept-starts (d₁ .kept) size (λ i a b. omega arith))
+    moved-are =
+        ap (λ (b : List MomentumBody). moveBodies dt b (generalizedsAt s₁ GENERALIZED size)) (kept-starts (d₁ .kept) size (λ i a b. omega arith))
 
     tried₂ : Kept (λ i. (Shares i) × (Out CANDIDATE 208 i)) s s₂
     tried₂ = kept-then (kept-more (d₁ .kept) (λ i x. x .0)) (d₂ .kept) (λ i x. x .1)
 
-    rest₂ : {x : Result Found} → x ≡ onShares (generalizedsAt s₁ GENERALIZED size) → x ≡ candidateOf joints count dt (startedAt ia ib s n size) (vecAt s IMPULSES n)
+    rest₂ : {x : Result Found} → x ≡ onShares (generalizedsAt s₁ GENERALIZED size)
+        → x ≡ candidateOf joints count dt (startedAt ia ib s n size) (vecAt s IMPULSES n)
     unfolding candidateOf
     rest₂ e = e ∙ then-go onShares (ran-done (generalizedsAt s₁ GENERALIZED size) d₁ h₁ ∙ shares-are)
 
@@ -151,10 +172,12 @@ module _ (joints : List Joint) (count : ℕ) (dt : Float) (ia ib : List ℕ) (n 
       kept-vec tried₂ IMPULSES n (λ i a b. (omega arith, omega arith)),
     )
 
-    pub candidate-2-case : {q : Finish} → r₂ ≡ q → finishAs q (candidatesAt s₂ size) ≡ moveBodies dt (startBodiesAt s₁ size) (generalizedsAt s₁ GENERALIZED size)
+    pub candidate-2-case : {q : Finish} → r₂ ≡ q
+        → finishAs q (candidatesAt s₂ size) ≡ moveBodies dt (startBodiesAt s₁ size) (generalizedsAt s₁ GENERALIZED size)
     candidate-2-case h = finish-case (candidatesAt s₂ size) r₂ (d₂ .is) h
 
-    pub candidate-3 : r₂ ≡ Ends.Done → (m : ℕ) → n ≡ m → (s₃ : List Float) (r₃ : Finish) → Does (λ i. Out ROWS 1344 i) s₂ s₃ (finishAs r₃ (rowsOn ia ib s₃ ROWS m)) (writeRows joints count (candidatesAt s₂ size))
+    pub candidate-3 : r₂ ≡ Ends.Done → (m : ℕ) → n ≡ m → (s₃ : List Float) (r₃ : Finish)
+        → Does (λ i. Out ROWS 1344 i) s₂ s₃ (finishAs r₃ (rowsOn ia ib s₃ ROWS m)) (writeRows joints count (candidatesAt s₂ size))
         → Tried s₃ (finishAs r₃ (foundAt ia ib s₃ n size))
     candidate-3 h₂ m em s₃ r₃ d₃ = (
       record { kept = kept-more tried₃ (λ i x. (omega (arith, x .1), x .2, x .0)); is = answer },
@@ -165,7 +188,9 @@ module _ (joints : List Joint) (count : ℕ) (dt : Float) (ia ib : List ℕ) (n 
         tried₃ = kept-then (kept-more tried₂ (λ i x. (x .0, x .1))) (d₃ .kept) (λ i x. x .2)
 
         found : finishAs r₃ (foundAt ia ib s₃ n size) ≡ finishAs r₃ (record { candidate = candidatesAt s₂ size; rows = rowsOn ia ib s₃ ROWS m })
-        found = λ j. finishAs r₃ (record { candidate = kept-candidates (d₃ .kept) size (λ i a b. omega arith) (λ i a b. omega arith) j; rows = rowsOn ia ib s₃ ROWS (em j) })
+        found =
+            λ j. finishAs r₃
+            (record { candidate = kept-candidates (d₃ .kept) size (λ i a b. omega arith) (λ i a b. omega arith) j; rows = rowsOn ia ib s₃ ROWS (em j) })
 
         answer : finishAs r₃ (foundAt ia ib s₃ n size) ≡ candidateOf joints count dt (startedAt ia ib s n size) (vecAt s IMPULSES n)
         answer =
@@ -186,7 +211,11 @@ module _ (dt : Float) (cyclic : Bool) (ia ib : List ℕ) (n size : ℕ) (l : n �
   solved : Does Work s₁ s₂ (solveAs r₂ (vecAt s₂ SOLUTION n)) (ended solve)
   solved = record {
     kept = d₂ .kept;
-    is = d₂ .is ∙ (λ j. ended (linearSolve cyclic (kept-rows (d₁ .kept) ia ib START-ROWS n (λ i a b. omega arith) j) (kept-masses (d₁ .kept) MASSES size (λ i a b. omega arith) j) (d₁ .is j)));
+    is =
+        d₂ .is ∙
+        (λ j. ended
+        (linearSolve cyclic (kept-rows (d₁ .kept) ia ib START-ROWS n (λ i a b. omega arith) j)
+        (kept-masses (d₁ .kept) MASSES size (λ i a b. omega arith) j) (d₁ .is j)));
   }
 
   corrected₂ : Kept Trying s s₂
@@ -206,20 +235,24 @@ module _ (dt : Float) (cyclic : Bool) (ia ib : List ℕ) (n size : ℕ) (l : n �
   pub correct-declined : {A : Type 0} → r₂ .end ≡ Solves.Declined → A
   correct-declined h = not-declined r₂ n solved h
 
-  module _ (h : r₂ .end ≡ Solves.Solved) (s₃ : List Float) (r₃ : Outcome) (d₃ : Does (λ i. Out IMPULSES 96 i) s₂ s₃ (ranAs r₃ (vecAt s₃ IMPULSES n)) (addImpulses (vecAt s₂ IMPULSES n) (vecAt s₂ SOLUTION n))) where
+  module _ (h : r₂ .end ≡ Solves.Solved) (s₃ : List Float) (r₃ : Outcome)
+      (d₃ : Does (λ i. Out IMPULSES 96 i) s₂ s₃ (ranAs r₃ (vecAt s₃ IMPULSES n)) (addImpulses (vecAt s₂ IMPULSES n) (vecAt s₂ SOLUTION n))) where
     corrected₃ : Kept Trying s s₃
     corrected₃ = kept-then corrected₂ (d₃ .kept) (λ i x. omega (arith, x .1))
 
-    sums : {x : Result (List Float)} → x ≡ addImpulses (vecAt s₂ IMPULSES n) (vecAt s₂ SOLUTION n) → x ≡ addImpulses (vecAt s IMPULSES n) (vecAt s₂ SOLUTION n)
+    sums : {x : Result (List Float)} → x ≡ addImpulses (vecAt s₂ IMPULSES n) (vecAt s₂ SOLUTION n)
+        → x ≡ addImpulses (vecAt s IMPULSES n) (vecAt s₂ SOLUTION n)
     sums e = e ∙ ap (λ (v : List Float). addImpulses v (vecAt s₂ SOLUTION n)) impulses₂
 
     pub correct-over : r₃ ≡ Outcomes.ArithmeticOverflow → Corrects s₃ (stop (record { answer = stop arithmeticOverflow; passes = r₂ .passes }))
     unfolding correctedBy
-    correct-over q = record { kept = corrected₃; is = turn-stops r₂ n solved (addImpulses (vecAt s IMPULSES n)) h (sums (ran-over (vecAt s₃ IMPULSES n) d₃ q)) }
+    correct-over q =
+        record { kept = corrected₃; is = turn-stops r₂ n solved (addImpulses (vecAt s IMPULSES n)) h (sums (ran-over (vecAt s₃ IMPULSES n) d₃ q)) }
 
     pub correct-next : r₃ ≡ Outcomes.Done → Corrects s₃ (go (record { answer = vecAt s₃ IMPULSES n; passes = r₂ .passes }))
     unfolding correctedBy
-    correct-next q = record { kept = corrected₃; is = turn-next r₂ n solved (addImpulses (vecAt s IMPULSES n)) h (sums (ran-done (vecAt s₃ IMPULSES n) d₃ q)) }
+    correct-next q =
+        record { kept = corrected₃; is = turn-next r₂ n solved (addImpulses (vecAt s IMPULSES n)) h (sums (ran-done (vecAt s₃ IMPULSES n) d₃ q)) }
 
 -- ---- nonlinear_pass
 module _ (joints : List Joint) (count : ℕ) (dt : Float) (cyclic : Bool) (ia ib : List ℕ) (n size : ℕ) (l : n ≤ 96) (g : size ≤ 16) (s s₁ : List Float) (r₁ : Finish)
@@ -234,7 +267,8 @@ module _ (joints : List Joint) (count : ℕ) (dt : Float) (cyclic : Bool) (ia ib
   onFound found = returnIf (rowsMet (found .rows)) (record { answer = go found; passes = 0 }) >>= onTest found
 
   -- the candidates or their rows failed
-  fails₁ : {f : Fault} → stop f ≡ candidateOf joints count dt (startedAt ia ib s n size) (vecAt s IMPULSES n) → Goes s₁ (stop (record { answer = stop f; passes = 0 }))
+  fails₁ : {f : Fault} → stop f ≡ candidateOf joints count dt (startedAt ia ib s n size) (vecAt s IMPULSES n)
+      → Goes s₁ (stop (record { answer = stop f; passes = 0 }))
   unfolding nonlinearPass
   fails₁ e = record { kept = d₁ .0 .kept; is = then-stop onFound (ap (taking 0) e) }
 
@@ -245,7 +279,8 @@ module _ (joints : List Joint) (count : ℕ) (dt : Float) (cyclic : Bool) (ia ib
   pass-overflow h = fails₁ (finish-case (foundAt ia ib s₁ n size) r₁ (d₁ .0 .is) h)
 
   module _ (h : r₁ ≡ Ends.Done) {b : Bool} (m : b ≡ rowsMet (rowsOn ia ib s₁ ROWS n)) where
-    rest₁ : {x : Turn (Took (List Float)) (Took (Result Found))} → x ≡ onFound (foundAt ia ib s₁ n size) → x ≡ nonlinearPass joints count dt cyclic (startedAt ia ib s n size) (vecAt s IMPULSES n)
+    rest₁ : {x : Turn (Took (List Float)) (Took (Result Found))} → x ≡ onFound (foundAt ia ib s₁ n size)
+        → x ≡ nonlinearPass joints count dt cyclic (startedAt ia ib s n size) (vecAt s IMPULSES n)
     unfolding nonlinearPass
     rest₁ e = e ∙ then-go onFound (ap (taking 0) (finish-case (foundAt ia ib s₁ n size) r₁ (d₁ .0 .is) h))
 
@@ -282,42 +317,61 @@ module _ (joints : List Joint) (count : ℕ) (dt : Float) (cyclic : Bool) (ia ib
   pub turned-none : {before : List Float} → Filled IMPULSES n (λ _. ratio 0 1) before s → Turned joints count dt cyclic ia ib n size s 0 s 0
   turned-none f = (
     kept-refl Trying s,
-    subst (λ (v : List Float). Reached (pass joints count dt cyclic ia ib n size s) (none joints count dt cyclic ia ib n size s) 0 v 0) (sym (filled-vec f ∙ zeros n (ratio 0 1) ∙ ap (λ (m : ℕ). replicate m (ratio 0 1)) (sym (tab-length n (rowOn ia ib s START-ROWS))))) (reached-none (pass joints count dt cyclic ia ib n size s) (none joints count dt cyclic ia ib n size s)),
+    subst (λ (v : List Float). Reached (pass joints count dt cyclic ia ib n size s) (none joints count dt cyclic ia ib n size s) 0 v 0)
+        (sym (filled-vec f ∙ zeros n (ratio 0 1) ∙ ap (λ (m : ℕ). replicate m (ratio 0 1)) (sym (tab-length n (rowOn ia ib s START-ROWS)))))
+        (reached-none (pass joints count dt cyclic ia ib n size s) (none joints count dt cyclic ia ib n size s)),
   )
 
   module _ (k : ℕ) {t u : List Float} {passes : ℕ} (so : Turned joints count dt cyclic ia ib n size s k t passes) (r : Passed)
       (d : Does Trying t u (passAs r (vecAt u IMPULSES n) (foundAt ia ib u n size)) (nonlinearPass joints count dt cyclic (startedAt ia ib t n size) (vecAt t IMPULSES n))) where
     turn : passAs r (vecAt u IMPULSES n) (foundAt ia ib u n size) ≡ nonlinearPass joints count dt cyclic (startedAt ia ib s n size) (vecAt t IMPULSES n)
-    turn = d .is ∙ ap (λ (x : Started). nonlinearPass joints count dt cyclic x (vecAt t IMPULSES n)) (kept-started (so .0) ia ib n size l g (λ i x. x))
+    turn =
+        d .is ∙ ap (λ (x : Started). nonlinearPass joints count dt cyclic x (vecAt t IMPULSES n)) (kept-started (so .0) ia ib n size l g (λ i x. x))
 
     kept : Kept Trying s u
     kept = kept-then (so .0) (d .kept) (λ i x. x)
 
     pub turned-next : r .end ≡ Passes.Next → Turned joints count dt cyclic ia ib n size s (k + 1) u (passes + r .passes)
-    turned-next h = (kept, reached-next (pass joints count dt cyclic ia ib n size s) (none joints count dt cyclic ia ib n size s) k (so .1) r (vecAt u IMPULSES n) (foundAt ia ib u n size) turn h)
+    turned-next h = (
+      kept,
+      reached-next (pass joints count dt cyclic ia ib n size s) (none joints count dt cyclic ia ib n size s) k (so .1) r (vecAt u IMPULSES n)
+          (foundAt ia ib u n size) turn h,
+    )
 
     abbrev Leaves : Finish → Type 0
-    Leaves end = Does Trying s u (loopedAs (record { finish = end; begun = k + 1; passes = passes + r .passes }) (foundAt ia ib u n size)) (nonlinearLoop joints count dt cyclic (startedAt ia ib s n size))
+    Leaves end =
+        Does Trying s u (loopedAs (record { finish = end; begun = k + 1; passes = passes + r .passes }) (foundAt ia ib u n size))
+        (nonlinearLoop joints count dt cyclic (startedAt ia ib s n size))
 
     pub turned-met : k < 32 → r .end ≡ Passes.Met → Leaves Ends.Done
     unfolding nonlinearLoop
-    turned-met w h = record { kept = kept; is = left-met (pass joints count dt cyclic ia ib n size s) (none joints count dt cyclic ia ib n size s) k (so .1) r (vecAt u IMPULSES n) (foundAt ia ib u n size) turn 32 w h }
+    turned-met w h =
+        record { kept = kept; is = left-met (pass joints count dt cyclic ia ib n size s) (none joints count dt cyclic ia ib n size s) k (so .1) r (vecAt u IMPULSES n) (foundAt ia ib u n size) turn 32 w h }
 
     pub turned-nonconvergent : k < 32 → r .end ≡ Passes.NonConvergent → Leaves Ends.NonConvergent
     unfolding nonlinearLoop
-    turned-nonconvergent w h = record { kept = kept; is = left-nonconvergent (pass joints count dt cyclic ia ib n size s) (none joints count dt cyclic ia ib n size s) k (so .1) r (vecAt u IMPULSES n) (foundAt ia ib u n size) turn 32 w h }
+    turned-nonconvergent w h =
+        record { kept = kept; is = left-nonconvergent (pass joints count dt cyclic ia ib n size s) (none joints count dt cyclic ia ib n size s) k (so .1) r (vecAt u IMPULSES n) (foundAt ia ib u n size) turn 32 w h }
 
     pub turned-overflow : k < 32 → r .end ≡ Passes.ArithmeticOverflow → Leaves Ends.ArithmeticOverflow
     unfolding nonlinearLoop
-    turned-overflow w h = record { kept = kept; is = left-overflow (pass joints count dt cyclic ia ib n size s) (none joints count dt cyclic ia ib n size s) k (so .1) r (vecAt u IMPULSES n) (foundAt ia ib u n size) turn 32 w h }
+    turned-overflow w h =
+        record { kept = kept; is = left-overflow (pass joints count dt cyclic ia ib n size s) (none joints count dt cyclic ia ib n size s) k (so .1) r (vecAt u IMPULSES n) (foundAt ia ib u n size) turn 32 w h }
 
   pub turned-spent : (k : ℕ) {t : List Float} {passes : ℕ} → Turned joints count dt cyclic ia ib n size s k t passes → k ≤ 32 → 32 ≤ k
-      → Does Trying s t (loopedAs (record { finish = Ends.NonConvergent; begun = 32; passes = passes }) (foundAt ia ib t n size)) (nonlinearLoop joints count dt cyclic (startedAt ia ib s n size))
+      → Does Trying s t (loopedAs (record {
+        finish =
+            Ends.NonConvergent;
+        begun = 32;
+        passes = passes;
+      }) (foundAt ia ib t n size)) (nonlinearLoop joints count dt cyclic (startedAt ia ib s n size))
   unfolding nonlinearLoop
-  turned-spent k {t} so a b = record { kept = so .0; is = left-spent (pass joints count dt cyclic ia ib n size s) (none joints count dt cyclic ia ib n size s) 32 k (foundAt ia ib t n size) (so .1) a b }
+  turned-spent k {t} so a b =
+      record { kept = so .0; is = left-spent (pass joints count dt cyclic ia ib n size s) (none joints count dt cyclic ia ib n size s) 32 k (foundAt ia ib t n size) (so .1) a b }
 
   -- the loop began with cleared impulses
-  pub turned-from : {before t : List Float} → Filled IMPULSES n (λ _. ratio 0 1) before s → {x : Left Found} → Does Trying s t x (nonlinearLoop joints count dt cyclic (startedAt ia ib s n size))
+  pub turned-from : {before t : List Float} → Filled IMPULSES n (λ _. ratio 0 1) before s → {x : Left Found}
+      → Does Trying s t x (nonlinearLoop joints count dt cyclic (startedAt ia ib s n size))
       → Does Trying before t x (nonlinearLoop joints count dt cyclic (startedAt ia ib before n size))
   turned-from f d = record {
     kept = kept-then (kept-more (f .kept) (λ i x. omega (arith, l, x .1))) (d .kept) (λ i x. x);

@@ -38,12 +38,15 @@ moved : (start a b : MomentumBody) → SameMass start a → SameMass a b → mov
 moved start a b s t = moved-is b start (t .mass-is ∙ s .mass-is) (t .local-is ∙ s .local-is) (t .inertia-is ∙ s .inertia-is)
 
 -- a kick of a body with the start's mass, local centre and inverse inertia
-pub kick-moved : (start a : MomentumBody) (linear angular : Vec3) {b : MomentumBody} → a .mass ≡ start .mass → a .«center_of_mass» ≡ start .«center_of_mass» → a .«inverse_inertia» ≡ start .«inverse_inertia»
+pub kick-moved : (start a : MomentumBody) (linear angular : Vec3) {b : MomentumBody} → a .mass ≡ start .mass
+    → a .«center_of_mass» ≡ start .«center_of_mass» → a .«inverse_inertia» ≡ start .«inverse_inertia»
     → go b ≡ kickOf a linear angular → movedTo b start ≡ b
-kick-moved start a linear angular {b} m c i h = moved start a b (record { mass-is = m; local-is = c; inertia-is = i }) (kick-mass a linear angular b (sym h))
+kick-moved start a linear angular {b} m c i h =
+    moved start a b (record { mass-is = m; local-is = c; inertia-is = i }) (kick-mass a linear angular b (sym h))
 
 -- a kick and a drift of the start
-pub drift-moved : (start : MomentumBody) (kick : Generalized) (dt : Float) {b : MomentumBody} → go b ≡ kickAndDrift dt start kick → movedTo b start ≡ b
+pub drift-moved : (start : MomentumBody) (kick : Generalized) (dt : Float) {b : MomentumBody} → go b ≡ kickAndDrift dt start kick
+    → movedTo b start ≡ b
 drift-moved start kick dt {b} h =
     let r = step (kickOf start (kick .linear) (kick .angular)) (λ (a : MomentumBody). driftOf a dt) b (sym h) in
     moved start (r .0) b (kick-mass start (kick .linear) (kick .angular) (r .0) (r .1)) (drift-mass (r .0) dt b (r .2))

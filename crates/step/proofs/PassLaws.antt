@@ -19,7 +19,8 @@ use Rattle.step.specs.RunView.{endAs, passAs, loopedAs, progressAs}
 
 -- what stands before turn k: a, and the linear passes so far
 abbrev pub Reached : {A B : Type 0} → (A → Turn (Took A) (Took (Result B))) → A → ℕ → A → ℕ → Type 0
-Reached {A} {B} pass a₀ k a passes = go (record { answer = a; passes = passes }) ≡ loop {A = Took A} {E = Left B} k (summedTurn pass) (record { answer = a₀; passes = 0 })
+Reached {A} {B} pass a₀ k a passes =
+    go (record { answer = a; passes = passes }) ≡ loop {A = Took A} {E = Left B} k (summedTurn pass) (record { answer = a₀; passes = 0 })
 
 module _ {A B : Type 0} (pass : A → Turn (Took A) (Took (Result B))) (a₀ : A) where
   pub reached-none : Reached pass a₀ 0 a₀ 0
@@ -33,17 +34,21 @@ module _ {A B : Type 0} (pass : A → Turn (Took A) (Took (Result B))) (a₀ : A
     reached-next h = loop-more (summedTurn pass) (record { answer = a₀; passes = 0 }) at (case h)
 
     module _ (most : ℕ) (l : k < most) where
-      left : {answer : Result B} → stop (record { answer = answer; begun = k + 1; passes = before + r .passes }) ≡ summedTurn pass k (record { answer = a; passes = before })
+      left : {answer : Result B}
+          → stop (record { answer = answer; begun = k + 1; passes = before + r .passes }) ≡ summedTurn pass k (record { answer = a; passes = before })
           → record { answer = answer; begun = k + 1; passes = before + r .passes } ≡ passesOf most pass a₀
       left q = ap (leftAfter most) (loop-stop (summedTurn pass) (record { answer = a₀; passes = 0 }) most l at q)
 
-      pub left-met : r .end ≡ Passes.Met → loopedAs (record { finish = Ends.Done; begun = k + 1; passes = before + r .passes }) b ≡ passesOf most pass a₀
+      pub left-met : r .end ≡ Passes.Met
+          → loopedAs (record { finish = Ends.Done; begun = k + 1; passes = before + r .passes }) b ≡ passesOf most pass a₀
       left-met h = left (case h)
 
-      pub left-nonconvergent : r .end ≡ Passes.NonConvergent → loopedAs (record { finish = Ends.NonConvergent; begun = k + 1; passes = before + r .passes }) b ≡ passesOf most pass a₀
+      pub left-nonconvergent : r .end ≡ Passes.NonConvergent
+          → loopedAs (record { finish = Ends.NonConvergent; begun = k + 1; passes = before + r .passes }) b ≡ passesOf most pass a₀
       left-nonconvergent h = left (case h)
 
-      pub left-overflow : r .end ≡ Passes.ArithmeticOverflow → loopedAs (record { finish = Ends.ArithmeticOverflow; begun = k + 1; passes = before + r .passes }) b ≡ passesOf most pass a₀
+      pub left-overflow : r .end ≡ Passes.ArithmeticOverflow
+          → loopedAs (record { finish = Ends.ArithmeticOverflow; begun = k + 1; passes = before + r .passes }) b ≡ passesOf most pass a₀
       left-overflow h = left (case h)
 
   -- all turns were taken
@@ -53,10 +58,12 @@ module _ {A B : Type 0} (pass : A → Turn (Took A) (Took (Result B))) (a₀ : A
 
 -- ---- an answer that was made of its parts
 module _ {A B : Type 0} (x : List Float → A) (y : List Float → B) where
-  pub passed-is : {P : ℕ → Type 0} {s t : List Float} {d : Turn (Took A) (Took (Result B))} {m : ℕ} {r q : Passed} → r ≡ q → (Does P s t (passAs q (x t) (y t)) d) × (q .passes ≤ m) → (Does P s t (passAs r (x t) (y t)) d) × (r .passes ≤ m)
+  pub passed-is : {P : ℕ → Type 0} {s t : List Float} {d : Turn (Took A) (Took (Result B))} {m : ℕ} {r q : Passed} → r ≡ q
+      → (Does P s t (passAs q (x t) (y t)) d) × (q .passes ≤ m) → (Does P s t (passAs r (x t) (y t)) d) × (r .passes ≤ m)
   passed-is {P} {s} {t} {d} {m} e h = subst (λ (z : Passed). (Does P s t (passAs z (x t) (y t)) d) × (z .passes ≤ m)) (sym e) h
 
-pub looped-is : {B : Type 0} (y : List Float → B) {P : ℕ → Type 0} {s t : List Float} {d : Left B} {r q : Looped} → r ≡ q → Does P s t (loopedAs q (y t)) d → Does P s t (loopedAs r (y t)) d
+pub looped-is : {B : Type 0} (y : List Float → B) {P : ℕ → Type 0} {s t : List Float} {d : Left B} {r q : Looped} → r ≡ q
+    → Does P s t (loopedAs q (y t)) d → Does P s t (loopedAs r (y t)) d
 looped-is y {P} {s} {t} {d} e h = subst (λ (z : Looped). Does P s t (loopedAs z (y t)) d) (sym e) h
 
 pub begun-is : {m : ℕ} {r q : Looped} → r ≡ q → q .begun ≤ m → r .begun ≤ m
@@ -65,5 +72,6 @@ begun-is {m} e h = subst (λ (z : Looped). z .begun ≤ m) (sym e) h
 pub passes-is : {m : ℕ} {r q : Looped} → r ≡ q → q .passes ≤ m → r .passes ≤ m
 passes-is {m} e h = subst (λ (z : Looped). z .passes ≤ m) (sym e) h
 
-pub progress-is : (y : List Float → List BodyState) {P : ℕ → Type 0} {s t : List Float} {d : Turn (Counted (List BodyState)) (Counted Fault)} {r q : Progress} → r ≡ q → Does P s t (progressAs q (y t)) d → Does P s t (progressAs r (y t)) d
+pub progress-is : (y : List Float → List BodyState) {P : ℕ → Type 0} {s t : List Float} {d : Turn (Counted (List BodyState)) (Counted Fault)} {r q : Progress}
+    → r ≡ q → Does P s t (progressAs q (y t)) d → Does P s t (progressAs r (y t)) d
 progress-is y {P} {s} {t} {d} e h = subst (λ (z : Progress). Does P s t (progressAs z (y t)) d) (sym e) h

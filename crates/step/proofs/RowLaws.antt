@@ -49,8 +49,11 @@ module _ (joints : List Joint) where
   before-rise zero j i h l = absurd (omega arith)
   before-rise (suc k) j i h l = case (ℕ-discrete j k) (before-rise k j i)
     where
-      case : Dec (j ≡ k) → (j < k → i < rowsOf j → rowsBefore joints j + i < rowsBefore joints k) → rowsBefore joints j + i < rowsBefore joints k + rowsOf k
-      case (yes e) ih = subst (λ (x : ℕ). rowsBefore joints j + i < rowsBefore joints x + rowsOf x) e (let z : rowsBefore joints j + i < rowsBefore joints j + rowsOf j = omega arith in z)
+      case : Dec (j ≡ k) → (j < k → i < rowsOf j → rowsBefore joints j + i < rowsBefore joints k)
+          → rowsBefore joints j + i < rowsBefore joints k + rowsOf k
+      case (yes e) ih =
+          subst (λ (x : ℕ). rowsBefore joints j + i < rowsBefore joints x + rowsOf x) e
+          (let z : rowsBefore joints j + i < rowsBefore joints j + rowsOf j = omega arith in z)
       case (no q) ih = let z : rowsBefore joints j + i < rowsBefore joints k = ih (omega arith) l in omega arith
 
   pub sides-none : (ia ib : List ℕ) → Sides joints 0 ia ib
@@ -65,7 +68,9 @@ module _ (joints : List Joint) where
     where
       one : (x y : List ℕ) (body : ℕ → ℕ) → Spread n m (body k) x y → ((j i : ℕ) → j < k → i < rowsOf j → getD x (rowsBefore joints j + i) 0 ≡ body j)
           → (j i : ℕ) → j < k + 1 → i < rowsOf j → Dec (j ≡ k) → getD y (rowsBefore joints j + i) 0 ≡ body j
-      one x y body t f j i l g (yes r) = subst (λ (z : ℕ). i < rowsOf z → getD y (rowsBefore joints z + i) 0 ≡ body z) (sym r) (λ d. t .here (rowsBefore joints k + i) (omega arith) (omega arith)) g
+      one x y body t f j i l g (yes r) =
+          subst (λ (z : ℕ). i < rowsOf z → getD y (rowsBefore joints z + i) 0 ≡ body z) (sym r)
+          (λ d. t .here (rowsBefore joints k + i) (omega arith) (omega arith)) g
       one x y body t f j i l g (no r) =
           let u : rowsBefore joints j + i < rowsBefore joints k = before-rise k j i (omega arith) g in
           t .before (rowsBefore joints j + i) (omega arith) ∙ f j i (omega arith) g
@@ -91,10 +96,12 @@ tab-append n (suc m) f =
     assoc (x ∷ xs) ys zs = ap (λ us. x ∷ us) (assoc xs ys zs)
 
 -- ---- write_rows
-pub wrote-rows : (joints : List Joint) (k n : ℕ) → n ≡ rowsBefore joints k → {a b : MomentumBody} {i : ℕ} {s t : List Float} {r : Written} → Writes (jointIn joints k) a b i s t r → (m : ℕ) → r ≡ Written.Rows m → n + m ≡ rowsBefore joints (k + 1)
+pub wrote-rows : (joints : List Joint) (k n : ℕ) → n ≡ rowsBefore joints k → {a b : MomentumBody} {i : ℕ} {s t : List Float} {r : Written}
+    → Writes (jointIn joints k) a b i s t r → (m : ℕ) → r ≡ Written.Rows m → n + m ≡ rowsBefore joints (k + 1)
 wrote-rows joints k n p w m q = before-more joints k n p (w .count m q)
 
-module _ (joints : List Joint) (count : ℕ) (moved : Bool) (rows : ℕ) (s₀ : List Float) (size : ℕ) (J : Joined joints count size) (ia ib : List ℕ) (S : Sides joints count ia ib) where
+module _ (joints : List Joint) (count : ℕ) (moved : Bool) (rows : ℕ) (s₀ : List Float) (size : ℕ) (J : Joined joints count size) (ia ib : List ℕ)
+    (S : Sides joints count ia ib) where
   abbrev writing : ℕ → List EqualityRow → Result (List EqualityRow)
   writing k before = jointRows joints (bodiesAt moved s₀ size) k >>= λ local. go (before ++ local)
 
@@ -112,10 +119,13 @@ module _ (joints : List Joint) (count : ℕ) (moved : Bool) (rows : ℕ) (s₀ :
     rows-are : writtenAs r t (rows + 14 * n) (jointIn joints k .«body_a») (jointIn joints k .«body_b») ≡ jointRows joints (bodiesAt moved s₀ size) k
     rows-are =
         w .is
-        ∙ ap (λ (x : MomentumBody). writeEqualityRows (jointIn joints k) x b) (body-in (so .kept) (λ i x y. omega arith) (λ i x y. omega arith) moved size _ (J .a-there k h) (J .small) ea)
-        ∙ ap (writeEqualityRows (jointIn joints k) _) (body-in (so .kept) (λ i x y. omega arith) (λ i x y. omega arith) moved size _ (J .b-there k h) (J .small) eb)
+        ∙ ap (λ (x : MomentumBody). writeEqualityRows (jointIn joints k) x b)
+        (body-in (so .kept) (λ i x y. omega arith) (λ i x y. omega arith) moved size _ (J .a-there k h) (J .small) ea)
+        ∙ ap (writeEqualityRows (jointIn joints k) _)
+        (body-in (so .kept) (λ i x y. omega arith) (λ i x y. omega arith) moved size _ (J .b-there k h) (J .small) eb)
 
-    case : {x : Written} → r ≡ x → writtenAs x t (rows + 14 * n) (jointIn joints k .«body_a») (jointIn joints k .«body_b») ≡ jointRows joints (bodiesAt moved s₀ size) k
+    case : {x : Written} → r ≡ x
+        → writtenAs x t (rows + 14 * n) (jointIn joints k .«body_a») (jointIn joints k .«body_b») ≡ jointRows joints (bodiesAt moved s₀ size) k
     case q = sym (ap (λ (y : Written). writtenAs y t (rows + 14 * n) (jointIn joints k .«body_a») (jointIn joints k .«body_b»)) q) ∙ rows-are
 
     kept : Kept (λ i. Out rows 1344 i) s₀ t
@@ -124,7 +134,10 @@ module _ (joints : List Joint) (count : ℕ) (moved : Bool) (rows : ℕ) (s₀ :
     pub wrote-again : {m : ℕ} → r ≡ Written.Rows m → Wrote (k + 1) (n + m) t
     wrote-again {m} q = record {
       kept = kept;
-      is = ap go (tab-append n m (rowOn ia ib t rows) ∙ ap (λ xs. xs ++ tab m (λ i. rowOn ia ib t rows (n + i))) (tab-ext n old) ∙ ap (λ xs. rowsOn ia ib s rows n ++ xs) (tab-ext m new))
+      is =
+          ap go
+          (tab-append n m (rowOn ia ib t rows) ∙ ap (λ xs. xs ++ tab m (λ i. rowOn ia ib t rows (n + i))) (tab-ext n old) ∙ ap
+          (λ xs. rowsOn ia ib s rows n ++ xs) (tab-ext m new))
           ∙ loop-more writing [] (so .is) (then-go (λ local. go (rowsOn ia ib s rows n ++ local)) (case q));
     }
       where
@@ -134,21 +147,25 @@ module _ (joints : List Joint) (count : ℕ) (moved : Bool) (rows : ℕ) (s₀ :
         place : (i : ℕ) → rows + 14 * (n + i) ≡ rows + 14 * n + 14 * i
         place i = omega arith
 
-        new : (i : ℕ) → i < m → rowOn ia ib t rows (n + i) ≡ rowAt t (rows + 14 * n + 14 * i) (jointIn joints k .«body_a») (jointIn joints k .«body_b»)
+        new : (i : ℕ) → i < m
+            → rowOn ia ib t rows (n + i) ≡ rowAt t (rows + 14 * n + 14 * i) (jointIn joints k .«body_a») (jointIn joints k .«body_b»)
         new i d =
             let c : m ≡ rowCount (jointIn joints k .kind) = w .count m q in
             let x : getD ia (n + i) 0 ≡ jointIn joints k .«body_a» = ap (λ (z : ℕ). getD ia (z + i) 0) p ∙ S .a-is k i h (omega arith) in
             let y : getD ib (n + i) 0 ≡ jointIn joints k .«body_b» = ap (λ (z : ℕ). getD ib (z + i) 0) p ∙ S .b-is k i h (omega arith) in
             λ j. rowAt t (place i j) (x j) (y j)
 
-    stops : {f : Fault} → stop f ≡ jointRows joints (bodiesAt moved s₀ size) k → Does (λ i. Out rows 1344 i) s₀ t (stop f) (writeRows joints count (bodiesAt moved s₀ size))
+    stops : {f : Fault} → stop f ≡ jointRows joints (bodiesAt moved s₀ size) k
+        → Does (λ i. Out rows 1344 i) s₀ t (stop f) (writeRows joints count (bodiesAt moved s₀ size))
     unfolding writeRows
     stops e = record { kept = kept; is = loop-stop writing [] count h (so .is) (then-stop (λ local. go (rowsOn ia ib s rows n ++ local)) e) }
 
-    pub wrote-nonconvergent : r ≡ Written.NonConvergent → Does (λ i. Out rows 1344 i) s₀ t (stop nonConvergent) (writeRows joints count (bodiesAt moved s₀ size))
+    pub wrote-nonconvergent : r ≡ Written.NonConvergent
+        → Does (λ i. Out rows 1344 i) s₀ t (stop nonConvergent) (writeRows joints count (bodiesAt moved s₀ size))
     wrote-nonconvergent q = stops (case q)
 
-    pub wrote-overflow : r ≡ Written.ArithmeticOverflow → Does (λ i. Out rows 1344 i) s₀ t (stop arithmeticOverflow) (writeRows joints count (bodiesAt moved s₀ size))
+    pub wrote-overflow : r ≡ Written.ArithmeticOverflow
+        → Does (λ i. Out rows 1344 i) s₀ t (stop arithmeticOverflow) (writeRows joints count (bodiesAt moved s₀ size))
     wrote-overflow q = stops (case q)
 
   pub wrote-ends : (k n : ℕ) (s : List Float) → Wrote k n s → n ≡ rowsBefore joints k → k ≤ count → count ≤ k
@@ -156,4 +173,8 @@ module _ (joints : List Joint) (count : ℕ) (moved : Bool) (rows : ℕ) (s₀ :
   unfolding writeRows
   wrote-ends k n s so p a b =
       let same : k ≡ count = omega arith in
-      record { kept = so .kept; is = ap (λ (m : ℕ). go (rowsOn ia ib s rows m)) (sym (p ∙ ap (rowsBefore joints) same)) ∙ loop-end writing [] a b (so .is) }
+      record {
+        kept =
+            so .kept;
+        is = ap (λ (m : ℕ). go (rowsOn ia ib s rows m)) (sym (p ∙ ap (rowsBefore joints) same)) ∙ loop-end writing [] a b (so .is);
+      }

@@ -26,7 +26,8 @@ not-ended a h = let z : _≡_ {A = ℕ} 0 1 = cc in omega arith
 
 -- a turn of the step's two loops: the solve, and what is made of its solution
 abbrev turnBy : {A B : Type 0} → (List Float → Result A) → Solve → Turn (Took A) (Took (Result B))
-turnBy make x = taking (x .passes) (x .answer) >>= λ solution. taking (x .passes) (make solution) >>= λ next. go (record { answer = next; passes = x .passes })
+turnBy make x =
+    taking (x .passes) (x .answer) >>= λ solution. taking (x .passes) (make solution) >>= λ next. go (record { answer = next; passes = x .passes })
 
 -- the cases of an end
 pub finish-case : {A : Type 0} (x : A) (r : Finish) {q : Finish} {d : Result A} → finishAs r x ≡ d → r ≡ q → finishAs q x ≡ d
@@ -38,24 +39,30 @@ module _ (r : Ended) (n : ℕ) {P : ℕ → Type 0} {s t : List Float} {solve : 
 
   -- a turn, in the case that the solve failed, and by what is made of its solution
   module _ {A B : Type 0} (make : List Float → Result A) where
-    pub turn-nonconvergent : r .end ≡ Ends.NonConvergent → stop (record { answer = stop nonConvergent; passes = r .passes }) ≡ turnBy {B = B} make solve
+    pub turn-nonconvergent : r .end ≡ Ends.NonConvergent
+        → stop (record { answer = stop nonConvergent; passes = r .passes }) ≡ turnBy {B = B} make solve
     unfolding _>>=_
     turn-nonconvergent h = ap (turnBy {B = B} make) (ended-same _ _ (case h))
 
-    pub turn-overflow : r .end ≡ Ends.ArithmeticOverflow → stop (record { answer = stop arithmeticOverflow; passes = r .passes }) ≡ turnBy {B = B} make solve
+    pub turn-overflow : r .end ≡ Ends.ArithmeticOverflow
+        → stop (record { answer = stop arithmeticOverflow; passes = r .passes }) ≡ turnBy {B = B} make solve
     unfolding _>>=_
     turn-overflow h = ap (turnBy {B = B} make) (ended-same _ _ (case h))
 
     module _ (h : r .end ≡ Ends.Solved) where
-      made : {y : Result A} → y ≡ make (vecAt t SOLUTION n) → turnBy {B = B} (λ _. y) (record { answer = go (vecAt t SOLUTION n); passes = r .passes }) ≡ turnBy {B = B} make solve
+      made : {y : Result A} → y ≡ make (vecAt t SOLUTION n)
+          → turnBy {B = B} (λ _. y) (record { answer = go (vecAt t SOLUTION n); passes = r .passes }) ≡ turnBy {B = B} make solve
       unfolding _>>=_
-      made e = ap (λ (y : Result A). turnBy {B = B} (λ _. y) (record { answer = go (vecAt t SOLUTION n); passes = r .passes })) e ∙ ap (turnBy {B = B} make) (ended-same _ _ (case h))
+      made e =
+          ap (λ (y : Result A). turnBy {B = B} (λ _. y) (record { answer = go (vecAt t SOLUTION n); passes = r .passes })) e ∙ ap
+          (turnBy {B = B} make) (ended-same _ _ (case h))
 
       pub turn-next : {x : A} → go x ≡ make (vecAt t SOLUTION n) → go (record { answer = x; passes = r .passes }) ≡ turnBy {B = B} make solve
       unfolding _>>=_
       turn-next e = made e
 
-      pub turn-stops : {f : Fault} → stop f ≡ make (vecAt t SOLUTION n) → stop (record { answer = stop f; passes = r .passes }) ≡ turnBy {B = B} make solve
+      pub turn-stops : {f : Fault} → stop f ≡ make (vecAt t SOLUTION n)
+          → stop (record { answer = stop f; passes = r .passes }) ≡ turnBy {B = B} make solve
       unfolding _>>=_
       turn-stops e = made e
 

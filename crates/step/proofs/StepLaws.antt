@@ -17,14 +17,17 @@ use Rattle.solves.specs.View.{Rows}
 use Rattle.step.specs.Ready.{Joined, RowBodies, Spread}
 
 -- a joint has at most six rows
-pub written-most : {joint : Joint} {a b : MomentumBody} {i : ℕ} {s t : List Float} {r : Written} → Writes joint a b i s t r → (n : ℕ) → r ≡ Written.Rows n → n ≤ 6
+pub written-most : {joint : Joint} {a b : MomentumBody} {i : ℕ} {s t : List Float} {r : Written} → Writes joint a b i s t r → (n : ℕ)
+    → r ≡ Written.Rows n → n ≤ 6
 written-most {joint} w n e = omega (arith, w .count n e, count-most (joint .kind))
 
 pub rows-same : {s t : List Float} {ia ib : List ℕ} {rows n count : ℕ} → Rows s ia ib rows n count → length t ≡ length s → Rows t ia ib rows n count
-rows-same pre e = record { whole = omega arith; table = pre .table; most = pre .most; bodies = pre .bodies; a-there = pre .a-there; b-there = pre .b-there }
+rows-same pre e =
+    record { whole = omega arith; table = pre .table; most = pre .most; bodies = pre .bodies; a-there = pre .a-there; b-there = pre .b-there }
 
 pub joined-sixteen : {joints : List Joint} {count size : ℕ} → Joined joints count size → Joined joints count 16
-joined-sixteen {joints} {count} {size} pre = record { few = pre .few; small = omega arith; a-there = λ k h. low (pre .a-there k h); b-there = λ k h. low (pre .b-there k h) }
+joined-sixteen {joints} {count} {size} pre =
+    record { few = pre .few; small = omega arith; a-there = λ k h. low (pre .a-there k h); b-there = λ k h. low (pre .b-there k h) }
   where
     low : {x : ℕ} → x < size → x < 16
     low h = omega (arith, pre .small)
@@ -33,7 +36,8 @@ joined-sixteen {joints} {count} {size} pre = record { few = pre .few; small = om
 pub spread-none : (from k body : ℕ) (s : List ℕ) → k ≤ from → Spread from (k - from) body s s
 spread-none from k body s q = record { before = λ j h. refl; here = λ j h g. absurd (omega arith) }
 
-pub spread-more : {from k body : ℕ} {s t : List ℕ} → from ≤ k → k < length t → Spread from (k - from) body s t → Spread from (k + 1 - from) body s (set t k body)
+pub spread-more : {from k body : ℕ} {s t : List ℕ} → from ≤ k → k < length t → Spread from (k - from) body s t
+    → Spread from (k + 1 - from) body s (set t k body)
 spread-more {from} {k} {body} {s} {t} f h p = record {
   before = λ j l. getD-set-other t k j body 0 (λ e. omega arith) ∙ p .before j l;
   here = λ j l g. case j l g (ℕ-discrete j k);
@@ -43,11 +47,13 @@ spread-more {from} {k} {body} {s} {t} f h p = record {
     case j l g (yes e) = subst (λ (x : ℕ). getD (set t k body) x 0 ≡ body) (sym e) (getD-set-same t k body 0 h)
     case j l g (no q) = getD-set-other t k j body 0 q ∙ p .here j l (omega arith)
 
-pub spread-end : {from n k body : ℕ} {s t : List ℕ} → from ≤ k → k ≤ from + n → from + n ≤ k → Spread from (k - from) body s t → Spread from n body s t
+pub spread-end : {from n k body : ℕ} {s t : List ℕ} → from ≤ k → k ≤ from + n → from + n ≤ k → Spread from (k - from) body s t
+    → Spread from n body s t
 spread-end {from} {n} {k} {body} {s} {t} f a b p = record { before = p .before; here = λ j l g. p .here j l (omega arith) }
 
 -- all bodies of the rows so far are below size
-pub spread-less : {from n body size : ℕ} {s t : List ℕ} → Spread from n body s t → ((j : ℕ) → j < from → getD s j 0 < size) → body < size → (j : ℕ) → j < from + n → getD t j 0 < size
+pub spread-less : {from n body size : ℕ} {s t : List ℕ} → Spread from n body s t → ((j : ℕ) → j < from → getD s j 0 < size) → body < size → (j : ℕ)
+    → j < from + n → getD t j 0 < size
 spread-less {from} {n} {body} {size} {s} {t} p h b j l = case (decLe from j)
   where
     case : Dec (from ≤ j) → getD t j 0 < size
@@ -55,7 +61,8 @@ spread-less {from} {n} {body} {size} {s} {t} p h b j l = case (decLe from j)
     case (no q) = subst (λ (x : ℕ). x < size) (sym (p .before j (omega arith))) (h j (omega arith))
 
 -- the rows of a run
-pub rows-of : {joints : List Joint} {count n size : ℕ} {s : List Float} {ia ib : List ℕ} (rows : ℕ) → rows ≤ 1344 → 5680 ≤ length s → Joined joints count size → RowBodies joints count n ia ib → Rows s ia ib rows n size
+pub rows-of : {joints : List Joint} {count n size : ℕ} {s : List Float} {ia ib : List ℕ} (rows : ℕ) → rows ≤ 1344 → 5680 ≤ length s
+    → Joined joints count size → RowBodies joints count n ia ib → Rows s ia ib rows n size
 rows-of {joints} {count} {n} {size} rows t w j b = record {
   whole = w;
   table = t;

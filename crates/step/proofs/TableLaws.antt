@@ -69,7 +69,8 @@ module _ (bodies : List Float) (n : ℕ) (s₀ : List Float) where
         let r : body ≡ recordIn (tab n (recordAt bodies)) k = eb ∙ sym (tab-at n (recordAt bodies) noRecord k h) in
         e ∙ ap (λ (i : Inverted). newOf body (i .inverse)) ei ∙ ap (λ (b : RigidBody). newOf b (inverseSpdOf (b .inertia) .inverse)) r
 
-    pub begin-again : {t : List Float} {b : MomentumBody} → go b ≡ d → (Kept (λ j. Out (START + 26 * k) 26 j) s t) × (startBodyAt t k ≡ heldOf b) → Begun (k + 1) t
+    pub begin-again : {t : List Float} {b : MomentumBody} → go b ≡ d → (Kept (λ j. Out (START + 26 * k) 26 j) s t) × (startBodyAt t k ≡ heldOf b)
+        → Begun (k + 1) t
     begin-again {t} {b} q st =
         so-more startBodyAt begin s₀ k s so (λ i. Out START (26 * (k + 1)) i) (λ i x. omega arith) (st .0) (λ i x. omega arith)
         (λ i g. kept-start (st .0) i (λ j a c. omega arith)) (st .1 ∙ new-held _ _ (q ∙ begin-turn)) (q ∙ begin-turn)
@@ -77,11 +78,14 @@ module _ (bodies : List Float) (n : ℕ) (s₀ : List Float) where
     pub begin-stops : {f : Fault} → stop f ≡ d → Does (λ i. Out START 416 i) s₀ s (stop f) (startBodies (tab n (recordAt bodies)))
     unfolding startBodies
     begin-stops q =
-        so-stop startBodyAt begin s₀ k s so (λ i. Out START 416 i) (λ i x. omega arith) (sym (tab-length n (recordAt bodies))) h (kept-refl (λ i. Out START 416 i) s) (λ i x. x) (q ∙ begin-turn)
+        so-stop startBodyAt begin s₀ k s so (λ i. Out START 416 i) (λ i x. omega arith) (sym (tab-length n (recordAt bodies))) h
+        (kept-refl (λ i. Out START 416 i) s) (λ i x. x) (q ∙ begin-turn)
 
-  pub begin-ends : (k : ℕ) (s : List Float) → Begun k s → k ≤ n → n ≤ k → n ≤ 16 → Does (λ i. Out START 416 i) s₀ s (go (startBodiesAt s n)) (startBodies (tab n (recordAt bodies)))
+  pub begin-ends : (k : ℕ) (s : List Float) → Begun k s → k ≤ n → n ≤ k → n ≤ 16
+      → Does (λ i. Out START 416 i) s₀ s (go (startBodiesAt s n)) (startBodies (tab n (recordAt bodies)))
   unfolding startBodies
-  begin-ends k s so a b l = so-end startBodyAt begin s₀ k s so (λ i. Out START 416 i) (λ i x. omega arith) n (sym (tab-length n (recordAt bodies))) a b
+  begin-ends k s so a b l =
+      so-end startBodyAt begin s₀ k s so (λ i. Out START 416 i) (λ i x. omega arith) n (sym (tab-length n (recordAt bodies))) a b
 
 bodies-length : (moved : Bool) (s : List Float) (n : ℕ) → n ≡ length (bodiesAt moved s n)
 bodies-length true s n = sym (tab-length n (candidateAt s))
@@ -100,9 +104,14 @@ unfolding massResponse matProductOf
 mass-cols body m h =
     let rotation : OptionMat3 = toMat3Of (body .rotation) in
     let angular : Mat3 = matProductOf (matProductOf (rotation .matrix) (body .«inverse_inertia»)) (transposeOf (rotation .matrix)) in
-    walk (rotation .some && finiteMat angular && isFinite (ratio 1 1 ⊘ body .mass)) (record { linear = ratio 1 1 ⊘ body .mass; angular = angular }) refl h
+    walk (rotation .some && finiteMat angular && isFinite (ratio 1 1 ⊘ body .mass)) (record {
+      linear =
+          ratio 1 1 ⊘ body .mass;
+      angular = angular;
+    }) refl h
   where
-    walk : (b : Bool) (r : MassResponse) → colsOf (r .angular) ≡ r .angular → go m ≡ cond b (go r) (stop arithmeticOverflow) → colsOf (m .angular) ≡ m .angular
+    walk : (b : Bool) (r : MassResponse) → colsOf (r .angular) ≡ r .angular → go m ≡ cond b (go r) (stop arithmeticOverflow)
+        → colsOf (m .angular) ≡ m .angular
     walk true r e q = subst (λ (x : MassResponse). colsOf (x .angular) ≡ x .angular) (sym (go-same _ _ q)) e
     walk false r e q = absurd (no-go q)
 
@@ -110,7 +119,8 @@ module _ (body : MomentumBody) (k : ℕ) (s : List Float) (r : MassAnswer) (e : 
   pub weigh-over : not (r .some) ≡ true → (P : ℕ → Type 0) → Does P s s (stop arithmeticOverflow) (massResponse body)
   weigh-over h P = record { kept = kept-refl P s; is = cond-no {b = r .some} (go (r .mass)) (stop arithmeticOverflow) (not-yes (r .some) h) ∙ e }
 
-  pub weigh-there : not (r .some) ≡ false → {t : List Float} {x y z : Vec3} → x ≡ columnOf (r .mass .angular) 0 → y ≡ columnOf (r .mass .angular) 1 → z ≡ columnOf (r .mass .angular) 2
+  pub weigh-there : not (r .some) ≡ false → {t : List Float} {x y z : Vec3} → x ≡ columnOf (r .mass .angular) 0 → y ≡ columnOf (r .mass .angular) 1
+      → z ≡ columnOf (r .mass .angular) 2
       → (Kept (λ j. Out (MASSES + 10 * k) 10 j) s t) × (massAt t MASSES k ≡ massOf (r .mass .linear) x y z)
       → Does (λ j. Out (MASSES + 10 * k) 10 j) s t (go (massAt t MASSES k)) (massResponse body)
   weigh-there h {t} {x} {y} {z} ex ey ez st = record { kept = st .0; is = ap go (st .1 ∙ whole) ∙ there }
@@ -120,8 +130,9 @@ module _ (body : MomentumBody) (k : ℕ) (s : List Float) (r : MassAnswer) (e : 
 
       whole : massOf (r .mass .linear) x y z ≡ r .mass
       whole =
-          let a : massOf (r .mass .linear) x y z ≡ record { linear = r .mass .linear; angular = colsOf (r .mass .angular) } = λ j. massOf (r .mass .linear) (ex j) (ey j) (ez j) in
-          let b : record { linear = r .mass .linear; angular = colsOf (r .mass .angular) } ≡ r .mass = λ j. record { linear = r .mass .linear; angular = mass-cols body (r .mass) there j } in
+          let held : MassResponse = record { linear = r .mass .linear; angular = colsOf (r .mass .angular) } in
+          let a : massOf (r .mass .linear) x y z ≡ held = λ j. massOf (r .mass .linear) (ex j) (ey j) (ez j) in
+          let b : held ≡ r .mass = λ j. record { linear = r .mass .linear; angular = mass-cols body (r .mass) there j } in
           a ∙ b
 
 -- ---- prepare_masses
@@ -135,43 +146,57 @@ module _ (moved : Bool) (n : ℕ) (s₀ : List Float) where
   pub weigh-none : Weighed 0 s₀
   weigh-none = so-none (λ s k. massAt s MASSES k) weigh s₀ _
 
-  module _ (k : ℕ) (s : List Float) (so : Weighed k s) (h : k < n) (l : n ≤ 16) {body : MomentumBody} (eb : body ≡ cond moved (candidateAt s k) (startBodyAt s k)) where
+  module _ (k : ℕ) (s : List Float) (so : Weighed k s) (h : k < n) (l : n ≤ 16) {body : MomentumBody}
+      (eb : body ≡ cond moved (candidateAt s k) (startBodyAt s k)) where
     weigh-turn : massResponse body ≡ weigh k
     weigh-turn = ap massResponse (body-in (so .kept) (λ i a b. omega arith) (λ i a b. omega arith) moved n k h l eb)
 
-    pub weigh-again : {t : List Float} (r : Outcome) → r ≡ Outcomes.Done → Does (λ j. Out (MASSES + 10 * k) 10 j) s t (ranAs r (massAt t MASSES k)) (massResponse body) → Weighed (k + 1) t
+    pub weigh-again : {t : List Float} (r : Outcome) → r ≡ Outcomes.Done
+        → Does (λ j. Out (MASSES + 10 * k) 10 j) s t (ranAs r (massAt t MASSES k)) (massResponse body) → Weighed (k + 1) t
     weigh-again {t} r q d = record {
       kept = kept-then (kept-more (so .kept) (λ i x. omega arith)) (d .kept) (λ i x. omega arith);
       is = ap go (masses-more MASSES k (d .kept, refl)) ∙ each-more weigh (so .is) (ran-done (massAt t MASSES k) d q ∙ weigh-turn);
     }
 
-    pub weigh-stops : {t : List Float} (r : Outcome) → r ≡ Outcomes.ArithmeticOverflow → Does (λ j. Out (MASSES + 10 * k) 10 j) s t (ranAs r (massAt t MASSES k)) (massResponse body) → Does (λ i. Out MASSES 160 i) s₀ t (stop arithmeticOverflow) (prepareMasses (bodiesAt moved s₀ n))
+    pub weigh-stops : {t : List Float} (r : Outcome) → r ≡ Outcomes.ArithmeticOverflow
+        → Does (λ j. Out (MASSES + 10 * k) 10 j) s t (ranAs r (massAt t MASSES k)) (massResponse body)
+        → Does (λ i. Out MASSES 160 i) s₀ t (stop arithmeticOverflow) (prepareMasses (bodiesAt moved s₀ n))
     unfolding prepareMasses
-    weigh-stops {t} r q d = so-stop (λ s k. massAt s MASSES k) weigh s₀ k s so (λ i. Out MASSES 160 i) (λ i x. omega arith) (bodies-length moved s₀ n) h (d .kept) (λ i x. omega arith) (ran-over (massAt t MASSES k) d q ∙ weigh-turn)
+    weigh-stops {t} r q d =
+        so-stop (λ s k. massAt s MASSES k) weigh s₀ k s so (λ i. Out MASSES 160 i) (λ i x. omega arith) (bodies-length moved s₀ n) h (d .kept)
+        (λ i x. omega arith) (ran-over (massAt t MASSES k) d q ∙ weigh-turn)
 
-  pub weigh-ends : (k : ℕ) (s : List Float) → Weighed k s → k ≤ n → n ≤ k → n ≤ 16 → Does (λ i. Out MASSES 160 i) s₀ s (go (massesAt s MASSES n)) (prepareMasses (bodiesAt moved s₀ n))
+  pub weigh-ends : (k : ℕ) (s : List Float) → Weighed k s → k ≤ n → n ≤ k → n ≤ 16
+      → Does (λ i. Out MASSES 160 i) s₀ s (go (massesAt s MASSES n)) (prepareMasses (bodiesAt moved s₀ n))
   unfolding prepareMasses
-  weigh-ends k s so a b l = so-end (λ s k. massAt s MASSES k) weigh s₀ k s so (λ i. Out MASSES 160 i) (λ i x. omega arith) n (bodies-length moved s₀ n) a b
+  weigh-ends k s so a b l =
+      so-end (λ s k. massAt s MASSES k) weigh s₀ k s so (λ i. Out MASSES 160 i) (λ i x. omega arith) n (bodies-length moved s₀ n) a b
 
 -- ---- mass_response
-pub mass-is : (body : MomentumBody) {turned : OptionMat3} {a b : Mat3} {f g h : Bool} → turned ≡ toMat3Of (body .rotation) → a ≡ matProductOf (turned .matrix) (body .«inverse_inertia») → b ≡ matProductOf a (transposeOf (turned .matrix))
+pub mass-is : (body : MomentumBody) {turned : OptionMat3} {a b : Mat3} {f g h : Bool} → turned ≡ toMat3Of (body .rotation)
+    → a ≡ matProductOf (turned .matrix) (body .«inverse_inertia») → b ≡ matProductOf a (transposeOf (turned .matrix))
     → f ≡ finiteMat b → g ≡ isFinite (ratio 1 1 ⊘ body .mass) → h ≡ (turned .some && f && g)
     → massAs (record { some = h; mass = record { linear = ratio 1 1 ⊘ body .mass; angular = b } }) ≡ massResponse body
 unfolding massResponse
 mass-is body {turned} {a} {b} {f} {g} {h} et ea eb ef eg eh =
-    ap (λ (t : Bool). cond t (go (record { linear = ratio 1 1 ⊘ body .mass; angular = b })) (stop arithmeticOverflow)) (eh ∙ ap (λ (x : Bool). turned .some && x && g) ef ∙ ap (λ (x : Bool). turned .some && finiteMat b && x) eg)
+    ap (λ (t : Bool). cond t (go (record { linear = ratio 1 1 ⊘ body .mass; angular = b })) (stop arithmeticOverflow))
+    (eh ∙ ap (λ (x : Bool). turned .some && x && g) ef ∙ ap (λ (x : Bool). turned .some && finiteMat b && x) eg)
     ∙ ap (answer turned) (eb ∙ ap (λ (m : Mat3). matProductOf m (transposeOf (turned .matrix))) ea)
     ∙ ap (λ (t : OptionMat3). answer t (matProductOf (matProductOf (t .matrix) (body .«inverse_inertia»)) (transposeOf (t .matrix)))) et
   where
     answer : OptionMat3 → Mat3 → Result MassResponse
-    answer t angular = cond (t .some && finiteMat angular && isFinite (ratio 1 1 ⊘ body .mass)) (go (record { linear = ratio 1 1 ⊘ body .mass; angular = angular })) (stop arithmeticOverflow)
+    answer t angular =
+        cond (t .some && finiteMat angular && isFinite (ratio 1 1 ⊘ body .mass)) (go (record { linear = ratio 1 1 ⊘ body .mass; angular = angular }))
+        (stop arithmeticOverflow)
 
 -- ---- kick_and_drift
-module _ (dt : Float) (body : MomentumBody) (kick : Generalized) {kicked : BodyAnswer} (e : BodyAnswered body (kickOf body (kick .linear) (kick .angular)) kicked) where
+module _ (dt : Float) (body : MomentumBody) (kick : Generalized) {kicked : BodyAnswer}
+    (e : BodyAnswered body (kickOf body (kick .linear) (kick .angular)) kicked) where
   abbrev drifting : MomentumBody → Result MomentumBody
   drifting b = driftOf b dt
 
-  pub kick-drifts : {r : BodyAnswer} → kicked .outcome ≡ Ends.Done → BodyAnswered (kicked .body) (driftOf (kicked .body) dt) r → bodyAs r ≡ kickAndDrift dt body kick
+  pub kick-drifts : {r : BodyAnswer} → kicked .outcome ≡ Ends.Done → BodyAnswered (kicked .body) (driftOf (kicked .body) dt) r
+      → bodyAs r ≡ kickAndDrift dt body kick
   kick-drifts h q = ap bodyAs (q .is) ∙ answer-is (kicked .body) (driftOf (kicked .body) dt) ∙ then-go drifting (answer-done body _ e h)
 
   pub kick-nonconvergent : kicked .outcome ≡ Ends.NonConvergent → bodyAs kicked ≡ kickAndDrift dt body kick
@@ -199,24 +224,30 @@ module _ (dt : Float) (n : ℕ) (s₀ : List Float) where
         let b : start ≡ bodyIn (startBodiesAt s₀ n) k = start-in (so .kept) n k (λ i a b. omega arith) h eb in
         e ∙ ap (λ (x : MomentumBody). kickAndDrift dt x share) b ∙ ap (kickAndDrift dt (bodyIn (startBodiesAt s₀ n) k)) g
 
-    pub move-again : {t : List Float} {b : MomentumBody} → go b ≡ d → (Kept (λ j. Out (CANDIDATE + 13 * k) 13 j) s t) × (candidateAt t k ≡ movedTo b (startBodyAt s k)) → Moved (k + 1) t
+    pub move-again : {t : List Float} {b : MomentumBody} → go b ≡ d
+        → (Kept (λ j. Out (CANDIDATE + 13 * k) 13 j) s t) × (candidateAt t k ≡ movedTo b (startBodyAt s k)) → Moved (k + 1) t
     move-again {t} {b} q st =
         so-more candidateAt move s₀ k s so (λ i. Out CANDIDATE (13 * (k + 1)) i) (λ i x. omega arith) (st .0) (λ i x. omega arith)
         (λ i g. kept-candidate (st .0) i (λ j a c. omega arith) (λ j a c. omega arith))
         (st .1 ∙ drift-moved (startBodyAt s k) share dt (q ∙ e ∙ ap (λ (x : MomentumBody). kickAndDrift dt x share) eb)) (q ∙ move-turn)
 
-    pub move-stops : {f : Fault} → stop f ≡ d → Does (λ i. Out CANDIDATE 208 i) s₀ s (stop f) (moveBodies dt (startBodiesAt s₀ n) (generalizedsAt s₀ GENERALIZED n))
+    pub move-stops : {f : Fault} → stop f ≡ d
+        → Does (λ i. Out CANDIDATE 208 i) s₀ s (stop f) (moveBodies dt (startBodiesAt s₀ n) (generalizedsAt s₀ GENERALIZED n))
     unfolding moveBodies
     move-stops q =
-        so-stop candidateAt move s₀ k s so (λ i. Out CANDIDATE 208 i) (λ i x. omega arith) (sym (tab-length n (startBodyAt s₀))) h (kept-refl (λ i. Out CANDIDATE 208 i) s) (λ i x. x) (q ∙ move-turn)
+        so-stop candidateAt move s₀ k s so (λ i. Out CANDIDATE 208 i) (λ i x. omega arith) (sym (tab-length n (startBodyAt s₀))) h
+        (kept-refl (λ i. Out CANDIDATE 208 i) s) (λ i x. x) (q ∙ move-turn)
 
-  pub move-ends : (k : ℕ) (s : List Float) → Moved k s → k ≤ n → n ≤ k → n ≤ 16 → Does (λ i. Out CANDIDATE 208 i) s₀ s (go (candidatesAt s n)) (moveBodies dt (startBodiesAt s₀ n) (generalizedsAt s₀ GENERALIZED n))
+  pub move-ends : (k : ℕ) (s : List Float) → Moved k s → k ≤ n → n ≤ k → n ≤ 16
+      → Does (λ i. Out CANDIDATE 208 i) s₀ s (go (candidatesAt s n)) (moveBodies dt (startBodiesAt s₀ n) (generalizedsAt s₀ GENERALIZED n))
   unfolding moveBodies
-  move-ends k s so a b l = so-end candidateAt move s₀ k s so (λ i. Out CANDIDATE 208 i) (λ i x. omega arith) n (sym (tab-length n (startBodyAt s₀))) a b
+  move-ends k s so a b l =
+      so-end candidateAt move s₀ k s so (λ i. Out CANDIDATE 208 i) (λ i x. omega arith) n (sym (tab-length n (startBodyAt s₀))) a b
 
 -- ---- rows_met and fill_rhs
 -- one more
-pub rhs-more : (dt : Float) (s : List Float) (k : ℕ) (t : List Float) → Filled RHS k (λ j. Ieee.neg (at s (ROWS + 14 * j + 12)) ⊘ dt) s t → k < 96 → RHS + k < length t
+pub rhs-more : (dt : Float) (s : List Float) (k : ℕ) (t : List Float) → Filled RHS k (λ j. Ieee.neg (at s (ROWS + 14 * j + 12)) ⊘ dt) s t → k < 96
+    → RHS + k < length t
     → Filled RHS (k + 1) (λ j. Ieee.neg (at s (ROWS + 14 * j + 12)) ⊘ dt) s (set t (RHS + k) (Ieee.neg (at t (ROWS + 14 * k + 12)) ⊘ dt))
 rhs-more dt s k t f l h = filled-more f h (ap (λ (x : Float). Ieee.neg x ⊘ dt) (f .kept .same (ROWS + 14 * k + 12) (omega arith)))
 
@@ -238,7 +269,8 @@ module _ (s : List Float) (n : ℕ) (ia ib : List ℕ) where
   unfolding rowsMet
   met-ends k e a b = every-end rowTest a b e ∙ ap (λ (m : ℕ). every m rowTest) (sym (tab-length n (rowOn ia ib s ROWS)))
 
-  pub rhs-is : (dt : Float) {t : List Float} → Filled RHS n (λ k. Ieee.neg (at s (ROWS + 14 * k + 12)) ⊘ dt) s t → n ≤ 96 → Does (λ i. Out RHS 96 i) s t (vecAt t RHS n) (rhsOf dt (rowsOn ia ib s ROWS n))
+  pub rhs-is : (dt : Float) {t : List Float} → Filled RHS n (λ k. Ieee.neg (at s (ROWS + 14 * k + 12)) ⊘ dt) s t → n ≤ 96
+      → Does (λ i. Out RHS 96 i) s t (vecAt t RHS n) (rhsOf dt (rowsOn ia ib s ROWS n))
   unfolding rhsOf
   rhs-is dt {t} f l = record {
     kept = kept-more (f .kept) (λ i x. omega arith);
@@ -257,7 +289,8 @@ module _ (n : ℕ) (s₀ : List Float) where
   pub sum-none : Summed 0 s₀
   sum-none = so-none (λ s k. at s (IMPULSES + k)) sum s₀ _
 
-  module _ (k : ℕ) (s : List Float) (so : Summed k s) (h : k < n) (l : n ≤ 96) (g : IMPULSES + k < length s) {b : Bool} (e : b ≡ isFinite (at s (IMPULSES + k) ⊕ at s (SOLUTION + k))) where
+  module _ (k : ℕ) (s : List Float) (so : Summed k s) (h : k < n) (l : n ≤ 96) (g : IMPULSES + k < length s) {b : Bool}
+      (e : b ≡ isFinite (at s (IMPULSES + k) ⊕ at s (SOLUTION + k))) where
     sum-is : at s (IMPULSES + k) ⊕ at s (SOLUTION + k) ≡ at (vecAt s₀ IMPULSES n) k ⊕ at (vecAt s₀ SOLUTION n) k
     sum-is =
         let x : at s (IMPULSES + k) ≡ at (vecAt s₀ IMPULSES n) k = so .kept .same (IMPULSES + k) (omega arith) ∙ vec-at s₀ IMPULSES n k h in
@@ -267,15 +300,21 @@ module _ (n : ℕ) (s₀ : List Float) where
     pub sum-again : b ≡ true → Summed (k + 1) (set s (IMPULSES + k) (at s (IMPULSES + k) ⊕ at s (SOLUTION + k)))
     sum-again q = so-put IMPULSES sum s₀ k s so (λ i. Out IMPULSES (k + 1) i) (λ i x. omega arith) _ (λ i x. omega arith) g (number-yes sum-is e q)
 
-    pub sum-stops : b ≡ false → Does (λ i. Out IMPULSES 96 i) s₀ (set s (IMPULSES + k) (at s (IMPULSES + k) ⊕ at s (SOLUTION + k))) (stop arithmeticOverflow) (addImpulses (vecAt s₀ IMPULSES n) (vecAt s₀ SOLUTION n))
+    pub sum-stops : b ≡ false
+        → Does (λ i. Out IMPULSES 96 i) s₀ (set s (IMPULSES + k) (at s (IMPULSES + k) ⊕ at s (SOLUTION + k))) (stop arithmeticOverflow)
+        (addImpulses (vecAt s₀ IMPULSES n) (vecAt s₀ SOLUTION n))
     unfolding addImpulses
     sum-stops q =
-        so-stop (λ s k. at s (IMPULSES + k)) sum s₀ k s so (λ i. Out IMPULSES 96 i) (λ i x. omega arith) (sym (tab-length n (λ j. at s₀ (IMPULSES + j)))) h
+        so-stop (λ s k. at s (IMPULSES + k)) sum s₀ k s so (λ i. Out IMPULSES 96 i) (λ i x. omega arith)
+        (sym (tab-length n (λ j. at s₀ (IMPULSES + j)))) h
         (kept-set s (IMPULSES + k) _) (λ i x. omega arith) (number-no sum-is e q)
 
-  pub sum-ends : (k : ℕ) (s : List Float) → Summed k s → k ≤ n → n ≤ k → n ≤ 96 → Does (λ i. Out IMPULSES 96 i) s₀ s (go (vecAt s IMPULSES n)) (addImpulses (vecAt s₀ IMPULSES n) (vecAt s₀ SOLUTION n))
+  pub sum-ends : (k : ℕ) (s : List Float) → Summed k s → k ≤ n → n ≤ k → n ≤ 96
+      → Does (λ i. Out IMPULSES 96 i) s₀ s (go (vecAt s IMPULSES n)) (addImpulses (vecAt s₀ IMPULSES n) (vecAt s₀ SOLUTION n))
   unfolding addImpulses
-  sum-ends k s so a b l = so-end (λ s k. at s (IMPULSES + k)) sum s₀ k s so (λ i. Out IMPULSES 96 i) (λ i x. omega arith) n (sym (tab-length n (λ j. at s₀ (IMPULSES + j)))) a b
+  sum-ends k s so a b l =
+      so-end (λ s k. at s (IMPULSES + k)) sum s₀ k s so (λ i. Out IMPULSES 96 i) (λ i x. omega arith) n
+      (sym (tab-length n (λ j. at s₀ (IMPULSES + j)))) a b
 
 -- ---- make_states
 module _ (bodies : List Float) (n : ℕ) (s₀ : List Float) where
@@ -296,18 +335,26 @@ module _ (bodies : List Float) (n : ℕ) (s₀ : List Float) where
     state-turn : d ≡ stating k
     state-turn =
         let b : body ≡ bodyIn (candidatesAt s₀ n) k = candidate-in (so .kept) n k (λ i x y. omega arith) (λ i x y. omega arith) h eb in
-        e ∙ ap (λ (x : MomentumBody). stateOf x (stateAt bodies (26 * k))) b ∙ ap (λ (x : RigidBody). stateOf (bodyIn (candidatesAt s₀ n) k) (old k x)) (sym (tab-at (bodyCount bodies) (recordAt bodies) noRecord k (omega arith)))
+        e ∙ ap (λ (x : MomentumBody). stateOf x (stateAt bodies (26 * k))) b ∙ ap
+        (λ (x : RigidBody). stateOf (bodyIn (candidatesAt s₀ n) k) (old k x))
+        (sym (tab-at (bodyCount bodies) (recordAt bodies) noRecord k (omega arith)))
 
-    pub state-again : {t : List Float} {state : BodyState} → go state ≡ d → (Kept (λ j. Out (CANDIDATE + 13 * k) 13 j) s t) × (stateAt t (CANDIDATE + 13 * k) ≡ state) → Stated (k + 1) t
+    pub state-again : {t : List Float} {state : BodyState} → go state ≡ d
+        → (Kept (λ j. Out (CANDIDATE + 13 * k) 13 j) s t) × (stateAt t (CANDIDATE + 13 * k) ≡ state) → Stated (k + 1) t
     state-again {t} {state} q st =
-        so-more (λ s k. stateAt s (CANDIDATE + 13 * k)) stating s₀ k s so (λ i. Out CANDIDATE (13 * (k + 1)) i) (λ i x. omega arith) (st .0) (λ i x. omega arith)
+        so-more (λ s k. stateAt s (CANDIDATE + 13 * k)) stating s₀ k s so (λ i. Out CANDIDATE (13 * (k + 1)) i) (λ i x. omega arith) (st .0)
+        (λ i x. omega arith)
         (λ i g. kept-state (st .0) (CANDIDATE + 13 * i) (λ j a c. omega arith)) (st .1) (q ∙ state-turn)
 
     pub state-stops : {f : Fault} → stop f ≡ d → Does (λ i. Out CANDIDATE 208 i) s₀ s (stop f) (statesOf (recordsOf bodies) (candidatesAt s₀ n))
     unfolding statesOf
     state-stops q =
-        so-stop (λ s k. stateAt s (CANDIDATE + 13 * k)) stating s₀ k s so (λ i. Out CANDIDATE 208 i) (λ i x. omega arith) (sym (tab-length n (candidateAt s₀))) h (kept-refl (λ i. Out CANDIDATE 208 i) s) (λ i x. x) (q ∙ state-turn)
+        so-stop (λ s k. stateAt s (CANDIDATE + 13 * k)) stating s₀ k s so (λ i. Out CANDIDATE 208 i) (λ i x. omega arith)
+        (sym (tab-length n (candidateAt s₀))) h (kept-refl (λ i. Out CANDIDATE 208 i) s) (λ i x. x) (q ∙ state-turn)
 
-  pub state-ends : (k : ℕ) (s : List Float) → Stated k s → k ≤ n → n ≤ k → n ≤ 16 → Does (λ i. Out CANDIDATE 208 i) s₀ s (go (statesAt s n)) (statesOf (recordsOf bodies) (candidatesAt s₀ n))
+  pub state-ends : (k : ℕ) (s : List Float) → Stated k s → k ≤ n → n ≤ k → n ≤ 16
+      → Does (λ i. Out CANDIDATE 208 i) s₀ s (go (statesAt s n)) (statesOf (recordsOf bodies) (candidatesAt s₀ n))
   unfolding statesOf
-  state-ends k s so a b l = so-end (λ s k. stateAt s (CANDIDATE + 13 * k)) stating s₀ k s so (λ i. Out CANDIDATE 208 i) (λ i x. omega arith) n (sym (tab-length n (candidateAt s₀))) a b
+  state-ends k s so a b l =
+      so-end (λ s k. stateAt s (CANDIDATE + 13 * k)) stating s₀ k s so (λ i. Out CANDIDATE 208 i) (λ i x. omega arith) n
+      (sym (tab-length n (candidateAt s₀))) a b

@@ -31,7 +31,8 @@ pub record Answered (bodies after : List Float) (joints : List Joint) (count : �
   -- each record handed back stands: its numbers are finite, and N is above 0
   pub stands : r .outcome ≡ Accepted → (k : ℕ) → k < bodyCount after → Stands (recordAt after k .origin) (recordAt after k .rotation)
   -- every joint that went in joins two of the records handed back
-  pub joins : r .outcome ≡ Accepted → (k : ℕ) → k < count → (jointIn joints k .«body_a» < bodyCount after) × (jointIn joints k .«body_b» < bodyCount after)
+  pub joins : r .outcome ≡ Accepted → (k : ℕ) → k < count
+      → (jointIn joints k .«body_a» < bodyCount after) × (jointIn joints k .«body_b» < bodyCount after)
   -- every number of it is finite, and no N is 0
   pub proper : r .outcome ≡ Accepted → (k : ℕ) → k < count → AtEnds Proper after (jointIn joints k)
   -- it is met by the records that it joins

@@ -31,10 +31,27 @@ module _ (s : List Float) (i : ℕ) (state : BodyState) (e : (j : ℕ) → j < 1
 
   pub state-is : stateAt s i ≡ state
   state-is = λ t. record {
-    origin = record { x = double i 0 (omega arith) (omega arith) t; y = double (i + 1) 1 (omega arith) (omega arith) t; z = double (i + 2) 2 (omega arith) (omega arith) t };
-    rotation = record { x = double (i + 3) 3 (omega arith) (omega arith) t; y = double (i + 3 + 1) 4 (omega arith) (omega arith) t; z = double (i + 3 + 2) 5 (omega arith) (omega arith) t; w = double (i + 3 + 3) 6 (omega arith) (omega arith) t };
-    «linear_velocity» = record { x = double (i + 7) 7 (omega arith) (omega arith) t; y = double (i + 7 + 1) 8 (omega arith) (omega arith) t; z = double (i + 7 + 2) 9 (omega arith) (omega arith) t };
-    «angular_velocity» = record { x = double (i + 10) 10 (omega arith) (omega arith) t; y = double (i + 10 + 1) 11 (omega arith) (omega arith) t; z = double (i + 10 + 2) 12 (omega arith) (omega arith) t };
+    origin = record {
+      x = double i 0 (omega arith) (omega arith) t;
+      y = double (i + 1) 1 (omega arith) (omega arith) t;
+      z = double (i + 2) 2 (omega arith) (omega arith) t;
+    };
+    rotation = record {
+      x = double (i + 3) 3 (omega arith) (omega arith) t;
+      y = double (i + 3 + 1) 4 (omega arith) (omega arith) t;
+      z = double (i + 3 + 2) 5 (omega arith) (omega arith) t;
+      w = double (i + 3 + 3) 6 (omega arith) (omega arith) t;
+    };
+    «linear_velocity» = record {
+      x = double (i + 7) 7 (omega arith) (omega arith) t;
+      y = double (i + 7 + 1) 8 (omega arith) (omega arith) t;
+      z = double (i + 7 + 2) 9 (omega arith) (omega arith) t;
+    };
+    «angular_velocity» = record {
+      x = double (i + 10) 10 (omega arith) (omega arith) t;
+      y = double (i + 10 + 1) 11 (omega arith) (omega arith) t;
+      z = double (i + 10 + 2) 12 (omega arith) (omega arith) t;
+    };
   }
 
 module _ (bodies : List Float) (states : List BodyState) where
@@ -65,10 +82,13 @@ module _ (bodies : List Float) (states : List BodyState) where
   back-state k l = state-is (handBack bodies states) (26 * k) (stateIn states k) (λ j h. back-new k j (omega arith) h)
 
 -- what the code wrote into the records is what the step hands back
-pub handed-back : (n : ℕ) (s : List Float) {bodies after : List Float} → n ≡ bodyCount bodies → length bodies % 26 ≡ 0 → Handed n s bodies after → after ≡ handBack bodies (statesAt s n)
-handed-back n s {bodies} {after} e w h = ext-getD nan after (handBack bodies (statesAt s n)) (h .kept .size ∙ sym (back-length bodies (statesAt s n))) same
+pub handed-back : (n : ℕ) (s : List Float) {bodies after : List Float} → n ≡ bodyCount bodies → length bodies % 26 ≡ 0 → Handed n s bodies after
+    → after ≡ handBack bodies (statesAt s n)
+handed-back n s {bodies} {after} e w h =
+    ext-getD nan after (handBack bodies (statesAt s n)) (h .kept .size ∙ sym (back-length bodies (statesAt s n))) same
   where
-    in-record : (k j : ℕ) → k < n → 26 * k + j < length bodies → j < 26 → Dec (j < 13) → at after (26 * k + j) ≡ at (handBack bodies (statesAt s n)) (26 * k + j)
+    in-record : (k j : ℕ) → k < n → 26 * k + j < length bodies → j < 26 → Dec (j < 13)
+        → at after (26 * k + j) ≡ at (handBack bodies (statesAt s n)) (26 * k + j)
     in-record k j l m b (yes a) =
         handed-new h k l j a ∙ sym (doubles-at s (CANDIDATE + 13 * k) j a)
         ∙ ap (λ (t : BodyState). at (stateDoubles t) j) (sym (tab-at n (λ i. stateAt s (CANDIDATE + 13 * i)) noState k l))

@@ -15,9 +15,11 @@ use Rattle.arith.specs.FlowLaws.{every-at}
 use Rattle.rows.specs.declared.geometry.Joint.{Joint}
 use Rattle.rows.specs.View.{at}
 use Rattle.step.specs.declared.Outcome.{Outcome}
-use Rattle.step.specs.declared.Outcome.the-variants.{Accepted, TimeStep, Bodies, Joints, Scratch, NotFinite, OutOfRange, Inertia, JointBodies, JointNumbers, NonConvergent, ArithmeticOverflow, Ground}
+use Rattle.step.specs.declared.Outcome.the-variants.{Accepted, TimeStep, Bodies, Joints, Scratch, NotFinite, OutOfRange, Inertia}
+use Rattle.step.specs.declared.Outcome.the-variants.{JointBodies, JointNumbers, NonConvergent, ArithmeticOverflow, Ground}
 use Rattle.step.specs.Records.{recordAt, bodyCount}
-use Rattle.step.specs.Checks.{numberOf, timeStepOk, bodiesFit, bodyInRange, hasInverse, joinsTwo, jointOk, jointIn, sizesOr, bodiesOr, jointsOr, refusalOf, isAccepted}
+use Rattle.step.specs.Checks.{numberOf, timeStepOk, bodiesFit, bodyInRange, hasInverse, joinsTwo, jointOk, jointIn}
+use Rattle.step.specs.Checks.{sizesOr, bodiesOr, jointsOr, refusalOf, isAccepted}
 use Rattle.step.specs.Ready.{Joined, Sizes}
 
 -- none of refusals 1 to 9
@@ -66,11 +68,19 @@ through false x h q f e = f e
 module _ (doubles count : ℕ) (dt : Float) (scratch : ℕ) {r : Outcome} (next : Outcome) (e : r ≡ sizesOr doubles count dt scratch Accepted) where
   pub sizes-stop : (r ≡ Accepted → ⊥) → r ≡ sizesOr doubles count dt scratch next
   unfolding sizesOr
-  sizes-stop h = onward (not (timeStepOk dt)) TimeStep (onward (not (bodiesFit doubles)) Bodies (onward (ltb 16 count) Joints (onward (ltb scratch 6144) Scratch (λ q. absurd (h q))))) e
+  sizes-stop h =
+      onward (not (timeStepOk dt)) TimeStep
+      (onward (not (bodiesFit doubles)) Bodies
+      (onward (ltb 16 count) Joints
+      (onward (ltb scratch 6144) Scratch (λ q. absurd (h q))))) e
 
   pub sizes-go : r ≡ Accepted → {o : Outcome} → o ≡ next → o ≡ sizesOr doubles count dt scratch next
   unfolding sizesOr
-  sizes-go h q = through (not (timeStepOk dt)) TimeStep (omega arith) h (through (not (bodiesFit doubles)) Bodies (omega arith) h (through (ltb 16 count) Joints (omega arith) h (through (ltb scratch 6144) Scratch (omega arith) h (λ _. q)))) e
+  sizes-go h q =
+      through (not (timeStepOk dt)) TimeStep (omega arith) h
+      (through (not (bodiesFit doubles)) Bodies (omega arith) h
+      (through (ltb 16 count) Joints (omega arith) h
+      (through (ltb scratch 6144) Scratch (omega arith) h (λ _. q)))) e
 
   pub sizes-ready : r ≡ Accepted → Sizes doubles count scratch
   unfolding sizesOr
@@ -79,16 +89,26 @@ module _ (doubles count : ℕ) (dt : Float) (scratch : ℕ) {r : Outcome} (next 
       let p₂ = passed (bodiesFit doubles) Bodies _ (omega arith) (p₁ .1) in
       let p₃ = below (ltb 16 count) Joints _ (omega arith) (p₂ .1) in
       let p₄ = below (ltb scratch 6144) Scratch _ (omega arith) (p₃ .1) in
-      record { small = leb-true _ _ (both (eqb (doubles % 26) 0) (leb (doubles / 26) 16) (p₂ .0) .1); few = ltb-false _ _ (p₃ .0); room = ltb-false _ _ (p₄ .0) }
+      record {
+        small = leb-true _ _ (both (eqb (doubles % 26) 0) (leb (doubles / 26) 16) (p₂ .0) .1);
+        few = ltb-false _ _ (p₃ .0);
+        room = ltb-false _ _ (p₄ .0);
+      }
 
 module _ (bodies : List Float) (n : ℕ) {r : Outcome} (next : Outcome) (e : r ≡ bodiesOr bodies n Accepted) where
   pub bodies-stop : (r ≡ Accepted → ⊥) → r ≡ bodiesOr bodies n next
   unfolding bodiesOr
-  bodies-stop h = onward (not (every (length bodies) (λ k. isFinite (at bodies k)))) NotFinite (onward (not (every n (λ k. bodyInRange (recordAt bodies k)))) OutOfRange (onward (not (every n (λ k. hasInverse (recordAt bodies k)))) Inertia (λ q. absurd (h q)))) e
+  bodies-stop h =
+      onward (not (every (length bodies) (λ k. isFinite (at bodies k)))) NotFinite
+      (onward (not (every n (λ k. bodyInRange (recordAt bodies k)))) OutOfRange
+      (onward (not (every n (λ k. hasInverse (recordAt bodies k)))) Inertia (λ q. absurd (h q)))) e
 
   pub bodies-go : r ≡ Accepted → {o : Outcome} → o ≡ next → o ≡ bodiesOr bodies n next
   unfolding bodiesOr
-  bodies-go h q = through (not (every (length bodies) (λ k. isFinite (at bodies k)))) NotFinite (omega arith) h (through (not (every n (λ k. bodyInRange (recordAt bodies k)))) OutOfRange (omega arith) h (through (not (every n (λ k. hasInverse (recordAt bodies k)))) Inertia (omega arith) h (λ _. q))) e
+  bodies-go h q =
+      through (not (every (length bodies) (λ k. isFinite (at bodies k)))) NotFinite (omega arith) h
+      (through (not (every n (λ k. bodyInRange (recordAt bodies k)))) OutOfRange (omega arith) h
+      (through (not (every n (λ k. hasInverse (recordAt bodies k)))) Inertia (omega arith) h (λ _. q))) e
 
 module _ (n : ℕ) (joint : Joint) (e : joinsTwo n joint ≡ true) where
   there : ((ltb (joint .«body_a») n && ltb (joint .«body_b») n) ≡ true) × (not (eqb (joint .«body_a») (joint .«body_b»)) ≡ true)
@@ -145,7 +165,8 @@ module _ (bodies : List Float) (joints : List Joint) (count : ℕ) (dt : Float) 
       (omega arith)))))))))
 
   -- a refusal has one of the numbers 1 to 9
-  pub refused-number : (refusalOf bodies joints count dt scratch ≡ Accepted → ⊥) → (1 ≤ numberOf (refusalOf bodies joints count dt scratch)) × (numberOf (refusalOf bodies joints count dt scratch) ≤ 9)
+  pub refused-number : (refusalOf bodies joints count dt scratch ≡ Accepted → ⊥)
+      → (1 ≤ numberOf (refusalOf bodies joints count dt scratch)) × (numberOf (refusalOf bodies joints count dt scratch) ≤ 9)
   refused-number h = (above _ (λ e. h (number-zero _ e)), least-nine)
     where
       above : (n : ℕ) → (n ≡ 0 → ⊥) → 1 ≤ n
@@ -163,7 +184,8 @@ module _ (bodies : List Float) (joints : List Joint) (count : ℕ) (dt : Float) 
       let p₇ = passed (every (bodyCount bodies) (λ k. hasInverse (recordAt bodies k))) Inertia _ (omega arith) (p₆ .1) in
       let p₈ = passed (every count (λ k. joinsTwo (bodyCount bodies) (jointIn joints k))) JointBodies _ (omega arith) (p₇ .1) in
       let p₉ = passed (every count (λ k. jointOk (jointIn joints k))) JointNumbers _ (omega arith) (p₈ .1) in
-      let joins : (k : ℕ) → k < count → joinsTwo (bodyCount bodies) (jointIn joints k) ≡ true = λ k h. every-at (λ (j : ℕ). joinsTwo (bodyCount bodies) (jointIn joints j)) count (sym (p₈ .0)) h in
+      let joins : (k : ℕ) → k < count → joinsTwo (bodyCount bodies) (jointIn joints k) ≡ true =
+      λ k h. every-at (λ (j : ℕ). joinsTwo (bodyCount bodies) (jointIn joints j)) count (sym (p₈ .0)) h in
       record {
         finite-step = both (isFinite dt) (Ieee.lt (ratio 0 1) dt) (p₁ .0) .0;
         forward = both (isFinite dt) (Ieee.lt (ratio 0 1) dt) (p₁ .0) .1;
@@ -181,5 +203,6 @@ module _ (bodies : List Float) (joints : List Joint) (count : ℕ) (dt : Float) 
       }
 
 -- what a run asks for
-pub ready-joined : {bodies : List Float} {joints : List Joint} {count : ℕ} {dt : Float} {scratch : ℕ} → Ready bodies joints count dt scratch → Joined joints count (bodyCount bodies)
+pub ready-joined : {bodies : List Float} {joints : List Joint} {count : ℕ} {dt : Float} {scratch : ℕ} → Ready bodies joints count dt scratch
+    → Joined joints count (bodyCount bodies)
 ready-joined r = record { few = r .few; small = r .small; a-there = r .a-there; b-there = r .b-there }

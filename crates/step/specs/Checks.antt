@@ -1,7 +1,7 @@
--- Refusals 1 to 9 of document 01, each number over all bodies or joints before the next.
+-- Refusals 1 to 9 of SPECIFICATION §7, each number over all bodies or joints before the next.
 use Prim.Native.Nat.{ℕ, _/_, _%_, _^_}
 use mathlib.Core.List.{List}
-use mathlib.Core.Bool.{Bool, true, false, cond, not, _&&_, _||_}
+use mathlib.Core.Bool.{Bool, true, cond, not, _&&_, _||_}
 use lib.Dec.{ltb, leb, eqb}
 use lib.ListN.{length, getD}
 use lib.Ieee as Ieee
@@ -16,14 +16,20 @@ use Rattle.vectors.specs.Matrix.{done, inverseSpdOf}
 use Rattle.rows.specs.declared.body.RigidBody.{RigidBody}
 use Rattle.rows.specs.declared.geometry.JointFrame.{JointFrame}
 use Rattle.rows.specs.declared.geometry.Joint.{Joint}
-use Rattle.rows.specs.declared.geometry.Kind.{Kind}
-use Rattle.rows.specs.declared.geometry.Kind.the-variants.{Ball, Hinge, Cylindrical, Planar, Distance, ConeTwist}
+use Rattle.rows.specs.declared.geometry.Kind.the-variants.{Ball}
+use Rattle.rows.specs.declared.geometry.Cone.{Cone}
+use Rattle.rows.specs.declared.geometry.Turning.{Turning}
+use Rattle.rows.specs.declared.geometry.Turning.the-variants as Turns
+use Rattle.rows.specs.declared.geometry.Motions.{Motions}
+use Rattle.rows.specs.declared.geometry.Motions.the-variants.{Rod, Frame}
+use Rattle.rows.specs.Motions.{motionsOf}
 use Rattle.rows.specs.View.{at}
 use Rattle.step.specs.declared.Outcome.{Outcome}
-use Rattle.step.specs.declared.Outcome.the-variants.{Accepted, TimeStep, Bodies, Joints, Scratch, NotFinite, OutOfRange, Inertia, JointBodies, JointNumbers, NonConvergent, ArithmeticOverflow, Ground}
+use Rattle.step.specs.declared.Outcome.the-variants.{Accepted, TimeStep, Bodies, Joints, Scratch, NotFinite, OutOfRange, Inertia}
+use Rattle.step.specs.declared.Outcome.the-variants.{JointBodies, JointNumbers, NonConvergent, ArithmeticOverflow, Ground}
 use Rattle.step.specs.Records.{recordAt, bodyCount}
 
--- document 01's number of a refusal, and 0 for an accepted step
+-- the number of a refusal, and 0 for an accepted step
 abbrev pub numberOf : Outcome → ℕ
 numberOf Accepted = 0
 numberOf TimeStep = 1
@@ -86,19 +92,21 @@ twistOk lower upper =
     Ieee.le (absOf lower) (ratio 4 1) && Ieee.le (absOf upper) (ratio 4 1)
     && (Ieee.eq lower upper || Ieee.le lower (Ieee.neg PI) && Ieee.le PI upper)
 
-abbrev pub coneOk : Float → Float → Float → Float → Bool
-coneOk swingX swingY lower upper = swingOk swingX && swingOk swingY && twistOk lower upper
+abbrev pub coneOk : Cone → Bool
+coneOk cone = swingOk (cone .«swing_x») && swingOk (cone .«swing_y») && twistOk (cone .«twist_lower») (cone .«twist_upper»)
 
-abbrev pub kindOk : Kind → Bool
-kindOk Ball = true
-kindOk Hinge = true
-kindOk Cylindrical = true
-kindOk Planar = true
-kindOk (Distance length) = lengthOk length
-kindOk (ConeTwist swingX swingY lower upper) = coneOk swingX swingY lower upper
+abbrev pub turningOk : Turning → Bool
+turningOk Turns.Free = true
+turningOk Turns.Align = true
+turningOk (Turns.Cone cone) = coneOk cone
+
+-- the numbers of a kind
+abbrev pub motionsOk : Motions → Bool
+motionsOk (Rod length) = lengthOk length
+motionsOk (Frame linear turning) = turningOk turning
 
 abbrev pub jointOk : Joint → Bool
-jointOk joint = frameOk (joint .«frame_a») && frameOk (joint .«frame_b») && kindOk (joint .kind)
+jointOk joint = frameOk (joint .«frame_a») && frameOk (joint .«frame_b») && motionsOk (motionsOf (joint .kind))
 
 abbrev noFrame : JointFrame
 noFrame = record { «local_anchor» = vec nan nan nan; «local_rotation» = quat nan nan nan nan }

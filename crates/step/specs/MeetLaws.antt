@@ -17,24 +17,26 @@ use Rattle.vectors.specs.Laws.Tests.{both}
 use Rattle.rows.specs.declared.body.RigidBody.{RigidBody}
 use Rattle.rows.specs.declared.body.BodyState.{BodyState}
 use Rattle.rows.specs.declared.geometry.Joint.{Joint}
-use Rattle.rows.specs.declared.geometry.Kind.{Kind}
-use Rattle.rows.specs.declared.geometry.Kind.the-variants.{Ball, Hinge, Cylindrical, Planar, Distance, ConeTwist}
+use Rattle.rows.specs.declared.geometry.Motions.{Motions}
+use Rattle.rows.specs.declared.geometry.Motions.the-variants.{Rod, Frame}
+use Rattle.rows.specs.Motions.{motionsOf}
 use Rattle.rows.specs.Fault.{Fault, nonConvergent, arithmeticOverflow, number}
 use Rattle.rows.specs.Body.{stateWith, stateOf}
 use Rattle.rows.specs.Region.{tab-length, tab-at}
 use Rattle.rows.specs.ExactGeometry.{statePlace, Met, Stands, Proper}
 use Rattle.rows.specs.Laws.RowsIn.{Each, rows-met, rows-each}
-use Rattle.rows.specs.Laws.Met.{KindIn, stands, met}
+use Rattle.rows.specs.Laws.Met.{MotionsIn, stands, met}
 use Rattle.rows.specs.Laws.Frames.{proper}
 use Rattle.solves.specs.Solver.{noRow}
 use Rattle.step.specs.declared.Outcome.{Outcome}
 use Rattle.step.specs.declared.Outcome.the-variants.{Accepted, Ground}
 use Rattle.step.specs.declared.Report.{Report}
 use Rattle.step.specs.Records.{recordAt, bodyCount, recordsOf, stateAt}
-use Rattle.step.specs.Checks.{numberOf, withinOf, massInRange, bodyInRange, frameOk, kindOk, jointIn, refusalOf, isAccepted}
+use Rattle.step.specs.Checks.{numberOf, withinOf, massInRange, bodyInRange, frameOk, motionsOk, jointIn, refusalOf, isAccepted}
 use Rattle.step.specs.CheckLaws.{Ready, number-zero, refused-number, accepted}
-use Rattle.step.specs.NumberLaws.{kind-finite, within-table}
-use Rattle.step.specs.Step.{faultOutcome, noState, noRecord, bodyIn, recordIn, stateIn, jointRows, writeRows, rowsMet, statesOf, Counted, runOf, Stepped, grounded, handBack, cleared, settled, solveOf}
+use Rattle.step.specs.NumberLaws.{motions-finite, within-table}
+use Rattle.step.specs.Step.{faultOutcome, noState, noRecord, bodyIn, recordIn, stateIn, jointRows, writeRows, rowsMet, statesOf}
+use Rattle.step.specs.Step.{Counted, runOf, Stepped, grounded, handBack, cleared, settled, solveOf}
 use Rattle.step.specs.BackLaws.{back-length, back-state}
 use Rattle.step.specs.TurnLaws.{each-at}
 use Rattle.step.specs.RunLaws.{Ran, ran}
@@ -44,13 +46,9 @@ use Rattle.step.specs.Answered.{AtEnds, Answered}
 yes-T : {b : Bool} → b ≡ true → T b
 yes-T e = subst T (sym e) tt
 
-kind-in : (kind : Kind) → T (kindOk kind) → KindIn kind
-kind-in Ball t = tt
-kind-in Hinge t = tt
-kind-in Cylindrical t = tt
-kind-in Planar t = tt
-kind-in (Distance length) t = t
-kind-in (ConeTwist x y lower upper) t = tt
+motions-in : (motions : Motions) → T (motionsOk motions) → MotionsIn motions
+motions-in (Rod length) t = t
+motions-in (Frame linear turning) t = tt
 
 local-in : (body : RigidBody) → bodyInRange body ≡ true → T (withinOf (body .«center_of_mass») (ratio 64 1))
 local-in body e =
@@ -59,7 +57,8 @@ local-in body e =
     both o c (both (o && c) (massInRange (body .mass)) (both (o && c && massInRange (body .mass)) (isNormalizedOf (body .rotation)) (yes-T e) .0) .0) .1
 
 -- ---- an accepted run: its joints, and its states
-module _ (bodies : List Float) (joints : List Joint) (count : ℕ) (dt : Float) (scratch : ℕ) (ready : Ready bodies joints count dt scratch) (states : List BodyState) (r : Ran (recordsOf bodies) joints count states) (on-ground : grounded states ≡ true) where
+module _ (bodies : List Float) (joints : List Joint) (count : ℕ) (dt : Float) (scratch : ℕ) (ready : Ready bodies joints count dt scratch)
+    (states : List BodyState) (r : Ran (recordsOf bodies) joints count states) (on-ground : grounded states ≡ true) where
   records : length (recordsOf bodies) ≡ bodyCount bodies
   records = tab-length (bodyCount bodies) (recordAt bodies)
 
@@ -67,7 +66,9 @@ module _ (bodies : List Float) (joints : List Joint) (count : ℕ) (dt : Float) 
   last-size = r .locals .size ∙ records
 
   abbrev old : ℕ → BodyState
-  old k = stateWith (recordIn (recordsOf bodies) k .origin) (recordIn (recordsOf bodies) k .rotation) (recordIn (recordsOf bodies) k .«linear_velocity») (recordIn (recordsOf bodies) k .«angular_velocity»)
+  old k =
+      let b = recordIn (recordsOf bodies) k in
+      stateWith (b .origin) (b .rotation) (b .«linear_velocity») (b .«angular_velocity»)
 
   module _ (k : ℕ) (there : k < bodyCount bodies) where
     in-last : k < length (r .last)
@@ -79,7 +80,8 @@ module _ (bodies : List Float) (joints : List Joint) (count : ℕ) (dt : Float) 
     local : T (withinOf (bodyIn (r .last) k .«center_of_mass») (ratio 64 1))
     local =
         let e : recordIn (recordsOf bodies) k ≡ recordAt bodies k = tab-at (bodyCount bodies) (recordAt bodies) noRecord k there in
-        let c : recordAt bodies k .«center_of_mass» ≡ bodyIn (r .last) k .«center_of_mass» = sym (ap (λ (b : RigidBody). b .«center_of_mass») e) ∙ r .locals .same k (subst (λ (n : ℕ). k < n) (sym records) there) in
+        let at-k = r .locals .same k (subst (λ (n : ℕ). k < n) (sym records) there) in
+        let c : recordAt bodies k .«center_of_mass» ≡ bodyIn (r .last) k .«center_of_mass» = sym (ap (λ (b : RigidBody). b .«center_of_mass») e) ∙ at-k in
         subst (λ (v : Vec3). T (withinOf v (ratio 64 1))) c (local-in (recordAt bodies k) (ready .in-range k there))
 
     state : stateOf (bodyIn (r .last) k) (old k) ≡ go (stateIn states k)
@@ -111,9 +113,9 @@ module _ (bodies : List Float) (joints : List Joint) (count : ℕ) (dt : Float) 
     b = joint .«body_b»
 
     -- its numbers passed refusal 9
-    numbers : T (frameOk (joint .«frame_a»)) × T (frameOk (joint .«frame_b»)) × T (kindOk (joint .kind))
+    numbers : T (frameOk (joint .«frame_a»)) × T (frameOk (joint .«frame_b»)) × T (motionsOk (motionsOf (joint .kind)))
     numbers =
-        let n = both (frameOk (joint .«frame_a») && frameOk (joint .«frame_b»)) (kindOk (joint .kind)) (yes-T (ready .numbers k l)) in
+        let n = both (frameOk (joint .«frame_a») && frameOk (joint .«frame_b»)) (motionsOk (motionsOf (joint .kind))) (yes-T (ready .numbers k l)) in
         let f = both (frameOk (joint .«frame_a»)) (frameOk (joint .«frame_b»)) (n .0) in
         (f .0, f .1, n .1)
 
@@ -126,7 +128,8 @@ module _ (bodies : List Float) (joints : List Joint) (count : ℕ) (dt : Float) 
     met-states =
         let at-a = ready .a-there k l in
         let at-b = ready .b-there k l in
-        met joint (bodyIn (r .candidate) a) (bodyIn (r .candidate) b) (rows-of .rows) (rows-of .is) (rows-of .within) (numbers .0) (numbers .1) (kind-in (joint .kind) (numbers .2))
+        met joint (bodyIn (r .candidate) a) (bodyIn (r .candidate) b) (rows-of .rows) (rows-of .is) (rows-of .within)
+        (numbers .0) (numbers .1) (motions-in (motionsOf (joint .kind)) (numbers .2))
         (bodyIn (r .last) a) (bodyIn (r .last) b) (r .stay .same a (in-candidate a at-a)) (r .stay .same b (in-candidate b at-b)) (local a at-a) (local b at-b)
         (old a) (old b) (stateIn states a) (stateIn states b) (state a at-a) (state b at-b) (ground a at-a) (ground b at-b)
 
@@ -137,7 +140,7 @@ module _ (bodies : List Float) (joints : List Joint) (count : ℕ) (dt : Float) 
     proper-records =
         let at-a = stood a (ready .a-there k l) in
         let at-b = stood b (ready .b-there k l) in
-        proper joint _ _ (numbers .0) (numbers .1) (kind-finite (joint .kind) (numbers .2)) (at-a .N-above) (at-b .N-above)
+        proper joint _ _ (numbers .0) (numbers .1) (motions-finite (motionsOf (joint .kind)) (numbers .2)) (at-a .N-above) (at-b .N-above)
 
 -- ---- the ways of a step
 no-refusal : {o : Outcome} → 1 ≤ numberOf o → o ≡ Accepted → ⊥
@@ -218,14 +221,15 @@ module _ (bodies : List Float) (joints : List Joint) (count : ℕ) (dt : Float) 
     abbrev moved : Counted (List BodyState) → Stepped
     moved c = record { outcome = Accepted; nonlinear = c .nonlinear; linear = c .linear; bodies = handBack bodies (c .answer); scratch = cleared scratch }
 
-    says-moved : (c : Counted (List BodyState)) → runOf (recordsOf bodies) joints count dt ≡ go c → grounded (c .answer) ≡ true → Solved (moved c) → Says (moved c)
+    says-moved : (c : Counted (List BodyState)) → runOf (recordsOf bodies) joints count dt ≡ go c → grounded (c .answer) ≡ true
+        → Solved (moved c) → Says (moved c)
     says-moved c e g is = record {
       is = is;
       few = λ h. (ready .few, within-table joints count (ready .numbers));
       joins = λ h k l. (same (ready .a-there k l), same (ready .b-there k l));
       proper = λ h k l. proper-records bodies joints count dt (length scratch) ready (c .answer) end g k l;
       meets = λ h k l. met-records bodies joints count dt (length scratch) ready (c .answer) end g k l;
-      stands = λ h k l. stood bodies joints count dt (length scratch) ready (c .answer) end g k (subst (λ (n : ℕ). k < n / 26) (back-length bodies (c .answer)) l);
+      stands = λ h k l. stood bodies joints count dt (length scratch) ready (c .answer) end g k (as-many l);
       faulted = as-faulted is;
       refused = λ h. absurd (omega arith);
       early = λ h. absurd (omega arith);
@@ -236,29 +240,46 @@ module _ (bodies : List Float) (joints : List Joint) (count : ℕ) (dt : Float) 
         end : Ran (recordsOf bodies) joints count (c .answer)
         end = ran (recordsOf bodies) joints count dt c e
 
+        as-many : {k : ℕ} → k < bodyCount (handBack bodies (c .answer)) → k < bodyCount bodies
+        as-many {k} h = subst (λ (n : ℕ). k < n / 26) (back-length bodies (c .answer)) h
+
         same : {k : ℕ} → k < bodyCount bodies → k < bodyCount (handBack bodies (c .answer))
         same {k} h = subst (λ (n : ℕ). k < n / 26) (sym (back-length bodies (c .answer))) h
 
     -- however the run ends
-    says-run : (t : Turn (Counted (List BodyState)) (Counted Fault)) → runOf (recordsOf bodies) joints count dt ≡ t → Solved (settled bodies (cleared scratch) t) → Says (settled bodies (cleared scratch) t)
-    says-run (stop c) e is = says-failed (faultOutcome (c .answer)) (c .nonlinear) (c .linear) (subst (λ (n : ℕ). 10 ≤ n) (sym (fault-number (c .answer))) (fault-late (c .answer))) is
+    abbrev left : Turn (Counted (List BodyState)) (Counted Fault) → Stepped
+    left t = settled bodies (cleared scratch) t
+
+    says-run : (t : Turn (Counted (List BodyState)) (Counted Fault)) → runOf (recordsOf bodies) joints count dt ≡ t → Solved (left t) → Says (left t)
+    says-run (stop c) e is =
+        says-failed (faultOutcome (c .answer)) (c .nonlinear) (c .linear)
+        (subst (λ (n : ℕ). 10 ≤ n) (sym (fault-number (c .answer))) (fault-late (c .answer))) is
     says-run (go c) e is = by-ground (grounded (c .answer)) refl is
       where
-        by-ground : (g : Bool) → grounded (c .answer) ≡ g → Solved (cond g (moved c) (failed Ground (c .nonlinear) (c .linear))) → Says (cond g (moved c) (failed Ground (c .nonlinear) (c .linear)))
+        ended : Bool → Stepped
+        ended g = cond g (moved c) (failed Ground (c .nonlinear) (c .linear))
+
+        by-ground : (g : Bool) → grounded (c .answer) ≡ g → Solved (ended g) → Says (ended g)
         by-ground true g is = says-moved c e g is
         by-ground false g is = says-failed Ground (c .nonlinear) (c .linear) (omega arith) is
 
-  says : (b : Bool) → isAccepted (refusalOf bodies joints count dt (length scratch)) ≡ b
-      → Solved (cond b (settled bodies (cleared scratch) (runOf (recordsOf bodies) joints count dt)) (checked (refusalOf bodies joints count dt (length scratch))))
-      → Says (cond b (settled bodies (cleared scratch) (runOf (recordsOf bodies) joints count dt)) (checked (refusalOf bodies joints count dt (length scratch))))
-  says true e is = says-run (accepted bodies joints count dt (length scratch) (number-zero _ (eqb-true _ _ e))) (runOf (recordsOf bodies) joints count dt) refl is
+  abbrev tested : Outcome
+  tested = refusalOf bodies joints count dt (length scratch)
+
+  abbrev answer : Bool → Stepped
+  answer b = cond b (settled bodies (cleared scratch) (runOf (recordsOf bodies) joints count dt)) (checked tested)
+
+  says : (b : Bool) → isAccepted tested ≡ b → Solved (answer b) → Says (answer b)
+  says true e is =
+      let ready = accepted bodies joints count dt (length scratch) (number-zero _ (eqb-true _ _ e)) in
+      says-run ready (runOf (recordsOf bodies) joints count dt) refl is
   says false e is =
       let n = refused-number bodies joints count dt (length scratch) (λ q. eqb-false _ _ e (ap numberOf q)) in
-      says-checked (refusalOf bodies joints count dt (length scratch)) (n .0) (n .1) is
+      says-checked tested (n .0) (n .1) is
 
   solve-says : Says (solveOf bodies joints count dt scratch)
   unfolding solveOf
-  solve-says = says (isAccepted (refusalOf bodies joints count dt (length scratch))) refl refl
+  solve-says = says (isAccepted tested) refl refl
 
 -- the step's contract, from its first line
 pub answered : (bodies after : List Float) (joints : List Joint) (count : ℕ) (dt : Float) (scratch left : List Float) (r : Report)

@@ -15,11 +15,14 @@ use Rattle.arith.specs.Angle.{PI}
 use Rattle.arith.specs.Laws.Magnitude.{finite-same}
 use Rattle.vectors.specs.Laws.Tests.{both, abs-limit}
 use Rattle.rows.specs.declared.geometry.Joint.{Joint}
-use Rattle.rows.specs.declared.geometry.Kind.{Kind}
-use Rattle.rows.specs.declared.geometry.Kind.the-variants.{Ball, Hinge, Cylindrical, Planar, Distance, ConeTwist}
-use Rattle.rows.specs.ExactGeometry.{kindFinite}
+use Rattle.rows.specs.declared.geometry.Cone.{Cone}
+use Rattle.rows.specs.declared.geometry.Turning.{Turning}
+use Rattle.rows.specs.declared.geometry.Turning.the-variants as Turns
+use Rattle.rows.specs.declared.geometry.Motions.{Motions}
+use Rattle.rows.specs.declared.geometry.Motions.the-variants.{Rod, Frame}
+use Rattle.rows.specs.ExactGeometry.{turningFinite, motionsFinite}
 use Rattle.rows.specs.Laws.Rods.{length-in}
-use Rattle.step.specs.Checks.{swingOk, twistOk, coneOk, kindOk, jointOk, noJoint, jointIn}
+use Rattle.step.specs.Checks.{swingOk, twistOk, coneOk, turningOk, motionsOk, jointOk, noJoint, jointIn}
 
 -- ---- the numbers of a kind
 tested : (x : Float) → T (finite x) → T (isFinite x)
@@ -55,21 +58,26 @@ twist-finite lower upper t =
     let p = both l u (both (l && u) (eq lower upper || le lower (neg PI) && le PI upper) t .0) in
     (tested lower (abs-limit lower (ratio 4 1) (limits-finite .2) (p .0) .0), tested upper (abs-limit upper (ratio 4 1) (limits-finite .2) (p .1) .0))
 
-cone-finite : (x y lower upper : Float) → T (coneOk x y lower upper) → T (isFinite x && isFinite y && isFinite lower && isFinite upper)
-cone-finite x y lower upper t =
+cone-finite : (cone : Cone) → T (coneOk cone) → T (turningFinite (Turns.Cone cone))
+cone-finite cone t =
+    let x = cone .«swing_x» in
+    let y = cone .«swing_y» in
+    let lower = cone .«twist_lower» in
+    let upper = cone .«twist_upper» in
     let p = both (swingOk x && swingOk y) (twistOk lower upper) t in
     let s = both (swingOk x) (swingOk y) (p .0) in
     let w = twist-finite lower upper (p .1) in
     let xy = and-i (isFinite x) (isFinite y) (swing-finite x (s .0)) (swing-finite y (s .1)) in
     and-i (isFinite x && isFinite y && isFinite lower) (isFinite upper) (and-i (isFinite x && isFinite y) (isFinite lower) xy (w .0)) (w .1)
 
-pub kind-finite : (kind : Kind) → T (kindOk kind) → T (kindFinite kind)
-kind-finite Ball t = tt
-kind-finite Hinge t = tt
-kind-finite Cylindrical t = tt
-kind-finite Planar t = tt
-kind-finite (Distance L) t = tested L (length-in L t .0)
-kind-finite (ConeTwist x y lower upper) t = cone-finite x y lower upper t
+turning-finite : (turning : Turning) → T (turningOk turning) → T (turningFinite turning)
+turning-finite Turns.Free t = tt
+turning-finite Turns.Align t = tt
+turning-finite (Turns.Cone cone) t = cone-finite cone t
+
+pub motions-finite : (motions : Motions) → T (motionsOk motions) → T (motionsFinite motions)
+motions-finite (Rod length) t = tested length (length-in length t .0)
+motions-finite (Frame linear turning) t = turning-finite turning t
 
 -- ---- the table's end
 past-end-refused : jointOk noJoint ≡ true → ⊥

@@ -42,4 +42,5 @@ recordsOf s = tab (bodyCount s) (recordAt s)
 
 -- the 13 doubles at i as a state
 abbrev pub stateAt : List Float → ℕ → BodyState
-stateAt s i = record { origin = vec3At s i; rotation = quatAt s (i + 3); «linear_velocity» = vec3At s (i + 7); «angular_velocity» = vec3At s (i + 10) }
+stateAt s i =
+    record { origin = vec3At s i; rotation = quatAt s (i + 3); «linear_velocity» = vec3At s (i + 7); «angular_velocity» = vec3At s (i + 10) }

@@ -25,7 +25,8 @@ use Rattle.step.specs.TurnLaws.{not-stop, each-at, taking-go, taking-met
 -- ---- the nonlinear loop
 module _ (joints : List Joint) (count : ℕ) (dt : Float) (cyclic : Bool) (s : Started) where
   -- a correction is never the loop's answer
-  impulses-go-on : (impulses : List Float) (rows : List EqualityRow) (found : Found) (m : ℕ) → correctedBy dt cyclic s impulses rows ≡ stop (record { answer = go found; passes = m }) → ⊥
+  impulses-go-on : (impulses : List Float) (rows : List EqualityRow) (found : Found) (m : ℕ)
+      → correctedBy dt cyclic s impulses rows ≡ stop (record { answer = go found; passes = m }) → ⊥
   unfolding correctedBy
   impulses-go-on impulses rows found m h =
       let solve : Solve = linearSolve cyclic (s .rows) (s .masses) (rhsOf dt rows) in
@@ -33,7 +34,9 @@ module _ (joints : List Joint) (count : ℕ) (dt : Float) (cyclic : Bool) (s : S
       let r₂ = taking-met (solve .passes) (addImpulses impulses (r₁ .0)) _ found m (r₁ .2) in
       not-stop _ _ (r₂ .2)
 
-  pass-found : (impulses : List Float) (found : Found) (m : ℕ) → nonlinearPass joints count dt cyclic s impulses ≡ stop (record { answer = go found; passes = m }) → (candidateOf joints count dt s impulses ≡ go found) × (rowsMet (found .rows) ≡ true)
+  pass-found : (impulses : List Float) (found : Found) (m : ℕ)
+      → nonlinearPass joints count dt cyclic s impulses ≡ stop (record { answer = go found; passes = m })
+      → (candidateOf joints count dt s impulses ≡ go found) × (rowsMet (found .rows) ≡ true)
   unfolding nonlinearPass
   pass-found impulses found m h =
       let r₁ = taking-met _ _ _ found m h in
@@ -41,7 +44,8 @@ module _ (joints : List Joint) (count : ℕ) (dt : Float) (cyclic : Bool) (s : S
       let e : r₁ .0 ≡ found = go-same (r₁ .0) found (ap (λ (t : Took (Result Found)). t .answer) (r₂ .1)) in
       (r₁ .1 ∙ ap go e, ap (λ (f : Found). rowsMet (f .rows)) (sym e) ∙ r₂ .0)
 
-  pub loop-found : (found : Found) → nonlinearLoop joints count dt cyclic s .answer ≡ go found → (impulses : List Float) × (candidateOf joints count dt s impulses ≡ go found) × (rowsMet (found .rows) ≡ true)
+  pub loop-found : (found : Found) → nonlinearLoop joints count dt cyclic s .answer ≡ go found
+      → (impulses : List Float) × (candidateOf joints count dt s impulses ≡ go found) × (rowsMet (found .rows) ≡ true)
   unfolding nonlinearLoop
   loop-found found h =
       let m = passes-met (λ _. Unit {0}) (nonlinearPass joints count dt cyclic s) (λ a t p e. tt) 32 _ found tt h in
@@ -54,7 +58,8 @@ pub record Stay (a b : List MomentumBody) : Type 0 where
   pub same : (k : ℕ) → k < length a → SamePlace (bodyIn a k) (bodyIn b k)
 
 stay-then : (a b c : List MomentumBody) → Stay a b → Stay b c → Stay a c
-stay-then a b c s t = record { size = t .size ∙ s .size; same = λ k l. same-then (bodyIn a k) (bodyIn b k) (bodyIn c k) (s .same k l) (t .same k (subst (λ (n : ℕ). k < n) (sym (s .size)) l)) }
+stay-then a b c s t =
+    record { size = t .size ∙ s .size; same = λ k l. same-then (bodyIn a k) (bodyIn b k) (bodyIn c k) (s .same k l) (t .same k (subst (λ (n : ℕ). k < n) (sym (s .size)) l)) }
 
 kicked : (a : List MomentumBody) (generalized : List Generalized) (b : List MomentumBody) → kickBodies a generalized ≡ go b → Stay a b
 unfolding kickBodies
@@ -69,7 +74,8 @@ module _ (cyclic : Bool) (rows : List EqualityRow) (masses : List MassResponse) 
       let r = step _ _ b h in
       kicked a (r .0) b (r .2)
 
-  corrects : (a : List MomentumBody) (rhs : List Float) (t : Took (List MomentumBody)) → velocitiesBy cyclic rows masses a rhs ≡ go t → Stay a (t .answer)
+  corrects : (a : List MomentumBody) (rhs : List Float) (t : Took (List MomentumBody)) → velocitiesBy cyclic rows masses a rhs ≡ go t
+      → Stay a (t .answer)
   unfolding velocitiesBy
   corrects a rhs t h =
       let r₁ = step _ _ t h in
@@ -84,7 +90,8 @@ module _ (cyclic : Bool) (rows : List EqualityRow) (masses : List MassResponse) 
       let r₂ = step _ _ t (r₁ .2) in
       corrects a (r₁ .0) t (r₂ .2)
 
-  velocities-go-on : (a : List MomentumBody) (rhs : List Float) (b : List MomentumBody) (m : ℕ) → velocitiesBy cyclic rows masses a rhs ≡ stop (record { answer = go b; passes = m }) → ⊥
+  velocities-go-on : (a : List MomentumBody) (rhs : List Float) (b : List MomentumBody) (m : ℕ)
+      → velocitiesBy cyclic rows masses a rhs ≡ stop (record { answer = go b; passes = m }) → ⊥
   unfolding velocitiesBy
   velocities-go-on a rhs b m h =
       let solve : Solve = linearSolve cyclic rows masses rhs in
@@ -111,7 +118,8 @@ pub record Locals (bodies : List RigidBody) (b : List MomentumBody) : Type 0 whe
   pub same : (k : ℕ) → k < length bodies → recordIn bodies k .«center_of_mass» ≡ bodyIn b k .«center_of_mass»
 
 module _ (bodies : List RigidBody) where
-  locals-then : (a b : List MomentumBody) → Locals bodies a → length b ≡ length a → ((k : ℕ) → k < length a → bodyIn a k .«center_of_mass» ≡ bodyIn b k .«center_of_mass») → Locals bodies b
+  locals-then : (a b : List MomentumBody) → Locals bodies a → length b ≡ length a
+      → ((k : ℕ) → k < length a → bodyIn a k .«center_of_mass» ≡ bodyIn b k .«center_of_mass») → Locals bodies b
   locals-then a b s e f = record { size = e ∙ s .size; same = λ k l. s .same k l ∙ f k (subst (λ (n : ℕ). k < n) (sym (s .size)) l) }
 
   start-locals : (start : List MomentumBody) → startBodies bodies ≡ go start → Locals bodies start
@@ -120,12 +128,14 @@ module _ (bodies : List RigidBody) where
       let E = each-at (length bodies) _ start h in
       record { size = E .size; same = λ k l. new-local (recordIn bodies k) _ (bodyIn start k) (E .at noBody k l) }
 
-  drifted : (dt : Float) (a : MomentumBody) (kick : Generalized) (b : MomentumBody) → kickAndDrift dt a kick ≡ go b → a .«center_of_mass» ≡ b .«center_of_mass»
+  drifted : (dt : Float) (a : MomentumBody) (kick : Generalized) (b : MomentumBody) → kickAndDrift dt a kick ≡ go b
+      → a .«center_of_mass» ≡ b .«center_of_mass»
   drifted dt a kick b h =
       let r = step (kickOf a (kick .linear) (kick .angular)) (λ (x : MomentumBody). driftOf x dt) b h in
       kick-place a _ _ (r .0) (r .1) .local-is ∙ drift-local (r .0) dt b (r .2)
 
-  move-locals : (dt : Float) (start : List MomentumBody) (generalized : List Generalized) (candidate : List MomentumBody) → moveBodies dt start generalized ≡ go candidate → Locals bodies start → Locals bodies candidate
+  move-locals : (dt : Float) (start : List MomentumBody) (generalized : List Generalized) (candidate : List MomentumBody)
+      → moveBodies dt start generalized ≡ go candidate → Locals bodies start → Locals bodies candidate
   unfolding moveBodies
   move-locals dt start generalized candidate h s =
       let E = each-at (length start) _ candidate h in
@@ -136,7 +146,8 @@ counted-go : {A : Type 0} (n l : ℕ) (r : Result A) (a : A) → counted n l r �
 counted-go n l (go x) a h = ap go (go-same x a h)
 counted-go n l (stop fault) a h = absurd (not-stop a _ (sym h))
 
-start-of : (bodies : List RigidBody) (joints : List Joint) (count : ℕ) (s : Started) → startOf bodies joints count ≡ go s → startBodies bodies ≡ go (s .start)
+start-of : (bodies : List RigidBody) (joints : List Joint) (count : ℕ) (s : Started) → startOf bodies joints count ≡ go s
+    → startBodies bodies ≡ go (s .start)
 unfolding startOf
 start-of bodies joints count s h =
     let r₁ = step _ _ s h in
@@ -144,24 +155,33 @@ start-of bodies joints count s h =
     let r₃ = step _ _ s (r₂ .2) in
     r₁ .1 ∙ ap (λ (s : Started). go (s .start)) (go-same _ s (r₃ .2))
 
-candidate-of : (joints : List Joint) (count : ℕ) (dt : Float) (s : Started) (impulses : List Float) (found : Found) → candidateOf joints count dt s impulses ≡ go found
-    → (generalized : List Generalized) × (moveBodies dt (s .start) generalized ≡ go (found .candidate)) × (writeRows joints count (found .candidate) ≡ go (found .rows))
+candidate-of : (joints : List Joint) (count : ℕ) (dt : Float) (s : Started) (impulses : List Float) (found : Found)
+    → candidateOf joints count dt s impulses ≡ go found
+    → (generalized : List Generalized) × (moveBodies dt (s .start) generalized ≡ go (found .candidate)) ×
+    (writeRows joints count (found .candidate) ≡ go (found .rows))
 unfolding candidateOf
 candidate-of joints count dt s impulses found h =
     let r₁ = step _ _ found h in
     let r₂ = step _ _ found (r₁ .2) in
     let r₃ = step _ _ found (r₂ .2) in
-    let e = go-same _ found (r₃ .2) in
-    (r₁ .0, subst (λ (f : Found). moveBodies dt (s .start) (r₁ .0) ≡ go (f .candidate)) e (r₂ .1), subst (λ (f : Found). writeRows joints count (f .candidate) ≡ go (f .rows)) e (r₃ .1))
+    let e = go-same _ found (r₃ .2) in (
+      r₁ .0,
+      subst (λ (f : Found). moveBodies dt (s .start) (r₁ .0) ≡ go (f .candidate)) e (r₂ .1),
+      subst (λ (f : Found). writeRows joints count (f .candidate) ≡ go (f .rows)) e (r₃ .1),
+    )
 
-finished : (bodies : List RigidBody) (cyclic : Bool) (nonlinear linear : ℕ) (found : Found) (c : Counted (List BodyState)) → finishOf bodies cyclic nonlinear linear found ≡ go c
+finished : (bodies : List RigidBody) (cyclic : Bool) (nonlinear linear : ℕ) (found : Found) (c : Counted (List BodyState))
+    → finishOf bodies cyclic nonlinear linear found ≡ go c
     → (last : List MomentumBody) × Stay (found .candidate) last × (statesOf bodies last ≡ go (c .answer))
 unfolding finishOf
 finished bodies cyclic nonlinear linear found c h =
     let r₁ = step _ _ c h in
     let r₂ = step _ _ c (r₁ .2) in
-    let r₃ = step _ _ c (r₂ .2) in
-    (r₂ .0, loop-stays cyclic (found .rows) (r₁ .0) (found .candidate) (r₂ .0) (counted-go _ _ _ (r₂ .0) (r₂ .1)), counted-go _ _ _ (r₃ .0) (r₃ .1) ∙ ap (λ (c : Counted (List BodyState)). go (c .answer)) (go-same _ c (r₃ .2)))
+    let r₃ = step _ _ c (r₂ .2) in (
+      r₂ .0,
+      loop-stays cyclic (found .rows) (r₁ .0) (found .candidate) (r₂ .0) (counted-go _ _ _ (r₂ .0) (r₂ .1)),
+      counted-go _ _ _ (r₃ .0) (r₃ .1) ∙ ap (λ (c : Counted (List BodyState)). go (c .answer)) (go-same _ c (r₃ .2)),
+    )
 
 pub record Ran (bodies : List RigidBody) (joints : List Joint) (count : ℕ) (states : List BodyState) : Type 0 where
   -- the candidate that met its rows
@@ -175,7 +195,8 @@ pub record Ran (bodies : List RigidBody) (joints : List Joint) (count : ℕ) (st
   pub locals : Locals bodies last
   pub states-are : statesOf bodies last ≡ go states
 
-pub ran : (bodies : List RigidBody) (joints : List Joint) (count : ℕ) (dt : Float) (c : Counted (List BodyState)) → runOf bodies joints count dt ≡ go c → Ran bodies joints count (c .answer)
+pub ran : (bodies : List RigidBody) (joints : List Joint) (count : ℕ) (dt : Float) (c : Counted (List BodyState))
+    → runOf bodies joints count dt ≡ go c → Ran bodies joints count (c .answer)
 unfolding runOf
 ran bodies joints count dt c h =
     let r₁ = step _ _ c h in
@@ -194,7 +215,8 @@ ran bodies joints count dt c h =
       stay = e .1;
       locals =
           locals-then bodies (found .candidate) (e .0)
-          (move-locals bodies dt (s .start) (f .0) (found .candidate) (f .1) (start-locals bodies (s .start) (start-of bodies joints count s (counted-go _ _ _ s (r₁ .1)))))
+          (move-locals bodies dt (s .start) (f .0) (found .candidate) (f .1)
+          (start-locals bodies (s .start) (start-of bodies joints count s (counted-go _ _ _ s (r₁ .1)))))
           (e .1 .size) (λ k l. e .1 .same k l .local-is);
       states-are = e .2;
     }

@@ -6,12 +6,14 @@ use mathlib.Core.List.{List}
 use lib.ListN.{getD}
 use lib.Ieee.{Float}
 use Rattle.arith.specs.Flow.{Turn, go, stop, turns}
+use Rattle.vectors.specs.Vector.{divOf}
 use Rattle.rows.specs.declared.body.Finish.{Finish}
 use Rattle.rows.specs.declared.body.Finish.the-variants as Ends
 use Rattle.rows.specs.declared.body.BodyState.{BodyState}
 use Rattle.rows.specs.declared.body.MomentumBody.{MomentumBody}
 use Rattle.rows.specs.declared.geometry.Joint.{Joint}
-use Rattle.rows.specs.Fault.{Fault, nonConvergent, arithmeticOverflow, Result}
+use Rattle.rows.specs.Fault.{Fault, nonConvergent, arithmeticOverflow, Result, vectorOr}
+use Rattle.rows.specs.Body.{omegaOf}
 use Rattle.rows.specs.Geometry.{rowCount}
 use Rattle.rows.specs.View.{Out}
 use Rattle.rows.specs.Answer.{finishAs}
@@ -19,12 +21,13 @@ use Rattle.solves.specs.declared.places.MassResponse.{MassResponse}
 use Rattle.solves.specs.View.{START-ROWS, ROWS, MASSES, IMPULSES, RHS, START, CANDIDATE, END, rowsOn, massesAt}
 use Rattle.step.specs.declared.integrator.MassAnswer.{MassAnswer}
 use Rattle.step.specs.declared.integrator.Progress.{Progress}
+use Rattle.step.specs.declared.velocity.Motion.{Motion}
 use Rattle.step.specs.declared.passes.PassEnd.{PassEnd}
 use Rattle.step.specs.declared.passes.PassEnd.the-variants as Passes
 use Rattle.step.specs.declared.passes.Passed.{Passed}
 use Rattle.step.specs.declared.passes.Looped.{Looped}
 use Rattle.step.specs.Checks.{jointIn}
-use Rattle.step.specs.View.{startBodiesAt, candidatesAt}
+use Rattle.step.specs.View.{candidateAt, startBodiesAt, candidatesAt}
 use Rattle.step.specs.Step.{Started, Took, Left, Found, Counted}
 
 -- ---- views
@@ -46,6 +49,20 @@ rowsBefore joints k = turns (λ j n. n + rowCount (jointIn joints j .kind)) k 0
 pub record Sides (joints : List Joint) (count : ℕ) (ia ib : List ℕ) : Type 0 where
   pub a-is : (k i : ℕ) → k < count → i < rowCount (jointIn joints k .kind) → getD ia (rowsBefore joints k + i) 0 ≡ jointIn joints k .«body_a»
   pub b-is : (k i : ℕ) → k < count → i < rowCount (jointIn joints k .kind) → getD ib (rowsBefore joints k + i) 0 ≡ jointIn joints k .«body_b»
+
+-- the motion is the body's: its velocity, and its angular velocity where that is finite
+pub record Moves (body : MomentumBody) (motion : Motion) : Type 0 where
+  pub linear-is : motion .linear ≡ divOf (body .momentum) (body .mass)
+  pub angular-is : vectorOr arithmeticOverflow (motion .angular) ≡ omegaOf body
+
+-- of candidate k
+pub record MotionAt (s : List Float) (k : ℕ) (motion : Motion) : Type 0 where
+  pub body-is : motion .body ≡ k
+  pub moves : Moves (candidateAt s k) motion
+
+-- of the candidate that it names, if it names one
+pub record Remembers (s : List Float) (motion : Motion) : Type 0 where
+  pub moves : motion .body < 16 → Moves (candidateAt s (motion .body)) motion
 
 -- ---- outside of what is written
 -- Inside of it stands what the contract's views say; all else there is free: only the crate itself calls these functions, and the step zeroes the scratch before it answers.

@@ -1,8 +1,8 @@
 -- ConstrainedIntegrator::solve of solver.rs over plain values, pass by pass, with document 01's refusals and the ground of test 12.
 -- `Result A` is the Rust's Result, and in a `do` block `x ← e` is `let x = e?`. The linear solves are in solves/specs, bodies and rows in rows/specs.
-use Prim.Native.Nat.{ℕ, _+_, _*_, _/_, _%_, _^_}
+use Prim.Native.Nat.{ℕ, _+_, _/_, _%_, _^_}
 use mathlib.Core.List.{List, [], _∷_, _++_}
-use mathlib.Core.Bool.{Bool, cond, not, _&&_}
+use mathlib.Core.Bool.{Bool, cond, _&&_}
 use lib.Dec.{ltb, leb}
 use lib.ListN.{length, getD, drop, replicate}
 use lib.Ieee as Ieee
@@ -197,7 +197,8 @@ unfoldable pub velocityOf : EqualityRow → MomentumBody → MomentumBody → Re
 velocityOf row a b = do
   wa ← omegaOf a
   wb ← omegaOf b
-  tryNumber (dotOf (row .«linear_a») (divOf (a .momentum) (a .mass)) ⊕ dotOf (row .«angular_a») wa ⊕ dotOf (row .«linear_b») (divOf (b .momentum) (b .mass)) ⊕ dotOf (row .«angular_b») wb)
+  tryNumber (dotOf (row .«linear_a») (divOf (a .momentum) (a .mass)) ⊕ dotOf (row .«angular_a») wa
+      ⊕ dotOf (row .«linear_b») (divOf (b .momentum) (b .mass)) ⊕ dotOf (row .«angular_b») wb)
 
 -- *rhs = -velocity(*row, &scratch.candidate)?
 unfoldable pub velocityRhs : List EqualityRow → List MomentumBody → Result (List Float)

@@ -52,18 +52,24 @@ module _ {A B : Type 0} where
   taking-go n (stop fault) a h = absurd (not-stop a (record { answer = stop fault; passes = n }) (sym h))
 
   -- e? leaves no turn with an answer `go`
-  pub taking-met : {X : Type 0} (n : ℕ) (r : Result A) (f : A → Turn X (Took (Result B))) (b : B) (m : ℕ) → (taking n r >>= f) ≡ stop (record { answer = go b; passes = m }) → (a : A) × (r ≡ go a) × (f a ≡ stop (record { answer = go b; passes = m }))
+  pub taking-met : {X : Type 0} (n : ℕ) (r : Result A) (f : A → Turn X (Took (Result B))) (b : B) (m : ℕ)
+      → (taking n r >>= f) ≡ stop (record { answer = go b; passes = m }) → (a : A) × (r ≡ go a) × (f a ≡ stop (record { answer = go b; passes = m }))
   unfolding _>>=_
   taking-met n (go a) f b m h = (a, refl, h)
-  taking-met {X} n (stop fault) f b m h = absurd (not-stop b fault (sym (ap (λ (t : Took (Result B)). t .answer) (stop-same (record { answer = stop fault; passes = n }) (record { answer = go b; passes = m }) h))))
+  taking-met {X} n (stop fault) f b m h =
+      absurd
+      (not-stop b fault
+      (sym (ap (λ (t : Took (Result B)). t .answer) (stop-same (record { answer = stop fault; passes = n }) (record { answer = go b; passes = m }) h))))
 
-pub returned : {X E : Type 0} (test : Bool) (e d : E) (f : Unit {0} → Turn X E) → (f tt ≡ stop d → ⊥) → (returnIf test e >>= f) ≡ stop d → (test ≡ true) × (e ≡ d)
+pub returned : {X E : Type 0} (test : Bool) (e d : E) (f : Unit {0} → Turn X E) → (f tt ≡ stop d → ⊥) → (returnIf test e >>= f) ≡ stop d
+    → (test ≡ true) × (e ≡ d)
 unfolding _>>=_
 returned true e d f no-other h = (refl, stop-same e d h)
 returned false e d f no-other h = absurd (no-other h)
 
 -- a loop answered b: one of its turns did, and what every turn keeps held before that turn
-module _ {A B : Type 0} (P : A → Type 0) (pass : A → Turn (Took A) (Took (Result B))) (keeps : (a : A) (t : Took A) → P a → pass a ≡ go t → P (t .answer)) where
+module _ {A B : Type 0} (P : A → Type 0) (pass : A → Turn (Took A) (Took (Result B)))
+    (keeps : (a : A) (t : Took A) → P a → pass a ≡ go t → P (t .answer)) where
   pub record Ended (b : B) : Type 0 where
     pub before : A
     pub holds : P before
@@ -76,7 +82,8 @@ module _ {A B : Type 0} (P : A → Type 0) (pass : A → Turn (Took A) (Took (Re
 
   one : (k before : ℕ) (a : A) → P a → (r : Turn (Took A) (Took (Result B))) → pass a ≡ r → Walked (summed k before r)
   one k before a p (go t) e = keeps a t p e
-  one k before a p (stop t) e = λ b h. record { before = a; holds = p; passes = t .passes; is = e ∙ ap (λ (r : Result B). stop (record { answer = r; passes = t .passes })) h }
+  one k before a p (stop t) e =
+      λ b h. record { before = a; holds = p; passes = t .passes; is = e ∙ ap (λ (r : Result B). stop (record { answer = r; passes = t .passes })) h }
 
   next : (k : ℕ) (r : Turn (Took A) (Left B)) → Walked r → Walked (r >>= summedTurn pass k)
   unfolding _>>=_

@@ -53,7 +53,8 @@ inverse-cols m =
     (one-of (not (finiteMat inverse)) (uninverted ResultOutOfRange) (record { outcome = Done; inverse = inverse }) refl refl)))
 
 -- a body with the start's mass, local centre and inverse inertia is the candidate that a store makes of it
-pub moved-is : (b start : MomentumBody) → b .mass ≡ start .mass → b .«center_of_mass» ≡ start .«center_of_mass» → b .«inverse_inertia» ≡ start .«inverse_inertia» → movedTo b start ≡ b
+pub moved-is : (b start : MomentumBody) → b .mass ≡ start .mass → b .«center_of_mass» ≡ start .«center_of_mass»
+    → b .«inverse_inertia» ≡ start .«inverse_inertia» → movedTo b start ≡ b
 moved-is b start m c i = λ j. record {
   center = b .center;
   rotation = b .rotation;

@@ -1,4 +1,4 @@
-// Refusals 1 to 9, in document 01's order: each number over all bodies or joints before the next.
+// Refusals 1 to 9 of SPECIFICATION §7: each number over all bodies or joints before the next.
 use crate::Outcome;
 use crate::RECORD;
 use crate::SCRATCH;
@@ -8,9 +8,13 @@ use arith::angle::PI;
 use arith::number::abs;
 use arith::number::is_finite;
 use rows::body::RigidBody;
+use rows::geometry::Cone;
 use rows::geometry::Joint;
 use rows::geometry::JointFrame;
 use rows::geometry::Kind;
+use rows::geometry::Motions;
+use rows::geometry::Turning;
+use rows::geometry::motions_of;
 use vectors::matrix::CholeskyOutcome;
 use vectors::matrix::inverse_spd;
 use vectors::vector::Vec3;
@@ -19,10 +23,13 @@ ghost use Prim.Native.Nat.{_*_, _≤_};
 ghost use lib.ListN.{length};
 ghost use Rattle.arith.specs.Real.{isFinite};
 ghost use Rattle.arith.specs.Flow.{every};
+ghost use Rattle.rows.specs.Motions.{motionsOf};
 ghost use Rattle.rows.specs.View.{at};
 ghost use Rattle.step.specs.declared.Outcome.the-variants.{Accepted};
 ghost use Rattle.step.specs.Records.{recordAt};
-ghost use Rattle.step.specs.Checks.{withinOf, timeStepOk, bodiesFit, massInRange, bodyInRange, hasInverse, joinsTwo, frameOk, lengthOk, swingOk, twistOk, coneOk, kindOk, jointOk, jointIn, sizesOr, bodiesOr, jointsOr, refusalOf, isAccepted};
+ghost use Rattle.step.specs.Checks.{withinOf, timeStepOk, bodiesFit, massInRange, bodyInRange, hasInverse, joinsTwo, frameOk};
+ghost use Rattle.step.specs.Checks.{lengthOk, swingOk, twistOk, coneOk, turningOk, motionsOk, jointOk, jointIn};
+ghost use Rattle.step.specs.Checks.{sizesOr, bodiesOr, jointsOr, refusalOf, isAccepted};
 
 // Whether no coordinate is above the limit in magnitude.
 pub(crate) fn within(v: Vec3, limit: f64) -> bool
@@ -179,32 +186,33 @@ fn twist_ok(lower: f64, upper: f64) -> bool
     false
 }
 
-fn cone_ok(swing_x: f64, swing_y: f64, lower: f64, upper: f64) -> bool
-    ensures { λ r. ⌜ r ≡ coneOk «swing_x» «swing_y» lower upper ⌝ }
+fn cone_ok(cone: Cone) -> bool
+    ensures { λ r. ⌜ r ≡ coneOk cone ⌝ }
 {
-    if swing_ok(swing_x) {
-        if swing_ok(swing_y) {
-            return twist_ok(lower, upper);
+    if swing_ok(cone.swing_x) {
+        if swing_ok(cone.swing_y) {
+            return twist_ok(cone.twist_lower, cone.twist_upper);
         }
     }
     false
 }
 
-fn kind_ok(kind: Kind) -> bool
-    ensures { λ r. ⌜ r ≡ kindOk kind ⌝ }
+fn turning_ok(turning: Turning) -> bool
+    ensures { λ r. ⌜ r ≡ turningOk turning ⌝ }
 {
-    match kind {
-        Kind::Ball => true,
-        Kind::Hinge => true,
-        Kind::Cylindrical => true,
-        Kind::Planar => true,
-        Kind::Distance(length) => length_ok(length),
-        Kind::ConeTwist {
-            swing_x,
-            swing_y,
-            twist_lower,
-            twist_upper,
-        } => cone_ok(swing_x, swing_y, twist_lower, twist_upper),
+    match turning {
+        Turning::Free => true,
+        Turning::Align => true,
+        Turning::Cone(cone) => cone_ok(cone),
+    }
+}
+
+fn kind_ok(kind: Kind) -> bool
+    ensures { λ r. ⌜ r ≡ motionsOk (motionsOf kind) ⌝ }
+{
+    match motions_of(kind) {
+        Motions::Rod(length) => length_ok(length),
+        Motions::Frame(_, turning) => turning_ok(turning),
     }
 }
 

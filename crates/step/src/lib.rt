@@ -9,7 +9,6 @@ use crate::bodies::in_ground;
 use crate::bodies::write_states;
 use crate::checks::accepted;
 use crate::checks::refusal;
-use crate::integrator::Progress;
 use crate::integrator::run;
 use rows::body::Finish;
 use rows::geometry::Joint;

@@ -23,6 +23,7 @@ use solves::places::load_generalized;
 use solves::places::load_row;
 use solves::solver::linear_solve;
 use vectors::vector::OptionVec3;
+use vectors::vector::Vec3;
 ghost use mathlib.Core.Path.{_≡_};
 ghost use Prim.Native.Nat.{_+_, _*_, _≤_, _<_};
 ghost use lib.ListN.{length};
@@ -32,22 +33,67 @@ ghost use Rattle.solves.specs.Region.{vecAt, Does};
 ghost use Rattle.solves.specs.Answer.{sumAs, ranAs};
 ghost use Rattle.solves.specs.View.{ROWS, MASSES, RHS, SOLUTION, GENERALIZED, CANDIDATE, END, Rows, rowsOn, massesAt, generalizedsAt};
 ghost use Rattle.step.specs.View.{candidatesAt};
-ghost use Rattle.step.specs.RunView.{Correcting, passAs, loopedAs};
+ghost use Rattle.step.specs.RunView.{Moves, MotionAt, Remembers, Correcting, passAs, loopedAs};
 ghost use Rattle.step.specs.Step.{velocityOf, velocityRhs, compatibleOf, kickBodies, reactionOf, velocitiesBy, velocityPass, velocityLoop};
 
-// The rate of a row, from the bodies' momenta.
-fn velocity(row: EqualityRow, a: MomentumBody, b: MomentumBody) -> Sum
-    ensures { λ r. ⌜ sumAs r ≡ velocityOf row a b ⌝ }
+// The number of no body: there are at most 16.
+const NO_BODY: usize = 16;
+
+// What a body adds to the rates of its rows: its velocity, and its angular velocity where that is finite.
+pub(crate) struct Motion {
+    pub body: usize,
+    pub linear: Vec3,
+    pub angular: OptionVec3,
+}
+
+fn no_motion() -> Motion
+    ensures { λ r. ⌜ r .body ≡ 16 ⌝ }
 {
-    let OptionVec3::Some(wa) = a.omega() else {
+    Motion {
+        body: NO_BODY,
+        linear: Vec3::ZERO,
+        angular: OptionVec3::None,
+    }
+}
+
+fn motion_of(s: &[f64], k: usize) -> Motion
+    requires { ⌜ (END ≤ length (now s)) × (k < 16) ⌝ }
+    ensures { λ r. ⌜ MotionAt (now (s .entry)) k r ⌝ }
+{
+    let body = load_candidate(s, k);
+    Motion {
+        body: k,
+        linear: body.momentum.div(body.mass),
+        angular: body.omega(),
+    }
+}
+
+// The motion of candidate k: the one kept from the row before, where that row has the same body.
+fn motion_again(s: &[f64], k: usize, last: Motion) -> Motion
+    requires { ⌜ (END ≤ length (now s)) × (k < 16) × Remembers (now s) last ⌝ }
+    ensures { λ r. ⌜ MotionAt (now (s .entry)) k r ⌝ }
+{
+    if last.body == k {
+        return last;
+    }
+    motion_of(s, k)
+}
+
+// The rate of a row, from the motions of its bodies.
+fn velocity(row: EqualityRow, a: Motion, b: Motion) -> Sum
+    ensures { λ r. ⌜ ((x y : MomentumBody) → Moves x a → Moves y b → sumAs r ≡ velocityOf row x y) ⌝ }
+{
+    let turned_a = a.angular;
+    let OptionVec3::Some(wa) = turned_a else {
         return Sum::ArithmeticOverflow;
     };
-    let OptionVec3::Some(wb) = b.omega() else {
+    let turned_b = b.angular;
+    let OptionVec3::Some(wb) = turned_b else {
         return Sum::ArithmeticOverflow;
     };
-    let value = row.linear_a.dot(a.momentum.div(a.mass))
+    let value = row.linear_a.dot(a.linear)
         + row.angular_a.dot(wa)
-        + row.linear_b.dot(b.momentum.div(b.mass))
+        + row.linear_b.dot(b.linear)
         + row.angular_b.dot(wb);
     if is_finite(value) {
         return Sum::Value(value);
@@ -65,10 +111,12 @@ fn velocity_rhs(
     requires { ⌜ Rows (now s) (now ia) (now ib) ROWS n bodies ⌝ }
     ensures { λ r. ⌜ Does (Out RHS 96) (now (s .entry)) (now (s .exit)) (ranAs r (vecAt (now (s .exit)) RHS n)) (velocityRhs (rowsOn (now (ia .entry)) (now (ib .entry)) (now (s .entry)) ROWS n) (candidatesAt (now (s .entry)) bodies)) ⌝ }
 {
+    let mut a = no_motion();
+    let mut b = no_motion();
     for k in 0..n {
         let row = load_row(s, ia, ib, ROWS, k);
-        let a = load_candidate(s, row.a);
-        let b = load_candidate(s, row.b);
+        a = motion_again(s, row.a, a);
+        b = motion_again(s, row.b, b);
         let Sum::Value(value) = velocity(row, a, b) else {
             return Outcome::ArithmeticOverflow;
         };

@@ -1,7 +1,7 @@
 -- One read, and a reading of many, over plain values.
 use Prim.Native.Nat.{ℕ, zero, suc, _+_, _≤_, _<_}
 use mathlib.Core.Path.{_≡_, refl, sym, _∙_, ap, subst}
-use mathlib.Core.Bool.{true, false}
+use mathlib.Core.Bool.{true}
 use mathlib.Core.List.{List}
 use native.Mathlib.Omega.{arith}
 use lib.Dec.{leb, ltb}
@@ -11,8 +11,7 @@ use lib.Seq.{paste, drop-paste, drop-drop}
 use borrow.Author.Tests.{lt-ltb, le-ltb, le-leb, lt-leb}
 use Rattle.libc.specs.Io.{Moved}
 use Rattle.streams.specs.declared.Got.{Got}
-use Rattle.streams.specs.declared.Got.the-variants.{Failed, Ended, Bytes}
-use Rattle.streams.specs.declared.Received.{Received}
+use Rattle.streams.specs.declared.Got.the-variants.{Bytes}
 use Rattle.streams.specs.Receive.{gotOf, bytesIn, isMore, Reads, Receives}
 
 -- a read brings no more bytes than it was asked for

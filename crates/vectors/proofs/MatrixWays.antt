@@ -18,7 +18,7 @@ use Rattle.vectors.specs.declared.matrix.Factored.{Factored}
 use Rattle.vectors.specs.declared.matrix.Solved.{Solved}
 use Rattle.vectors.specs.declared.matrix.Inverted.{Inverted}
 use Rattle.vectors.specs.Vector.{vec, axisX, axisY, axisZ, divOf, finiteOf}
-use Rattle.vectors.specs.Matrix.{Cells, cell, put, turned, columnOf, fromCols, matOf, zeroMat, finiteMat, matLargestOf, divided, notSymmetric, correctionOf, aboveZero, ranOf, placed, placeOf, factorOf, unfactored, factoredWith, factorSpdOf, forwardOf, backwardOf, unsolved, solveOf, done, solveSpdOf, uninverted, inverseSpdOf}
+use Rattle.vectors.specs.Matrix.{Cells, cell, put, turned, columnOf, fromCols, matOf, zeroMat, finiteMat, matLargestOf, divided, notSymmetric, correctionOf, aboveZero, ranOf, placed, placeOf, factorOf, unfactored, factoredWith, factorSpdOf, forwardOf, backwardOf, unsolved, solveOf, done, solvedBy, solveSpdOf, uninverted, inverseSpdOf}
 
 -- ---- column
 module _ (m : Mat3) {c : Cells} (ec : c ≡ m .columns) (index : ℕ) where
@@ -106,22 +106,27 @@ module _ (m : Mat3) {b : Bool} (eb : b ≡ finiteMat m) where
             ∙ cond-no _ _ finite
 
         pub factor-done : f ≡ true → {p : Mat3} → p ≡ matOf (turned l) → record { outcome = Done; factor = record { lower = p; scale = s } } ≡ factorSpdOf m
-        factor-done h ep = ap (λ (p : Mat3). record { outcome = Done; factor = record { lower = p; scale = s } }) ep ∙ sym (ap (λ (b : Bool). factoredWith s (ranOf b l)) h) ∙ whole
+        factor-done h ep =
+            ap (λ (p : Mat3). record { outcome = Done; factor = record { lower = p; scale = s } }) ep
+            ∙ sym (ap (λ (b : Bool). factoredWith s (ranOf b l)) h) ∙ whole
 
         pub factor-not : f ≡ false → {r : Factored} → r ≡ unfactored NotPositiveDefinite → r ≡ factorSpdOf m
         factor-not h er = er ∙ sym (ap (λ (b : Bool). factoredWith s (ranOf b l)) h) ∙ whole
 
--- ---- solve_spd
-module _ (m : Mat3) (rhs : Vec3) {g : Factored} (eg : g ≡ factorSpdOf m) {b : Bool} (eb : b ≡ done (g .outcome)) {r : Solved} where
-  pub spd-done : b ≡ true → r ≡ solveOf (g .factor) rhs → r ≡ solveSpdOf m rhs
-  unfolding solveSpdOf
+-- ---- solve_spd, once the matrix is factored
+module _ (g : Factored) (rhs : Vec3) {b : Bool} (eb : b ≡ done (g .outcome)) {r : Solved} where
+  pub spd-done : b ≡ true → r ≡ solveOf (g .factor) rhs → r ≡ solvedBy g rhs
   spd-done h er = cc
 
-  pub spd-not : b ≡ false → r ≡ unsolved (g .outcome) → r ≡ solveSpdOf m rhs
-  unfolding solveSpdOf
+  pub spd-not : b ≡ false → r ≡ unsolved (g .outcome) → r ≡ solvedBy g rhs
   spd-not h er = cc
 
 -- ---- inverse_spd
+-- a matrix factored once is factored as for each of its solves
+pub by-factor : (m : Mat3) (rhs : Vec3) {g : Factored} {x : Solved} → g ≡ factorSpdOf m → x ≡ solvedBy g rhs → x ≡ solveSpdOf m rhs
+unfolding solveSpdOf
+by-factor m rhs eg ex = ex ∙ ap (λ (g : Factored). solvedBy g rhs) eg
+
 module _ (m : Mat3) {x : Solved} (ex : x ≡ solveSpdOf m axisX) {a : Bool} (ea : a ≡ done (x .outcome)) where
   pub inverse-x : not a ≡ true → {r : Inverted} → r ≡ uninverted (x .outcome) → r ≡ inverseSpdOf m
   unfolding inverseSpdOf
@@ -157,7 +162,8 @@ module _ (factor : Cholesky3) (rhs : Vec3) {b : Bool} (eb : b ≡ finiteOf rhs) 
     unfolding solveOf
     solve-large h er = cc
 
-    module _ (hf : not f ≡ false) {l : Cells} (el : l ≡ turned (factor .lower .columns)) {y x : Vec3} (ey : y ≡ forwardOf l n) (ex : x ≡ backwardOf l y) {g : Bool} (eg : g ≡ finiteOf x) where
+    module _ (hf : not f ≡ false) {l : Cells} (el : l ≡ turned (factor .lower .columns)) {y x : Vec3}
+        (ey : y ≡ forwardOf l n) (ex : x ≡ backwardOf l y) {g : Bool} (eg : g ≡ finiteOf x) where
       pub solve-done : g ≡ true → record { outcome = Done; solution = x } ≡ solveOf factor rhs
       unfolding solveOf
       solve-done h = cc

@@ -10,3 +10,4 @@ pub mod Rotation
 pub mod Sizes
 pub mod UnitTest
 pub mod Product
+pub mod AsUnit

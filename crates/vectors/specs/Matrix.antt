@@ -172,11 +172,12 @@ done NotSymmetric = false
 done NotPositiveDefinite = false
 done ResultOutOfRange = false
 
--- self.factor_spd()?.solve(rhs)
+-- factored?.solve(rhs)
+abbrev pub solvedBy : Factored → Vec3 → Solved
+solvedBy factored rhs = cond (done (factored .outcome)) (solveOf (factored .factor) rhs) (unsolved (factored .outcome))
+
 unfoldable pub solveSpdOf : Mat3 → Vec3 → Solved
-solveSpdOf m rhs =
-    let factored = factorSpdOf m in
-    cond (done (factored .outcome)) (solveOf (factored .factor) rhs) (unsolved (factored .outcome))
+solveSpdOf m rhs = solvedBy (factorSpdOf m) rhs
 
 -- ---- solver_mass.rs
 abbrev pub uninverted : CholeskyOutcome → Inverted

@@ -52,7 +52,7 @@ quatLargestOf q = maxOf (maxOf (maxOf (absOf (q .x)) (absOf (q .y))) (absOf (q .
 abbrev pub quatTryNormalizeOf : Quat → OptionQuat
 quatTryNormalizeOf q = normalizeBy quatFiniteOf quatLargestOf quatDivOf quatLengthOf None Some q
 
--- document 01's test of a rotation (refusal 6): the squares sum to 1 within 2^-44
+-- refusal 6's test of a rotation (SPECIFICATION §5): the squares sum to 1 within 2^-44
 unfoldable pub isNormalizedOf : Quat → Bool
 isNormalizedOf q = quatFiniteOf q && Ieee.le (absOf (quatLengthSquaredOf q ⊖ ratio 1 1)) (ratio 1 (2 ^ 44))
 
@@ -66,12 +66,19 @@ turnedOf q v =
 abbrev pub ifFinite : Vec3 → OptionVec3
 ifFinite v = cond (finiteOf v) (Vector.Some v) Vector.None
 
+abbrev pub rotatedOf : Quat → Vec3 → OptionVec3
+rotatedOf rotation v = ifFinite (turnedOf rotation v)
+
 abbrev pub rotatedBy : Vec3 → OptionQuat → OptionVec3
-rotatedBy v (Some rotation) = ifFinite (turnedOf rotation v)
+rotatedBy v (Some rotation) = rotatedOf rotation v
 rotatedBy v None = Vector.None
 
 unfoldable pub rotateVectorOf : Quat → Vec3 → OptionVec3
 rotateVectorOf q v = cond (not (finiteOf v)) Vector.None (rotatedBy v (quatTryNormalizeOf q))
+
+-- the same of every quaternion that normalizes to u
+unfoldable pub rotateAsUnitOf : Quat → Vec3 → OptionVec3
+rotateAsUnitOf u v = cond (not (finiteOf v)) Vector.None (rotatedOf u v)
 
 -- the columns of the matrix of a rotation
 abbrev pub columnsOf : Quat → Mat3
@@ -121,5 +128,13 @@ abbrev pub integrated : OptionQuat → OptionQuat → OptionQuat
 integrated (Some delta) rotation = turnedBy delta rotation
 integrated None rotation = None
 
+-- the turn by an angular velocity in the time dt
+abbrev pub deltaIn : Vec3 → Float → OptionQuat
+deltaIn velocity dt = cond (not (finiteOf velocity) || not (isFinite dt)) None (deltaOf (scaleOf velocity dt))
+
 unfoldable pub integrateOf : Quat → Vec3 → Float → OptionQuat
-integrateOf q velocity dt = cond (not (finiteOf velocity) || not (isFinite dt)) None (integrated (deltaOf (scaleOf velocity dt)) (quatTryNormalizeOf q))
+integrateOf q velocity dt = integrated (deltaIn velocity dt) (quatTryNormalizeOf q)
+
+-- the same of every quaternion that normalizes to u
+unfoldable pub integrateAsUnitOf : Quat → Vec3 → Float → OptionQuat
+integrateAsUnitOf u velocity dt = integrated (deltaIn velocity dt) (Some u)

@@ -9,7 +9,7 @@ ghost use mathlib.Core.Path.{_≡_};
 ghost use mathlib.Core.Bool.{not};
 ghost use Prim.Native.Nat.{_<_, min};
 ghost use Rattle.vectors.specs.Matrix as Matrix;
-ghost use Rattle.vectors.specs.Matrix.{matOf, zeroMat, fromCols, turned, transposeOf, finiteMat, applyOf, matProductOf, solveSpdOf, factorSpdOf, matLargestOf, columnOf, solveOf, notSymmetric, correctionOf, aboveZero, ranOf, placeOf, factorRowOf, factorOf, forwardOf, backwardOf, inverseSpdOf};
+ghost use Rattle.vectors.specs.Matrix.{matOf, zeroMat, fromCols, turned, transposeOf, finiteMat, applyOf, matProductOf, solvedBy, factorSpdOf, matLargestOf, columnOf, solveOf, notSymmetric, correctionOf, aboveZero, ranOf, placeOf, factorRowOf, factorOf, forwardOf, backwardOf, inverseSpdOf};
 
 // 32 times epsilon, which is 2^-47.
 const SYMMETRY_TOLERANCE: f64 = 7.105427357601002e-15;
@@ -144,17 +144,6 @@ impl Mat3 {
         )
     }
 
-    fn solve_spd(self, rhs: Vec3) -> Solved
-        ensures { λ r. ⌜ r ≡ solveSpdOf self rhs ⌝ }
-    {
-        let factored = self.factor_spd();
-        let outcome = factored.outcome;
-        if done(outcome) {
-            return factored.factor.solve(rhs);
-        }
-        unsolved(outcome)
-    }
-
     // The factor of a finite matrix that is positive definite and, once divided by its largest magnitude, symmetric within
     // 32 epsilon.
     fn factor_spd(self) -> Factored
@@ -191,6 +180,19 @@ impl Mat3 {
         let first = larger(0.0, self.column(0));
         let second = larger(first, self.column(1));
         larger(second, self.column(2))
+    }
+}
+
+impl Factored {
+    // What is left of the Rust's `solve_spd` once the matrix is factored.
+    fn solve(self, rhs: Vec3) -> Solved
+        ensures { λ r. ⌜ r ≡ solvedBy self rhs ⌝ }
+    {
+        let outcome = self.outcome;
+        if done(outcome) {
+            return self.factor.solve(rhs);
+        }
+        unsolved(outcome)
     }
 }
 
@@ -365,21 +367,23 @@ fn backward(l: &[[f64; 3]; 3], v: Vec3) -> Vec3
     Vec3 { x, y, z }
 }
 
-// The inverse of a symmetric positive definite matrix, column by column.
+// The inverse of a symmetric positive definite matrix, column by column. The Rust factors the matrix for each column; once
+// does, since the factor is the same.
 pub fn inverse_spd(matrix: Mat3) -> Inverted
     ensures { λ r. ⌜ r ≡ inverseSpdOf matrix ⌝ }
 {
-    let x = matrix.solve_spd(Vec3::X);
+    let factored = matrix.factor_spd();
+    let x = factored.solve(Vec3::X);
     let outcome = x.outcome;
     if !done(outcome) {
         return uninverted(outcome);
     }
-    let y = matrix.solve_spd(Vec3::Y);
+    let y = factored.solve(Vec3::Y);
     let outcome = y.outcome;
     if !done(outcome) {
         return uninverted(outcome);
     }
-    let z = matrix.solve_spd(Vec3::Z);
+    let z = factored.solve(Vec3::Z);
     let outcome = z.outcome;
     if !done(outcome) {
         return uninverted(outcome);

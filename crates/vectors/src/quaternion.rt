@@ -9,7 +9,7 @@ use arith::number::is_finite;
 use arith::number::max;
 use arith::root::hypot;
 ghost use mathlib.Core.Path.{_≡_};
-ghost use Rattle.vectors.specs.Quaternion.{quat, conjugateOf, productOf, quatLengthSquaredOf, quatLengthOf, quatDivOf, quatLargestOf, quatTryNormalizeOf, quatFiniteOf, isNormalizedOf, rotateVectorOf, turnedOf, toMat3Of, columnsOf, integrateOf, deltaOf, smallTurn};
+ghost use Rattle.vectors.specs.Quaternion.{quat, conjugateOf, productOf, quatLengthSquaredOf, quatLengthOf, quatDivOf, quatLargestOf, quatTryNormalizeOf, quatFiniteOf, isNormalizedOf, rotateVectorOf, rotateAsUnitOf, rotatedOf, turnedOf, toMat3Of, columnsOf, integrateOf, integrateAsUnitOf, deltaIn, deltaOf, smallTurn};
 
 // 2^-44: how far the squares of a rotation may sum from 1.
 const ROTATION_TOLERANCE: f64 = 5.684341886080802e-14;
@@ -149,10 +149,27 @@ impl Quat {
         if !vector.is_finite() {
             return OptionVec3::None;
         }
-        let OptionQuat::Some(rotation) = self.try_normalize() else {
-            return OptionVec3::None;
-        };
-        let rotated = rotation.turned(vector);
+        match self.try_normalize() {
+            OptionQuat::Some(rotation) => rotation.rotated(vector),
+            OptionQuat::None => OptionVec3::None,
+        }
+    }
+
+    // `rotate_vector` of every quaternion that normalizes to self. Who turns several vectors normalizes once.
+    pub fn rotate_as_unit(self, vector: Vec3) -> OptionVec3
+        ensures { λ r. ⌜ r ≡ rotateAsUnitOf self vector ⌝ }
+    {
+        if vector.is_finite() {
+            return self.rotated(vector);
+        }
+        OptionVec3::None
+    }
+
+    // A finite vector turned by a quaternion already normalized, unless that overflows.
+    fn rotated(self, vector: Vec3) -> OptionVec3
+        ensures { λ r. ⌜ r ≡ rotatedOf self vector ⌝ }
+    {
+        let rotated = self.turned(vector);
         if rotated.is_finite() {
             return OptionVec3::Some(rotated);
         }
@@ -217,20 +234,37 @@ impl Quat {
     pub fn integrate_world_angular_velocity(self, angular_velocity: Vec3, dt: f64) -> OptionQuat
         ensures { λ r. ⌜ r ≡ integrateOf self «angular_velocity» dt ⌝ }
     {
-        if !angular_velocity.is_finite() {
-            return OptionQuat::None;
-        }
-        if !is_finite(dt) {
-            return OptionQuat::None;
-        }
-        let OptionQuat::Some(delta) = turn_of(angular_velocity.scale(dt)) else {
+        let OptionQuat::Some(delta) = turn_in(angular_velocity, dt) else {
             return OptionQuat::None;
         };
-        let OptionQuat::Some(rotation) = self.try_normalize() else {
-            return OptionQuat::None;
-        };
-        delta.product(rotation).try_normalize()
+        match self.try_normalize() {
+            OptionQuat::Some(rotation) => delta.product(rotation).try_normalize(),
+            OptionQuat::None => OptionQuat::None,
+        }
     }
+
+    // `integrate_world_angular_velocity` of every quaternion that normalizes to self.
+    pub fn integrate_as_unit(self, angular_velocity: Vec3, dt: f64) -> OptionQuat
+        ensures { λ r. ⌜ r ≡ integrateAsUnitOf self «angular_velocity» dt ⌝ }
+    {
+        match turn_in(angular_velocity, dt) {
+            OptionQuat::Some(delta) => delta.product(self).try_normalize(),
+            OptionQuat::None => OptionQuat::None,
+        }
+    }
+}
+
+// The turn that an angular velocity makes in the time dt.
+fn turn_in(angular_velocity: Vec3, dt: f64) -> OptionQuat
+    ensures { λ r. ⌜ r ≡ deltaIn «angular_velocity» dt ⌝ }
+{
+    if !angular_velocity.is_finite() {
+        return OptionQuat::None;
+    }
+    if !is_finite(dt) {
+        return OptionQuat::None;
+    }
+    turn_of(angular_velocity.scale(dt))
 }
 
 // The turn about a rotation vector by its length. Nothing where that is not finite, or where half of

@@ -7,8 +7,7 @@ use mathlib.Core.Bool.{Bool, cond, not}
 use borrow.Author.Tests.{le-ltb}
 use lib.Dec.{ltb}
 use lib.ListN.{length}
-use lib.IntN.{pos, negsuc}
-use lib.Ieee.{fin, Float, add, sub, mul, div, neg, lt, le, eq, round, ofBits}
+use lib.Ieee.{Float, add, sub, mul, div, neg, lt, le, eq, round, ofBits}
 use Rattle.arith.specs.Real.{F, ratio, isFinite, absOf}
 use Rattle.arith.specs.Root.{rootIn, root, roundRoot, sqrt}
 use Rattle.arith.specs.Hypot.{scaledRoot, hypotOf}
@@ -25,13 +24,18 @@ use Rattle.rows.specs.declared.geometry.Joint.{Joint}
 use Rattle.rows.specs.Fault.{tryFinite}
 use Rattle.rows.specs.Body.{worldCenterOfMassOf, newOf, inverseAngularMassOf, kickOf, anchorOf, passOf, driftOf, originOf, stateOf}
 use Rattle.rows.specs.Geometry.{endsOf, toleranceOf, distanceRow, linearRow, linearRows, alignedOf, alignRows, frameRows, writeEqualityRows}
-use Rattle.solves.specs.Solver.{dot, pushed, pushInto, pushRow, transpose, scaled, rate, operator, through, crossEnd, crossMass, difference, within, toleranceFor}
-use Rattle.solves.specs.Path.{begins, pathStarts, addEdge, blockEdges, pathEdges, neighbor, follows, nextBlock, walkTurn, walk, isEnd, walkFrom, pathWalks, pathOrder, reduced, scaleAt, pathEntry, pathRow, pathFactor, pathFactored, forwardSum, backwardSum, forward, backwardTurn, backward, refine, refinement, pathAlong, pathSolve, linearSolve}
+use Rattle.solves.specs.Solver.{dot, pushed, pushInto, pushRow, transpose, scaled, rate, operator, through, crossEnd, crossMass, difference, within}
+use Rattle.solves.specs.Solver.{toleranceFor}
+use Rattle.solves.specs.Path.{begins, pathStarts, addEdge, blockEdges, pathEdges, neighbor, follows, nextBlock, walkTurn, walk, isEnd, walkFrom}
+use Rattle.solves.specs.Path.{pathWalks, pathOrder, reduced, scaleAt, pathEntry, pathRow, pathFactor, pathFactored, forwardSum, backwardSum, forward}
+use Rattle.solves.specs.Path.{backwardTurn, backward, refine, refinement, pathAlong, pathSolve, linearSolve}
 use Rattle.step.specs.declared.Outcome.{Outcome}
 use Rattle.step.specs.declared.Outcome.the-variants.{Accepted, TimeStep, Bodies, Joints, Scratch, NonConvergent, ArithmeticOverflow, Ground}
 use Rattle.step.specs.Records.{bodyCount, recordsOf}
 use Rattle.step.specs.Checks.{isAccepted, timeStepOk, bodiesFit, sizesOr, bodiesOr, jointsOr, refusalOf}
-use Rattle.step.specs.Step.{startBodies, writeRows, massResponse, prepareMasses, startOf, moveBodies, rowsMet, rhsOf, addImpulses, candidateOf, correctedBy, nonlinearPass, nonlinearLoop, velocityOf, velocityRhs, compatibleOf, kickBodies, reactionOf, velocitiesBy, velocityPass, velocityLoop, statesOf, finishOf, runOf, Stepped, grounded, handBack, cleared, settled, solveOf}
+use Rattle.step.specs.Step.{startBodies, writeRows, massResponse, prepareMasses, startOf, moveBodies, rowsMet, rhsOf, addImpulses, candidateOf}
+use Rattle.step.specs.Step.{correctedBy, nonlinearPass, nonlinearLoop, velocityOf, velocityRhs, compatibleOf, kickBodies, reactionOf, velocitiesBy}
+use Rattle.step.specs.Step.{velocityPass, velocityLoop, statesOf, finishOf, runOf, Stepped, grounded, handBack, cleared, settled, solveOf}
 
 record Plan : Type 0 where
   bodies : List Float
@@ -59,9 +63,13 @@ unfolding refusalOf sizesOr bodiesOr jointsOr
 refusal plan = refusalOf (plan .bodies) (plan .joints) (length (plan .joints)) (plan .dt) 6144
 
 ended : Plan → List Float → Stepped
-unfolding startBodies writeRows massResponse prepareMasses startOf moveBodies rowsMet rhsOf addImpulses candidateOf correctedBy nonlinearPass nonlinearLoop velocityOf velocityRhs compatibleOf kickBodies reactionOf velocitiesBy velocityPass velocityLoop statesOf finishOf runOf grounded handBack
+unfolding startBodies writeRows massResponse prepareMasses startOf moveBodies rowsMet rhsOf addImpulses candidateOf correctedBy
+    nonlinearPass nonlinearLoop velocityOf velocityRhs compatibleOf kickBodies reactionOf velocitiesBy velocityPass velocityLoop statesOf
+    finishOf runOf grounded handBack
     dot pushed pushInto pushRow transpose scaled rate operator through crossEnd crossMass difference within toleranceFor
-    begins pathStarts addEdge blockEdges pathEdges neighbor follows nextBlock walkTurn walk isEnd walkFrom pathWalks pathOrder reduced scaleAt pathEntry pathRow pathFactor pathFactored forwardSum backwardSum forward backwardTurn backward refine refinement pathAlong pathSolve linearSolve
+    begins pathStarts addEdge blockEdges pathEdges neighbor follows nextBlock walkTurn walk isEnd walkFrom pathWalks pathOrder reduced
+    scaleAt pathEntry pathRow pathFactor pathFactored forwardSum backwardSum forward backwardTurn backward refine refinement pathAlong
+    pathSolve linearSolve
     endsOf toleranceOf distanceRow linearRow linearRows alignedOf alignRows frameRows writeEqualityRows
     worldCenterOfMassOf newOf inverseAngularMassOf kickOf anchorOf passOf driftOf originOf stateOf tryFinite
     isNormalizedOf rotateVectorOf toMat3Of deltaOf integrateOf
@@ -73,10 +81,13 @@ unfolding startBodies writeRows massResponse prepareMasses startOf moveBodies ro
 ended plan scratch = settled (plan .bodies) scratch (runOf (recordsOf (plan .bodies)) (plan .joints) (length (plan .joints)) (plan .dt))
 
 -- test 4 alone reads the scratch's length
-long-enough : (bodies : List Float) (joints : List Joint) (count : ℕ) (dt : Float) (n : ℕ) → 6144 ≤ n → refusalOf bodies joints count dt n ≡ refusalOf bodies joints count dt 6144
+long-enough : (bodies : List Float) (joints : List Joint) (count : ℕ) (dt : Float) (n : ℕ) → 6144 ≤ n
+    → refusalOf bodies joints count dt n ≡ refusalOf bodies joints count dt 6144
 unfolding refusalOf sizesOr
 long-enough bodies joints count dt n h =
-    ap (λ (short : Bool). cond (not (timeStepOk dt)) TimeStep (cond (not (bodiesFit (length bodies))) Bodies (cond (ltb 16 count) Joints (cond short Scratch (bodiesOr bodies (bodyCount bodies) (jointsOr joints count (bodyCount bodies) Accepted))))))
+    let later : Outcome = bodiesOr bodies (bodyCount bodies) (jointsOr joints count (bodyCount bodies) Accepted) in
+    ap (λ (short : Bool).
+    cond (not (timeStepOk dt)) TimeStep (cond (not (bodiesFit (length bodies))) Bodies (cond (ltb 16 count) Joints (cond short Scratch later))))
     (le-ltb n 6144 h)
 
 works :
@@ -137,7 +148,7 @@ abbrev rod : Float → Joint
 rod length = joint (Distance length) straight
 
 -- ---- the plans
--- document 01's example
+-- the first example of SPECIFICATION §15 that is to be run
 moving : Plan
 moving = record { bodies = standing zeros (triple 𝟙 𝟘 𝟘) zeros (ball (whole 2)); joints = []; dt = 𝟙 }
 
@@ -152,14 +163,22 @@ moving-works = works moving moving-passes (λ _. refl)
 
 -- turns about an axis of its inertia, by sine and cosine
 turning : Plan
-turning = record { bodies = standing (triple 𝟙 (whole 2) (whole 3)) (triple 𝟘 (neg (whole 4)) 𝟘) (triple 𝟘 𝟘 half) (fixed 𝟙 (whole 4) (whole 4) 𝟙); joints = []; dt = half }
+turning =
+    record {
+      bodies = standing (triple 𝟙 (whole 2) (whole 3)) (triple 𝟘 (neg (whole 4)) 𝟘) (triple 𝟘 𝟘 half) (fixed 𝟙 (whole 4) (whole 4) 𝟙);
+      joints = [];
+      dt = half;
+    }
 
 turning-passes : refusal turning ≡ Accepted
 unfolding refusal turning
 turning-passes = refl
 
 turning-works : Works turning Accepted 1 0
-    (back (0x3ff0000000000000 ∷ 0 ∷ 0x4008000000000000 ∷ 0 ∷ 0 ∷ 0x3fbfeaaeee86ee35 ∷ 0x3fefc015527d5bd2 ∷ 0 ∷ 0xc010000000000000 ∷ 0 ∷ 0 ∷ 0 ∷ 0x3fe0000000000000 ∷ []) (fixed 𝟙 (whole 4) (whole 4) 𝟙))
+    (back
+    (0x3ff0000000000000 ∷ 0 ∷ 0x4008000000000000 ∷ 0 ∷ 0 ∷ 0x3fbfeaaeee86ee35 ∷ 0x3fefc015527d5bd2
+    ∷ 0 ∷ 0xc010000000000000 ∷ 0 ∷ 0 ∷ 0 ∷ 0x3fe0000000000000 ∷ [])
+    (fixed 𝟙 (whole 4) (whole 4) 𝟙))
 unfolding ended turning
 turning-works = works turning turning-passes (λ _. refl)
 
@@ -216,7 +235,8 @@ swung-passes = refl
 
 swung-works : Works swung Accepted 2 2
     (back (0x3dc0000000000001 ∷ 0 ∷ 0 ∷ 0 ∷ 0 ∷ 0 ∷ 0x3ff0000000000000 ∷ 0x3dd0000000000001 ∷ 0x3cb0000000020001 ∷ 0 ∷ 0 ∷ 0 ∷ 0 ∷ []) (ball 𝟙)
-    ++ back (0x3ffffffffffe0000 ∷ 0x3ef0000000000000 ∷ 0 ∷ 0 ∷ 0 ∷ 0 ∷ 0x3ff0000000000000 ∷ 0xbdd0000000000001 ∷ 0x3eeffffffffe0000 ∷ 0 ∷ 0 ∷ 0 ∷ 0 ∷ []) (ball 𝟙))
+    ++ back
+    (0x3ffffffffffe0000 ∷ 0x3ef0000000000000 ∷ 0 ∷ 0 ∷ 0 ∷ 0 ∷ 0x3ff0000000000000 ∷ 0xbdd0000000000001 ∷ 0x3eeffffffffe0000 ∷ 0 ∷ 0 ∷ 0 ∷ 0 ∷ []) (ball 𝟙))
 unfolding ended swung
 swung-works = works swung swung-passes (λ _. refl)
 

@@ -1,4 +1,4 @@
-// Document 01's worked examples that are not starred: each is stepped, and its report written.
+// The worked examples of SPECIFICATION §15 that are not starred: each is stepped, and its report written.
 ghost use Prim.Native.Nat.{_+_, _≤_};
 ghost use lib.ListN.{length};
 use libc::STDOUT_FILENO;
@@ -52,7 +52,7 @@ fn show(bodies: &mut [f64], joints: usize, dt: f64) -> bool {
     let answer = step::solve(bodies, balls(), joints, dt, &mut scratch);
     let outcome = answer.outcome;
     let number = step::number(outcome);
-    let n = plan::report::report(number, answer.nonlinear, answer.linear, bodies, &mut out);
+    let n = report::text::report(number, answer.nonlinear, answer.linear, bodies, &mut out);
     io::write_all(STDOUT_FILENO, &out[..n])
 }
 

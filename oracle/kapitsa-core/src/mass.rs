@@ -38,7 +38,7 @@ impl MassProperties {
         })
     }
 
-    // ORACLE: added, for the ranges of document 01: a body record's numbers as they
+    // ORACLE: added, for the ranges of SPECIFICATION §7: a body record's numbers as they
     // stand. `new` evens out the inertia and refuses unphysical ones; the step's own
     // tests 5 to 7 decide instead.
     pub(crate) const fn from_record(mass: f64, center_of_mass: Vec3, inertia: Mat3) -> Self {

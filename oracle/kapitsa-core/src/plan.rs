@@ -1,4 +1,4 @@
-// ORACLE: added; document 01's plan file and what `pose` prints.
+// ORACLE: added; the plan file (SPECIFICATION §12) and what `pose` prints.
 //! Reads a plan, steps it and reports it.
 
 use crate::step::{

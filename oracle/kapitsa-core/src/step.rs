@@ -1,4 +1,4 @@
-// ORACLE: added; document 01's step around `ConstrainedIntegrator::solve`.
+// ORACLE: added; the step of SPECIFICATION §11 around `ConstrainedIntegrator::solve`.
 //! One step of a plan: the tests 1 to 9 before `solve`, its errors as 10 and 11, and
 //! test 12 after it.
 
@@ -69,7 +69,7 @@ pub struct Answer {
 #[derive(Default)]
 pub struct Workspace(ConstrainedWorkspace);
 
-/// The step of document 01. `scratch` takes part in test 4 only and is then zeroed;
+/// The step of SPECIFICATION §11. `scratch` takes part in test 4 only and is then zeroed;
 /// the doubles that Rattle keeps there are vectors of the workspace here.
 pub fn step(
     dt: f64,

@@ -1,4 +1,4 @@
-// ORACLE: added; the arithmetic that document 01 fixes for the archive, in place
+// ORACLE: added; the arithmetic that SPECIFICATION §2 fixes for the archive, in place
 // of the operating system's sine, cosine, arc tangent and hypotenuse.
 //! The archive's arithmetic: every operation is one IEEE 754 double operation,
 //! rounded once and never fused. The square root is the processor's, which IEEE
@@ -138,7 +138,7 @@ pub fn sum(values: impl Iterator<Item = f64>) -> f64 {
 mod tests {
     use super::*;
 
-    // The examples of document 01, "Worked".
+    // The examples of SPECIFICATION §15.
     #[test]
     fn worked_examples() {
         assert_eq!(4.0_f64.sqrt(), 2.0);

@@ -90,7 +90,7 @@ impl Quat {
     }
 
     pub fn is_normalized(self) -> bool {
-        // ORACLE: document 01's rotation test (refusal 6) stands in for the length
+        // ORACLE: the rotation test of SPECIFICATION §5 (refusal 6) stands in for the length
         // within 8 epsilon: squares summed from the left, within 2^-44 of 1.
         self.is_finite() && (self.length_squared() - 1.0).abs() <= archive::ROTATION_TOLERANCE
     }

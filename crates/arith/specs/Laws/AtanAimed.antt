@@ -41,9 +41,9 @@ more : (m b : ℚ) → 0≤ (m *q m +q b *q b -q m *q m)
 unfolding sameQ den comb
 more m b = by-nn (m ∷ b ∷ []) [] tt [] tt [] (sqr (rv 1)) (rv 0 ⊗ rv 0 ⊕ rv 1 ⊗ rv 1 ⊖ rv 0 ⊗ rv 0) tt
 
-more' : (m b : ℚ) → 0≤ (b *q b +q m *q m -q m *q m)
+more-second : (m b : ℚ) → 0≤ (b *q b +q m *q m -q m *q m)
 unfolding sameQ den comb
-more' m b = by-nn (m ∷ b ∷ []) [] tt [] tt [] (sqr (rv 1)) (rv 1 ⊗ rv 1 ⊕ rv 0 ⊗ rv 0 ⊖ rv 0 ⊗ rv 0) tt
+more-second m b = by-nn (m ∷ b ∷ []) [] tt [] tt [] (sqr (rv 1)) (rv 1 ⊗ rv 1 ⊕ rv 0 ⊗ rv 0 ⊖ rv 0 ⊗ rv 0) tt
 
 back : (a b : ℚ) → T (not (leq a (qn 0))) → b ≡ a *q (b *q inv a)
 unfolding sameQ comb
@@ -86,7 +86,7 @@ module _ (a b : Float) (fa : T (finite a)) (fb : T (finite b)) (p : T (not (leq 
         X = t;
         Y = qn 1;
         m-pos = p;
-        m-less = more' (val a) (val b);
+        m-less = more-second (val a) (val b);
         x-is = back (val a) (val b) p;
         y-is = times-one (val a);
         X-unit = share (val a) (val b) p n l;
@@ -94,7 +94,8 @@ module _ (a b : Float) (fa : T (finite a)) (fb : T (finite b)) (p : T (not (leq 
         seen = seen-quarter (qn 1) t (octant (div binary64 b a)) one-unit (share (val a) (val b) p n l) (octant-near a b fa fb p n l);
       }
 
-aimed-quadrant : (ay ax : Float) → T (finite ay) → T (finite ax) → 0≤ (val ay) → 0≤ (val ax) → T (not (leq (val ax) (qn 0) && leq (val ay) (qn 0))) → Aimed (2 ^ 212) (2 ^ 253) wTop (val ax) (val ay) (quadrant ay ax)
+aimed-quadrant : (ay ax : Float) → T (finite ay) → T (finite ax) → 0≤ (val ay) → 0≤ (val ax)
+    → T (not (leq (val ax) (qn 0) && leq (val ay) (qn 0))) → Aimed (2 ^ 212) (2 ^ 253) wTop (val ax) (val ay) (quadrant ay ax)
 unfolding quadrant
 aimed-quadrant ay ax fy fx ny nx some = go (lt ax ay) refl
   where
@@ -103,9 +104,12 @@ aimed-quadrant ay ax fy fx ny nx some = go (lt ax ay) refl
     y-pos t = not-T (leq (val ay) (qn 0)) (λ z. T-not (leq (val ay) (val ax)) t (≤q-trans (val ay) (qn 0) (val ax) z nx))
 
     x-pos : val ay ≤q val ax → T (not (leq (val ax) (qn 0)))
-    x-pos h = not-T (leq (val ax) (qn 0)) (λ z. T-not (leq (val ax) (qn 0) && leq (val ay) (qn 0)) some (and-i (leq (val ax) (qn 0)) (leq (val ay) (qn 0)) z (≤q-trans (val ay) (val ax) (qn 0) h z)))
+    x-pos h =
+        not-T (leq (val ax) (qn 0)) (λ z. T-not (leq (val ax) (qn 0) && leq (val ay) (qn 0)) some
+        (and-i (leq (val ax) (qn 0)) (leq (val ay) (qn 0)) z (≤q-trans (val ay) (val ax) (qn 0) h z)))
 
-    go : (b : Bool) → lt ax ay ≡ b → Aimed (2 ^ 212) (2 ^ 253) wTop (val ax) (val ay) (cond b (sub binary64 (div binary64 PI (ratio 2 1)) (octant (div binary64 ax ay))) (octant (div binary64 ay ax)))
+    go : (b : Bool) → lt ax ay ≡ b → Aimed (2 ^ 212) (2 ^ 253) wTop (val ax) (val ay)
+        (cond b (sub binary64 (div binary64 PI (ratio 2 1)) (octant (div binary64 ax ay))) (octant (div binary64 ay ax)))
     go true e = aimed-steep ay ax fy fx (y-pos (subst T (sym e ∙ lt-val ax ay fx fy) tt)) nx (lt-yes ax ay fx fy e)
     go false e = let h = lt-no ax ay fx fy e in aimed-flat ax ay fx fy (x-pos h) ny h
 
@@ -144,9 +148,9 @@ minus-square : (a s : ℚ) → a *q a +q s ≡ negq a *q negq a +q s
 unfolding same
 minus-square a s = ring (a ∷ s ∷ []) (var 0 :* var 0 :+ var 1) (ng (var 0) :* ng (var 0) :+ var 1) tt
 
-minus-square' : (a s : ℚ) → s +q a *q a ≡ s +q negq a *q negq a
+minus-square-second : (a s : ℚ) → s +q a *q a ≡ s +q negq a *q negq a
 unfolding same
-minus-square' a s = ring (a ∷ s ∷ []) (var 1 :+ var 0 :* var 0) (var 1 :+ ng (var 0) :* ng (var 0)) tt
+minus-square-second a s = ring (a ∷ s ∷ []) (var 1 :+ var 0 :* var 0) (var 1 :+ ng (var 0) :* ng (var 0)) tt
 
 minus-times : (m X : ℚ) → negq (m *q X) ≡ m *q negq X
 unfolding same
@@ -191,7 +195,7 @@ aimed-down x y v a =
       X = a .X;
       Y = negq (a .Y);
       m-pos = a .m-pos;
-      m-less = subst (λ z. 0≤ (z -q a .m *q a .m)) (minus-square' y (x *q x)) (a .m-less);
+      m-less = subst (λ z. 0≤ (z -q a .m *q a .m)) (minus-square-second y (x *q x)) (a .m-less);
       x-is = a .x-is;
       y-is = ap negq (a .y-is) ∙ minus-times (a .m) (a .Y);
       X-unit = a .X-unit;
@@ -199,7 +203,8 @@ aimed-down x y v a =
       seen = seen-minus (2 ^ 215) (2 ^ 252) uTop (a .X) (a .Y) v (a .seen);
     }
 
-aimed-facing : (x : Float) (y : ℚ) (v : Float) → T (finite x) → Aimed (2 ^ 212) (2 ^ 253) wTop (val (absOf x)) y v → Aimed (2 ^ 215) (2 ^ 252) uTop (val x) y (facing v x)
+aimed-facing : (x : Float) (y : ℚ) (v : Float) → T (finite x) → Aimed (2 ^ 212) (2 ^ 253) wTop (val (absOf x)) y v
+    → Aimed (2 ^ 215) (2 ^ 252) uTop (val x) y (facing v x)
 unfolding facing
 aimed-facing x y v f a = go (lt x (ratio 0 1)) (signed x f (lt x (ratio 0 1)) refl)
   where
@@ -207,7 +212,8 @@ aimed-facing x y v f a = go (lt x (ratio 0 1)) (signed x f (lt x (ratio 0 1)) re
     go true e = subst (λ z. Aimed (2 ^ 215) (2 ^ 252) uTop z y (sub binary64 PI v)) (sym e) (aimed-left (val (absOf x)) y v a)
     go false e = subst (λ z. Aimed (2 ^ 215) (2 ^ 252) uTop z y v) (sym e) (aimed-right (val (absOf x)) y v a)
 
-aimed-sided : (x : ℚ) (y v : Float) → T (finite y) → Aimed (2 ^ 215) (2 ^ 252) uTop x (val (absOf y)) v → Aimed (2 ^ 215) (2 ^ 252) uTop x (val y) (cond (lt y (ratio 0 1)) (neg v) v)
+aimed-sided : (x : ℚ) (y v : Float) → T (finite y) → Aimed (2 ^ 215) (2 ^ 252) uTop x (val (absOf y)) v
+    → Aimed (2 ^ 215) (2 ^ 252) uTop x (val y) (cond (lt y (ratio 0 1)) (neg v) v)
 aimed-sided x y v f a = go (lt y (ratio 0 1)) (signed y f (lt y (ratio 0 1)) refl)
   where
     go : (b : Bool) → val y ≡ cond b (negq (val (absOf y))) (val (absOf y)) → Aimed (2 ^ 215) (2 ^ 252) uTop x (val y) (cond b (neg v) v)
@@ -223,16 +229,22 @@ zero-eq : (x : Float) → T (finite x) → val (absOf x) ≤q qn 0 → T (eq x (
 unfolding absOf eq round
 zero-eq nan p h = absurd p
 zero-eq (inf s) p h = absurd p
-zero-eq (fin s m e) p h = let k = mk-≤ (sgF false (m * up e) (down e) (down-pos e)) (whole 0 0) h in zero-level s (m * up e * 1) (0 * down e) (omega arith) (omega arith)
+zero-eq (fin s m e) p h =
+    let k = mk-≤ (sgF false (m * up e) (down e) (down-pos e)) (whole 0 0) h in
+    zero-level s (m * up e * 1) (0 * down e) (omega arith) (omega arith)
 
-some : (y x : Float) → T (finite y) → T (finite x) → T (not (eq x (ratio 0 1) && eq y (ratio 0 1))) → T (not (leq (val (absOf x)) (qn 0) && leq (val (absOf y)) (qn 0)))
+some : (y x : Float) → T (finite y) → T (finite x) → T (not (eq x (ratio 0 1) && eq y (ratio 0 1)))
+    → T (not (leq (val (absOf x)) (qn 0) && leq (val (absOf y)) (qn 0)))
 some y x fy fx t =
     let a = leq (val (absOf x)) (qn 0) in
     let b = leq (val (absOf y)) (qn 0) in
-    not-T (a && b) (λ z. T-not (eq x (ratio 0 1) && eq y (ratio 0 1)) t (and-i (eq x (ratio 0 1)) (eq y (ratio 0 1)) (zero-eq x fx (and-l a b z)) (zero-eq y fy (and-r a b z))))
+    not-T (a && b) (λ z. T-not (eq x (ratio 0 1) && eq y (ratio 0 1)) t
+    (and-i (eq x (ratio 0 1)) (eq y (ratio 0 1)) (zero-eq x fx (and-l a b z)) (zero-eq y fy (and-r a b z))))
 
-pub aimed-angle : (y x : Float) → T (finite y) → T (finite x) → T (not (eq x (ratio 0 1) && eq y (ratio 0 1))) → Aimed (2 ^ 215) (2 ^ 252) uTop (val x) (val y) (angleOf y x)
+pub aimed-angle : (y x : Float) → T (finite y) → T (finite x) → T (not (eq x (ratio 0 1) && eq y (ratio 0 1)))
+    → Aimed (2 ^ 215) (2 ^ 252) uTop (val x) (val y) (angleOf y x)
 unfolding angleOf
 aimed-angle y x fy fx t =
     let v = quadrant (absOf y) (absOf x) in
-    aimed-sided (val x) y (facing v x) fy (aimed-facing x (val (absOf y)) v fx (aimed-quadrant (absOf y) (absOf x) (abs-finite y fy) (abs-finite x fx) (abs-nn y) (abs-nn x) (some y x fy fx t)))
+    aimed-sided (val x) y (facing v x) fy (aimed-facing x (val (absOf y)) v fx
+    (aimed-quadrant (absOf y) (absOf x) (abs-finite y fy) (abs-finite x fx) (abs-nn y) (abs-nn x) (some y x fy fx t)))

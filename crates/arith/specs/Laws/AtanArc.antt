@@ -55,7 +55,9 @@ arc-run q = refl
 
 arc-same : (q : ℚ) → exact (q ∷ []) arcE ≡ q *q poly arcC (q *q q)
 unfolding arcE arcC sameQ toR plain polyR
-arc-same q = sym (toR-ok (q ∷ []) arcE tt) ∙ ringQ (q ∷ []) (toR arcE) (rv 0 ⊗ polyR arcC (rv 0 ⊗ rv 0)) tt ∙ ap (λ z. q *q z) (polyR-ok (q ∷ []) arcC (rv 0 ⊗ rv 0))
+arc-same q =
+    sym (toR-ok (q ∷ []) arcE tt) ∙ ringQ (q ∷ []) (toR arcE) (rv 0 ⊗ polyR arcC (rv 0 ⊗ rv 0)) tt
+    ∙ ap (λ z. q *q z) (polyR-ok (q ∷ []) arcC (rv 0 ⊗ rv 0))
 
 -- |a| ≤ 17/64
 abbrev pub aTop : ℕ
@@ -111,7 +113,8 @@ composed-ev t =
     let a = polyR arcC (rv 0) in
     let z = a ⊗ a ⊗ rv 0 in
     let ρ : List ℚ = t ∷ [] in
-    ap₂ (λ u v. evR ρ a *q u -q v) (polyR-ok ρ short z) (polyR-ok ρ shortC z) ∙ ap (λ b. b *q poly short (b *q b *q t) -q poly shortC (b *q b *q t)) (polyR-ok ρ arcC (rv 0))
+    ap₂ (λ u v. evR ρ a *q u -q v) (polyR-ok ρ short z) (polyR-ok ρ shortC z)
+    ∙ ap (λ b. b *q poly short (b *q b *q t) -q poly shortC (b *q b *q t)) (polyR-ok ρ arcC (rv 0))
 
 composed : (q : ℚ) → Abs q arcTop → let a = poly arcC (q *q q) in let z = (q *q a) *q (q *q a) in Abs (a *q poly short z -q poly shortC z) (2 ^ 204)
 unfolding same
@@ -147,7 +150,8 @@ whole-parts : (S C q a s s' c c' : ℚ)
 unfolding sameQ wholeE
 whole-parts S C q a s s' c c' =
     let Q = rv 2 in let A = rv 3 in let K = rv 4 in let K' = rv 5 in let L = rv 6 in let L' = rv 7 in
-    ringQ (S ∷ C ∷ q ∷ a ∷ s ∷ s' ∷ c ∷ c' ∷ []) ((rv 0 ⊖ Q ⊗ A ⊗ K) ⊖ Q ⊗ (rv 1 ⊖ L) ⊕ (Q ⊗ A ⊗ (K ⊖ K') ⊖ Q ⊗ (L ⊖ L') ⊕ Q ⊗ (A ⊗ K' ⊖ L'))) (rv 0 ⊖ Q ⊗ rv 1) tt
+    ringQ (S ∷ C ∷ q ∷ a ∷ s ∷ s' ∷ c ∷ c' ∷ [])
+    ((rv 0 ⊖ Q ⊗ A ⊗ K) ⊖ Q ⊗ (rv 1 ⊖ L) ⊕ (Q ⊗ A ⊗ (K ⊖ K') ⊖ Q ⊗ (L ⊖ L') ⊕ Q ⊗ (A ⊗ K' ⊖ L'))) (rv 0 ⊖ Q ⊗ rv 1) tt
 
 whole-test : T (bounds wholeβ wholeE (2 ^ 205))
 unfolding bounds wholeβ wholeE
@@ -175,9 +179,12 @@ arc-tangent q f h =
     let S = sineSum41 v in
     let C = cosineSum42 v in
     let g = both (sineGrows (2 ^ 203) aTop (2 ^ 204)) (cosineGrows (2 ^ 203) aTop (2 ^ 203)) grows in
-    let dS : Abs (S -q A *q poly σ z) (2 ^ 204) = subst (λ w. Abs (S -q w) (2 ^ 204)) (sine-is A) (sine-grows (2 ^ 203) aTop (2 ^ 204) (g .0) v A (r .size) (r .exact-size) (r .near)) in
-    let dC : Abs (C -q poly γ z) (2 ^ 203) = subst (λ w. Abs (C -q w) (2 ^ 203)) (cosine-is A) (cosine-grows (2 ^ 203) aTop (2 ^ 203) (g .1) v A (r .size) (r .exact-size) (r .near)) in
-    let ρ : List ℚ = (S -q A *q poly σ z) ∷ x ∷ (C -q poly γ z) ∷ A ∷ (poly σ z -q poly short z) ∷ (poly γ z -q poly shortC z) ∷ (a *q poly short z -q poly shortC z) ∷ [] in
+    let dS : Abs (S -q A *q poly σ z) (2 ^ 204) =
+    subst (λ w. Abs (S -q w) (2 ^ 204)) (sine-is A) (sine-grows (2 ^ 203) aTop (2 ^ 204) (g .0) v A (r .size) (r .exact-size) (r .near)) in
+    let dC : Abs (C -q poly γ z) (2 ^ 203) =
+    subst (λ w. Abs (C -q w) (2 ^ 203)) (cosine-is A) (cosine-grows (2 ^ 203) aTop (2 ^ 203) (g .1) v A (r .size) (r .exact-size) (r .near)) in
+    let ρ : List ℚ = (S -q A *q poly σ z) ∷ x ∷ (C -q poly γ z) ∷ A ∷ (poly σ z -q poly short z)
+    ∷ (poly γ z -q poly shortC z) ∷ (a *q poly short z -q poly shortC z) ∷ [] in
     record {
       fine = r .fine;
       size = r .size;

@@ -41,11 +41,14 @@ four x = ring (x ∷ []) ((var 0 :+ var 0) :* (var 0 :+ var 0)) (con 4 :* (var 0
 
 sine-parts : (x a b c : ℚ) → (x +q x) *q (a -q b *q c) ≡ (x +q x) *q a -q qn 2 *q (x *q b *q c)
 unfolding same
-sine-parts x a b c = ring (x ∷ a ∷ b ∷ c ∷ []) ((var 0 :+ var 0) :* (var 1 :- var 2 :* var 3)) ((var 0 :+ var 0) :* var 1 :- con 2 :* (var 0 :* var 2 :* var 3)) tt
+sine-parts x a b c =
+    ring (x ∷ a ∷ b ∷ c ∷ []) ((var 0 :+ var 0) :* (var 1 :- var 2 :* var 3)) ((var 0 :+ var 0) :* var 1 :- con 2 :* (var 0 :* var 2 :* var 3)) tt
 
 cosine-parts : (x a b c : ℚ) → a -q (c *q c -q x *q x *q (b *q b)) ≡ a -q (c *q c -q x *q b *q (x *q b))
 unfolding same
-cosine-parts x a b c = ring (x ∷ a ∷ b ∷ c ∷ []) (var 1 :- (var 3 :* var 3 :- var 0 :* var 0 :* (var 2 :* var 2))) (var 1 :- (var 3 :* var 3 :- var 0 :* var 2 :* (var 0 :* var 2))) tt
+cosine-parts x a b c =
+    ring (x ∷ a ∷ b ∷ c ∷ []) (var 1 :- (var 3 :* var 3 :- var 0 :* var 0 :* (var 2 :* var 2)))
+    (var 1 :- (var 3 :* var 3 :- var 0 :* var 2 :* (var 0 :* var 2))) tt
 
 -- the expressions at z
 sine-ev : (z : ℚ) → evR (z ∷ []) sineE ≡ poly σ (qn 4 *q z) -q poly σ z *q poly γ z
@@ -78,7 +81,8 @@ cosine-double x h =
     let e = evR (z ∷ []) cosineE in
     abs-eq e (cosineSum42 (x +q x) -q (cosineSum42 x *q cosineSum42 x -q sineSum41 x *q sineSum41 x)) (2 ^ 177)
     (cosine-ev z ∙ cosine-parts x (poly γ (qn 4 *q z)) (poly σ z) (poly γ z)
-    ∙ ap₂ (λ a b. a -q b) (ap (poly γ) (sym (four x)) ∙ sym (cosine-is (x +q x))) (ap₂ (λ a b. a -q b) (ap₂ _*q_ (sym (cosine-is x)) (sym (cosine-is x))) (ap₂ _*q_ (sym (sine-is x)) (sym (sine-is x)))))
+    ∙ ap₂ (λ a b. a -q b) (ap (poly γ) (sym (four x)) ∙ sym (cosine-is (x +q x)))
+    (ap₂ (λ a b. a -q b) (ap₂ _*q_ (sym (cosine-is x)) (sym (cosine-is x))) (ap₂ _*q_ (sym (sine-is x)) (sym (sine-is x)))))
     (bounded cosineE (mulUp wide wide) (2 ^ 177) z (cosine-test z) (abs-mul x x wide wide h h))
 
 -- ---- the tangent. The variables: what the two sums above are off by, C(x), q, q', S(x) - q' C(x), 2 q' + q q'² - q
@@ -107,7 +111,8 @@ unfoldable pub tangentOk : ℕ → ℕ → ℕ → ℕ → ℕ → Bool
 unfolding bounds tangentE tangentβ
 tangentOk Q P e r N = bounds (tangentβ Q P e r) tangentE N
 
-pub tangent : (Q P e r N : ℕ) → T (tangentOk Q P e r N) → (x q p : ℚ) → Abs x wide → Abs q Q → Abs p P → Abs (sineSum41 x -q p *q cosineSum42 x) e → Abs (qn 2 *q p +q q *q (p *q p) -q q) r
+pub tangent : (Q P e r N : ℕ) → T (tangentOk Q P e r N) → (x q p : ℚ) → Abs x wide → Abs q Q
+    → Abs p P → Abs (sineSum41 x -q p *q cosineSum42 x) e → Abs (qn 2 *q p +q q *q (p *q p) -q q) r
     → Abs (sineSum41 (x +q x) -q q *q cosineSum42 (x +q x)) N
 unfolding tangentOk tangentβ cosTop cosineFits
 tangent Q P e r N t x q p hx hq hp he hr =

@@ -42,7 +42,8 @@ root-low x r n l hi =
     let H : List Rx = rv 1 ∷ (rv 0 ⊖ rat (ivF (2 ^ 256 - 2 ^ 205))) ∷ ((rv 1 ⊕ rat hF) ⊗ (rv 1 ⊕ rat hF) ⊖ rv 0) ∷ [] in
     let P : Nns ρ H = (n, (l, (≤q-sub x ((r +q mk hF) *q (r +q mk hF)) hi, tt))) in
     let C = iv (2 ^ 256 - 2 ^ 206) in
-    let z : 0≤ ((r +q mk hF +q C) -q iv (2 ^ 255)) = by-nn ρ [] tt H P [] (hyp 0 ⊞ num (2 ^ 52 - 7) (2 ^ 53 - 1)) ((rv 1 ⊕ rat hF ⊕ c) ⊖ rat (ivF (2 ^ 255))) tt in
+    let z : 0≤ ((r +q mk hF +q C) -q iv (2 ^ 255)) =
+    by-nn ρ [] tt H P [] (hyp 0 ⊞ num (2 ^ 52 - 7) (2 ^ 53 - 1)) ((rv 1 ⊕ rat hF ⊕ c) ⊖ rat (ivF (2 ^ 255))) tt in
     cancel-nn (r +q mk hF +q C) (r +q mk hF -q C) (positive (r +q mk hF +q C) (2 ^ 255) (lit< tt) (sub-≤q (iv (2 ^ 255)) (r +q mk hF +q C) z))
     (by-nn ρ [] tt H P [] (hyp 2 ⊞ hyp 1 ⊞ num (2 ^ 51 - 2 ^ 49 - 1) (2 ^ 100 - 1)) ((rv 1 ⊕ rat hF ⊕ c) ⊗ (rv 1 ⊕ rat hF ⊖ c)) tt)
 
@@ -84,20 +85,24 @@ iTop = 2 ^ 255 + 2 ^ 206
 
 x-low : (q x : ℚ) → Abs (x -q (qn 1 +q q *q q)) (2 ^ 205) → 0≤ (x -q iv (2 ^ 256 - 2 ^ 205))
 unfolding sameQ den comb iv U
-x-low q x e = by-nn (q ∷ x ∷ []) [] tt ((part 51 ⊕ (rv 1 ⊖ (nat 1 ⊕ rv 0 ⊗ rv 0))) ∷ []) (e .1, tt) [] (hyp 0 ⊞ sqr (rv 0)) (rv 1 ⊖ rat (ivF (2 ^ 256 - 2 ^ 205))) tt
+x-low q x e =
+    by-nn (q ∷ x ∷ []) [] tt ((part 51 ⊕ (rv 1 ⊖ (nat 1 ⊕ rv 0 ⊗ rv 0))) ∷ [])
+    (e .1, tt) [] (hyp 0 ⊞ sqr (rv 0)) (rv 1 ⊖ rat (ivF (2 ^ 256 - 2 ^ 205))) tt
 
 w-low : (r w : ℚ) → 0≤ (r +q mk hF -q iv (2 ^ 256 - 2 ^ 206)) → Abs (w -q (qn 1 +q r)) (2 ^ 205) → iv wLow ≤q w
 unfolding sameQ den comb iv U
 w-low r w l e =
     sub-≤q (iv wLow) w
-    (by-nn (r ∷ w ∷ []) [] tt ((rv 0 ⊕ rat hF ⊖ rat (ivF (2 ^ 256 - 2 ^ 206))) ∷ (part 51 ⊕ (rv 1 ⊖ (nat 1 ⊕ rv 0))) ∷ []) (l, (e .1, tt)) [] (hyp 0 ⊞ hyp 1 ⊞ num 3 (2 ^ 53 - 1)) (rv 1 ⊖ rat (ivF wLow)) tt)
+    (by-nn (r ∷ w ∷ []) [] tt ((rv 0 ⊕ rat hF ⊖ rat (ivF (2 ^ 256 - 2 ^ 206))) ∷ (part 51 ⊕ (rv 1 ⊖ (nat 1 ⊕ rv 0))) ∷ [])
+    (l, (e .1, tt)) [] (hyp 0 ⊞ hyp 1 ⊞ num 3 (2 ^ 53 - 1)) (rv 1 ⊖ rat (ivF wLow)) tt)
 
 inverse : (w : ℚ) → iv wLow ≤q w → Abs (inv w) iTop
 unfolding bounds U
 inverse w l =
     let d = divUp (2 ^ 256 + 1) wLow in
     let one : Abs (qn 1) (2 ^ 256 + 1) = bound [] [] tt (nat 1) (2 ^ 256 + 1) tt in
-    abs-eq (qn 1 *q inv w) (inv w) iTop (*q-comm (qn 1) (inv w) ∙ *q-one (inv w)) (abs-mono (qn 1 *q inv w) d iTop (leb→le d iTop tt) (abs-div (qn 1) w (2 ^ 256 + 1) wLow (lit< tt) one l))
+    abs-eq (qn 1 *q inv w) (inv w) iTop (*q-comm (qn 1) (inv w) ∙ *q-one (inv w))
+    (abs-mono (qn 1 *q inv w) d iTop (leb→le d iTop tt) (abs-div (qn 1) w (2 ^ 256 + 1) wLow (lit< tt) one l))
 
 -- ---- 2 q' + q q'² - q, by what each operation is off. The variables: q, 1 / w, w - (1 + r), r, r² - x, x - (1 + q²), q' - q / w
 residualE : Rx
@@ -154,7 +159,9 @@ quotient Q P t q w fq fw hq l =
 
 above : (x : ℚ) → 0≤ (x -q iv (2 ^ 256 - 2 ^ 205)) → mk quarter ≤q x
 unfolding sameQ den comb iv U
-above x l = sub-≤q (mk quarter) x (by-nn (x ∷ []) [] tt ((rv 0 ⊖ rat (ivF (2 ^ 256 - 2 ^ 205))) ∷ []) (l, tt) [] (hyp 0 ⊞ num (3 * 2 ^ 49 - 1) (2 ^ 51 - 1)) (rv 0 ⊖ rat quarter) tt)
+above x l =
+    sub-≤q (mk quarter) x (by-nn (x ∷ []) [] tt ((rv 0 ⊖ rat (ivF (2 ^ 256 - 2 ^ 205))) ∷ [])
+    (l, tt) [] (hyp 0 ⊞ num (3 * 2 ^ 49 - 1) (2 ^ 51 - 1)) (rv 0 ⊖ rat quarter) tt)
 
 below : (x : ℚ) → Abs x xTop → x <q qn 4
 unfolding iv U leq
@@ -176,7 +183,8 @@ half Q P t q fq hq =
     let W = div-near r (R .is-finite) (Q² .r-abs) in
     let wl = w-low (val r) (val w) (root-low (val x) (val r) (R .not-neg) xl (R .high)) (W .near) in
     let D = quotient Q P t q w fq (W .fine) hq wl in
-    let v : List ℚ = val q ∷ i ∷ (val w -q (qn 1 +q val r)) ∷ val r ∷ (val r *q val r -q val x) ∷ (val x -q (qn 1 +q val q *q val q)) ∷ (val p -q val q *q i) ∷ [] in
+    let v : List ℚ =
+    val q ∷ i ∷ (val w -q (qn 1 +q val r)) ∷ val r ∷ (val r *q val r -q val x) ∷ (val x -q (qn 1 +q val q *q val q)) ∷ (val p -q val q *q i) ∷ [] in
     record {
       fine = D .0;
       size = D .2;

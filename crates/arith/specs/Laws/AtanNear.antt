@@ -48,7 +48,8 @@ square-near m z N l h =
 product-pos : (m d : ℚ) → T (not (leq m (qn 0))) → T (not (leq d (qn 0))) → qn 0 <q m *q d
 unfolding same
 product-pos m d p q =
-    not-T (leq (m *q d) (qn 0)) (λ t. T-not (leq d (qn 0)) q (sub-≤q d (qn 0) (cancel-nn m (qn 0 -q d) p (subst 0≤ (ring (m ∷ d ∷ []) (con 0 :- var 0 :* var 1) (var 0 :* (con 0 :- var 1)) tt) (≤q-sub (m *q d) (qn 0) t)))))
+    not-T (leq (m *q d) (qn 0)) (λ t. T-not (leq d (qn 0)) q (sub-≤q d (qn 0)
+    (cancel-nn m (qn 0 -q d) p (subst 0≤ (ring (m ∷ d ∷ []) (con 0 :- var 0 :* var 1) (var 0 :* (con 0 :- var 1)) tt) (≤q-sub (m *q d) (qn 0) t)))))
 
 scaled : (m X Y S C : ℚ) → m *q (Y *q C -q X *q S) ≡ m *q Y *q C -q m *q X *q S
 unfolding same
@@ -70,16 +71,23 @@ near-of y x v a =
     let f : m *q d ≡ along y x v = scaled-sum m (a .X) (a .Y) S C ∙ ap₂ (λ p q. p *q C +q q *q S) (sym (a .x-is)) (sym (a .y-is)) in
     record {
       fine = subst T (sym (finite-same v)) (s .fine);
-      near = subst (λ w. w *q w ≤q mk (tiny 80) *q (val x *q val x +q val y *q val y)) e (square-near m z (val x *q val x +q val y *q val y) (a .m-less) (s .off));
+      near = subst (λ w. w *q w ≤q mk (tiny 80) *q (val x *q val x +q val y *q val y)) e
+          (square-near m z (val x *q val x +q val y *q val y) (a .m-less) (s .off));
       ahead = subst (λ w. qn 0 <q w) f (product-pos m d (a .m-pos) (positive d (2 ^ 252) (pow-pos 252) (sub-≤q (iv (2 ^ 252)) d (s .ahead))));
     }
 
 -- ---- the law
-pub atan2-near : (y x : Float) → T (isFinite y) → T (isFinite x) → T (not (eq x (ratio 0 1) && eq y (ratio 0 1))) → (v : Float) × (atan2Of y x ≡ Angles.Value v) × Atan2Near y x v
+pub atan2-near : (y x : Float) → T (isFinite y) → T (isFinite x) → T (not (eq x (ratio 0 1) && eq y (ratio 0 1)))
+    → (v : Float) × (atan2Of y x ≡ Angles.Value v) × Atan2Near y x v
 unfolding atan2Of
-atan2-near y x fy fx t = (angleOf y x, answer (isFinite y) (isFinite x) (eq x (ratio 0 1) && eq y (ratio 0 1)) fy fx t, near-of y x (angleOf y x) (aimed-angle y x (subst T (finite-same y) fy) (subst T (finite-same x) fx) t))
+atan2-near y x fy fx t = (
+  angleOf y x,
+  answer (isFinite y) (isFinite x) (eq x (ratio 0 1) && eq y (ratio 0 1)) fy fx t,
+  near-of y x (angleOf y x) (aimed-angle y x (subst T (finite-same y) fy) (subst T (finite-same x) fx) t),
+)
   where
-    answer : (a b c : Bool) → T a → T b → T (not c) → cond (a && b) (Angles.Value (cond c (ratio 0 1) (angleOf y x))) Angles.Refused ≡ Angles.Value (angleOf y x)
+    answer : (a b c : Bool) → T a → T b → T (not c)
+        → cond (a && b) (Angles.Value (cond c (ratio 0 1) (angleOf y x))) Angles.Refused ≡ Angles.Value (angleOf y x)
     answer true true true p q r = absurd r
     answer true true false p q r = refl
     answer true false c p q r = absurd q

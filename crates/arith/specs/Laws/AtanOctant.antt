@@ -27,11 +27,15 @@ use Rattle.arith.specs.Laws.AtanTurn.{vTop}
 module _ (a b : ℚ) (p : T (not (leq a (qn 0)))) (n : 0≤ b) (l : b ≤q a) where
   share-low : 0≤ (b *q inv a)
   unfolding sameQ den comb
-  share-low = cancel-nn a (b *q inv a) p (by-nn (a ∷ b ∷ inv a ∷ []) ((rv 0 ⊗ rv 2, nat 1) ∷ []) (inv-ok a p, tt) (rv 1 ∷ []) (n, tt) (rv 1 ∷ []) (hyp 0) (rv 0 ⊗ (rv 1 ⊗ rv 2)) tt)
+  share-low =
+      cancel-nn a (b *q inv a) p
+      (by-nn (a ∷ b ∷ inv a ∷ []) ((rv 0 ⊗ rv 2, nat 1) ∷ []) (inv-ok a p, tt) (rv 1 ∷ []) (n, tt) (rv 1 ∷ []) (hyp 0) (rv 0 ⊗ (rv 1 ⊗ rv 2)) tt)
 
   share-top : 0≤ (qn 1 -q b *q inv a)
   unfolding sameQ den comb
-  share-top = cancel-nn a (qn 1 -q b *q inv a) p (by-nn (a ∷ b ∷ inv a ∷ []) ((rv 0 ⊗ rv 2, nat 1) ∷ []) (inv-ok a p, tt) ((rv 0 ⊖ rv 1) ∷ []) (≤q-sub b a l, tt) ((nat 0 ⊖ rv 1) ∷ []) (hyp 0) (rv 0 ⊗ (nat 1 ⊖ rv 1 ⊗ rv 2)) tt)
+  share-top =
+      cancel-nn a (qn 1 -q b *q inv a) p (by-nn (a ∷ b ∷ inv a ∷ []) ((rv 0 ⊗ rv 2, nat 1) ∷ []) (inv-ok a p, tt)
+      ((rv 0 ⊖ rv 1) ∷ []) (≤q-sub b a l, tt) ((nat 0 ⊖ rv 1) ∷ []) (hyp 0) (rv 0 ⊗ (nat 1 ⊖ rv 1 ⊗ rv 2)) tt)
 
 -- from 0 to 1, as a bound
 pub unit : (t : ℚ) → 0≤ t → 0≤ (qn 1 -q t) → Abs t (2 ^ 256)
@@ -44,14 +48,18 @@ unit t p q =
 pub share : (a b : ℚ) → T (not (leq a (qn 0))) → 0≤ b → b ≤q a → Abs (b *q inv a) (2 ^ 256)
 share a b p n l = unit (b *q inv a) (share-low a b p n l) (share-top a b p n l)
 
-quotient : (a b : Float) → T (finite a) → T (finite b) → T (not (leq (val a) (qn 0))) → Abs (val b *q inv (val a)) (2 ^ 256) → T (finite (div binary64 b a)) × Abs (val (div binary64 b a)) qTop × Abs (val (div binary64 b a) -q val b *q inv (val a)) (2 ^ 204)
+quotient : (a b : Float) → T (finite a) → T (finite b) → T (not (leq (val a) (qn 0))) → Abs (val b *q inv (val a)) (2 ^ 256)
+    → T (finite (div binary64 b a)) × Abs (val (div binary64 b a)) qTop × Abs (val (div binary64 b a) -q val b *q inv (val a)) (2 ^ 204)
 unfolding U
 quotient a b fa fb p h =
     let q = div binary64 b a in
     let t = val b *q inv (val a) in
     let e = rnd (2 ^ 256) in
-    let d = div-err b a (2 ^ 256) fb fa p h (leb→le (2 ^ 256) (U * huge) tt) in
-    (d .0, abs-mono (val q) (2 ^ 256 + e) qTop (leb→le (2 ^ 256 + e) qTop tt) (own (val q) t (2 ^ 256) e h (d .1)), abs-mono (val q -q t) e (2 ^ 204) (leb→le e (2 ^ 204) tt) (d .1))
+    let d = div-err b a (2 ^ 256) fb fa p h (leb→le (2 ^ 256) (U * huge) tt) in (
+      d .0,
+      abs-mono (val q) (2 ^ 256 + e) qTop (leb→le (2 ^ 256 + e) qTop tt) (own (val q) t (2 ^ 256) e h (d .1)),
+      abs-mono (val q -q t) e (2 ^ 204) (leb→le e (2 ^ 204) tt) (d .1),
+    )
 
 -- ---- two halvings of the angle, the odd sum, and two doublings
 abbrev q₁Top : ℕ
@@ -71,7 +79,8 @@ fourfold a = (a +q a) +q (a +q a)
 
 -- the sums at 4 a, for the a of q
 fourth : (q : Float) → T (finite q) → Abs (val q) qTop
-    → let a = arcSum (halfTangent (halfTangent q)) in T (finite a) × Abs (val a) aTop × Abs (sineSum41 (fourfold (val a)) -q val q *q cosineSum42 (fourfold (val a))) (96 * 2 ^ 204)
+    → let a = arcSum (halfTangent (halfTangent q)) in T (finite a) × Abs (val a) aTop
+    × Abs (sineSum41 (fourfold (val a)) -q val q *q cosineSum42 (fourfold (val a))) (96 * 2 ^ 204)
 fourth q f h =
     let q₁ = halfTangent q in
     let q₂ = halfTangent q₁ in
@@ -81,8 +90,10 @@ fourth q f h =
     let K = half q₁Top arcTop (t .1) q₁ (H .fine) (H .size) in
     let A = arc-tangent q₂ (K .fine) (K .size) in
     let x = val (arcSum q₂) in
-    let D = tangent q₁Top arcTop (2 ^ 205) (2 ^ 207) (20 * 2 ^ 204) (d .0) x (val q₁) (val q₂) (abs-mono x aTop wide (leb→le aTop wide tt) (A .size)) (H .size) (K .size) (A .near) (K .near) in
-    let E = tangent qTop q₁Top (20 * 2 ^ 204) (2 ^ 207) (96 * 2 ^ 204) (d .1) (x +q x) (val q) (val q₁) (abs-mono (x +q x) (aTop + aTop) wide (leb→le (aTop + aTop) wide tt) (abs-add x x aTop aTop (A .size) (A .size))) h (H .size) D (H .near) in
+    let D = tangent q₁Top arcTop (2 ^ 205) (2 ^ 207) (20 * 2 ^ 204) (d .0) x (val q₁) (val q₂)
+    (abs-mono x aTop wide (leb→le aTop wide tt) (A .size)) (H .size) (K .size) (A .near) (K .near) in
+    let E = tangent qTop q₁Top (20 * 2 ^ 204) (2 ^ 207) (96 * 2 ^ 204) (d .1) (x +q x) (val q) (val q₁)
+    (abs-mono (x +q x) (aTop + aTop) wide (leb→le (aTop + aTop) wide tt) (abs-add x x aTop aTop (A .size) (A .size))) h (H .size) D (H .near) in
     (A .fine, A .size, E)
 
 -- ---- v = 4 a in doubles
@@ -114,7 +125,8 @@ whole-test = tt
 
 whole-parts : (S C S₄ C₄ q t : ℚ) → evR ((S -q S₄) ∷ q ∷ (C -q C₄) ∷ (S₄ -q q *q C₄) ∷ (q -q t) ∷ C ∷ []) wholeE ≡ S -q t *q C
 unfolding sameQ wholeE
-whole-parts S C S₄ C₄ q t = ringQ (S ∷ C ∷ S₄ ∷ C₄ ∷ q ∷ t ∷ []) ((rv 0 ⊖ rv 2) ⊖ rv 4 ⊗ (rv 1 ⊖ rv 3) ⊕ (rv 2 ⊖ rv 4 ⊗ rv 3) ⊕ (rv 4 ⊖ rv 5) ⊗ rv 1) (rv 0 ⊖ rv 5 ⊗ rv 1) tt
+whole-parts S C S₄ C₄ q t =
+    ringQ (S ∷ C ∷ S₄ ∷ C₄ ∷ q ∷ t ∷ []) ((rv 0 ⊖ rv 2) ⊖ rv 4 ⊗ (rv 1 ⊖ rv 3) ⊕ (rv 2 ⊖ rv 4 ⊗ rv 3) ⊕ (rv 4 ⊖ rv 5) ⊗ rv 1) (rv 0 ⊖ rv 5 ⊗ rv 1) tt
 
 grows : T (sineGrows (2 ^ 204) vTop (2 ^ 205) && cosineGrows (2 ^ 204) vTop (2 ^ 205))
 unfolding sineGrows cosineGrows
@@ -144,7 +156,8 @@ ahead-of : (S C t : ℚ) → 0≤ t → 0≤ (qn 1 -q t) → Abs (S -q t *q C) (
 unfolding sameQ den comb iv U
 ahead-of S C t p q e c =
     let s = rv 0 in let k = rv 1 in let x = rv 2 in
-    by-nn (S ∷ C ∷ t ∷ []) [] tt (x ∷ (nat 1 ⊖ x) ∷ (rat (ivF (2 ^ 211)) ⊕ (s ⊖ x ⊗ k)) ∷ (rat (ivF (43 * 2 ^ 250)) ⊕ (k ⊖ nat 1)) ∷ []) (p, (q, (e .1, (c .1, tt)))) []
+    by-nn (S ∷ C ∷ t ∷ []) [] tt (x ∷ (nat 1 ⊖ x) ∷ (rat (ivF (2 ^ 211)) ⊕ (s ⊖ x ⊗ k)) ∷ (rat (ivF (43 * 2 ^ 250)) ⊕ (k ⊖ nat 1)) ∷ [])
+    (p, (q, (e .1, (c .1, tt)))) []
     (hyp 3 ⊞ hyp 0 ⊠ hyp 0 ⊠ hyp 3 ⊞ num 21 63 ⊠ hyp 0 ⊠ hyp 0 ⊞ hyp 0 ⊠ hyp 2 ⊞ num 1 (2 ^ 45 - 1) ⊠ hyp 1 ⊞ num (5 * 2 ^ 39 - 1) (2 ^ 45 - 1))
     (k ⊕ x ⊗ s ⊖ rat (ivF (2 ^ 254))) tt
 
@@ -183,7 +196,16 @@ octant-near a b fa fb p n l =
     let g = both (sineGrows (2 ^ 204) vTop (2 ^ 205)) (cosineGrows (2 ^ 204) vTop (2 ^ 205)) grows in
     let ρ : List ℚ = (S -q S₄) ∷ val q ∷ (C -q C₄) ∷ (S₄ -q val q *q C₄) ∷ (val q -q t) ∷ C ∷ [] in
     let e : Abs (S -q t *q C) (2 ^ 211) = abs-eq (evR ρ wholeE) (S -q t *q C) (2 ^ 211) (whole-parts S C S₄ C₄ (val q) t)
-    (bound ρ wholeβ (sine-grows (2 ^ 204) vTop (2 ^ 205) (g .0) (val v) (fourfold (val k)) (M .size) (M .exact-size) (M .near), (Q .1, (cosine-grows (2 ^ 204) vTop (2 ^ 205) (g .1) (val v) (fourfold (val k)) (M .size) (M .exact-size) (M .near), (F .2, (Q .2, (cosine-top vTop (2 ^ 257) top-test (val v) (M .size), tt)))))) wholeE (2 ^ 211) whole-test) in
+    (bound ρ wholeβ (
+      sine-grows (2 ^ 204) vTop (2 ^ 205) (g .0) (val v) (fourfold (val k)) (M .size) (M .exact-size) (M .near),
+      (
+        Q .1,
+        (
+          cosine-grows (2 ^ 204) vTop (2 ^ 205) (g .1) (val v) (fourfold (val k)) (M .size) (M .exact-size) (M .near),
+          (F .2, (Q .2, (cosine-top vTop (2 ^ 257) top-test (val v) (M .size), tt))),
+        ),
+      ),
+    ) wholeE (2 ^ 211) whole-test) in
     record {
       fine = M .fine;
       size = M .size;

@@ -56,8 +56,12 @@ minus-out a z b = ring (a ∷ b ∷ z ∷ []) (ng (var 0) :+ var 2 :* ng (var 1)
 opposite : (s : Bool) (k n : ℕ) (z : ℚ) → poly (coefs (not s) k n) z ≡ negq (poly (coefs s k n) z)
 unfolding poly coefs negq
 opposite s zero n z = refl
-opposite true (suc k) n z = ap (λ v. mk (sgF false 1 (factorial n) (factorial-pos n)) +q z *q v) (opposite false k (n + 2) z) ∙ minus-out (mk (sgF true 1 (factorial n) (factorial-pos n))) z (poly (coefs false k (n + 2)) z)
-opposite false (suc k) n z = ap (λ v. mk (sgF true 1 (factorial n) (factorial-pos n)) +q z *q v) (opposite true k (n + 2) z) ∙ minus-out (mk (sgF false 1 (factorial n) (factorial-pos n))) z (poly (coefs true k (n + 2)) z)
+opposite true (suc k) n z =
+    ap (λ v. mk (sgF false 1 (factorial n) (factorial-pos n)) +q z *q v) (opposite false k (n + 2) z)
+    ∙ minus-out (mk (sgF true 1 (factorial n) (factorial-pos n))) z (poly (coefs false k (n + 2)) z)
+opposite false (suc k) n z =
+    ap (λ v. mk (sgF true 1 (factorial n) (factorial-pos n)) +q z *q v) (opposite true k (n + 2) z)
+    ∙ minus-out (mk (sgF false 1 (factorial n) (factorial-pos n))) z (poly (coefs true k (n + 2)) z)
 
 next : (p a x b : ℚ) → p *q a -q (x *q (x *q p)) *q b ≡ p *q (a +q x *q x *q negq b)
 unfolding same
@@ -133,7 +137,8 @@ zero-abs = (subst 0≤ (ring (iv 0 ∷ []) (var 0) (var 0 :- con 0) tt) (iv-nn 0
 pub poly-top : (z : ℚ) (Z : ℕ) → Abs z Z → (cs : List Fr) → Abs (poly cs z) (topB Z cs)
 unfolding poly topB
 poly-top z Z h [] = zero-abs
-poly-top z Z h (c ∷ cs) = abs-add (mk c) (z *q poly cs z) (absUp c) (mulUp Z (topB Z cs)) (absUp-ok c) (abs-mul z (poly cs z) Z (topB Z cs) h (poly-top z Z h cs))
+poly-top z Z h (c ∷ cs) =
+    abs-add (mk c) (z *q poly cs z) (absUp c) (mulUp Z (topB Z cs)) (absUp-ok c) (abs-mul z (poly cs z) Z (topB Z cs) h (poly-top z Z h cs))
 
 -- the cosine's sum, for |x| ≤ X, by a test
 unfoldable pub cosineFits : ℕ → ℕ → Bool
@@ -144,7 +149,8 @@ pub cosine-top : (X N : ℕ) → T (cosineFits X N) → (x : ℚ) → Abs x X �
 unfolding cosineFits
 cosine-top X N t x h =
     let Z = mulUp X X in
-    abs-eq (poly γ (x *q x)) (cosineSum42 x) N (sym (cosine-is x)) (abs-mono (poly γ (x *q x)) (topB Z γ) N (leb→le (topB Z γ) N t) (poly-top (x *q x) Z (abs-mul x x X X h h) γ))
+    abs-eq (poly γ (x *q x)) (cosineSum42 x) N (sym (cosine-is x))
+    (abs-mono (poly γ (x *q x)) (topB Z γ) N (leb→le (topB Z γ) N t) (poly-top (x *q x) Z (abs-mul x x X X h h) γ))
 
 -- ---- growth: from y to z, |z - y| ≤ d
 unfoldable pub growB : ℕ → ℕ → List Fr → ℕ
@@ -154,21 +160,25 @@ growB d Z (c ∷ cs) = mulUp d (topB Z cs) + mulUp Z (growB d Z cs)
 
 grown : (c y z p r : ℚ) → (z -q y) *q p +q y *q (p -q r) ≡ (c +q z *q p) -q (c +q y *q r)
 unfolding same
-grown c y z p r = ring (c ∷ y ∷ z ∷ p ∷ r ∷ []) ((var 2 :- var 1) :* var 3 :+ var 1 :* (var 3 :- var 4)) (var 0 :+ var 2 :* var 3 :- (var 0 :+ var 1 :* var 4)) tt
+grown c y z p r =
+    ring (c ∷ y ∷ z ∷ p ∷ r ∷ []) ((var 2 :- var 1) :* var 3 :+ var 1 :* (var 3 :- var 4)) (var 0 :+ var 2 :* var 3 :- (var 0 :+ var 1 :* var 4)) tt
 
 pub poly-grows : (z y : ℚ) (d Z : ℕ) → Abs z Z → Abs y Z → Abs (z -q y) d → (cs : List Fr) → Abs (poly cs z -q poly cs y) (growB d Z cs)
 unfolding poly growB
 poly-grows z y d Z h k g [] = abs-eq (qn 0) (qn 0 -q qn 0) 0 (sym (+q-zero (qn 0)) ∙ ap (λ w. qn 0 +q w) (sym neg-zero)) zero-abs
 poly-grows z y d Z h k g (c ∷ cs) =
-    abs-eq ((z -q y) *q poly cs z +q y *q (poly cs z -q poly cs y)) (poly (c ∷ cs) z -q poly (c ∷ cs) y) (growB d Z (c ∷ cs)) (grown (mk c) y z (poly cs z) (poly cs y))
-    (abs-add ((z -q y) *q poly cs z) (y *q (poly cs z -q poly cs y)) (mulUp d (topB Z cs)) (mulUp Z (growB d Z cs)) (abs-mul (z -q y) (poly cs z) d (topB Z cs) g (poly-top z Z h cs)) (abs-mul y (poly cs z -q poly cs y) Z (growB d Z cs) k (poly-grows z y d Z h k g cs)))
+    abs-eq ((z -q y) *q poly cs z +q y *q (poly cs z -q poly cs y)) (poly (c ∷ cs) z -q poly (c ∷ cs) y)
+    (growB d Z (c ∷ cs)) (grown (mk c) y z (poly cs z) (poly cs y))
+    (abs-add ((z -q y) *q poly cs z) (y *q (poly cs z -q poly cs y)) (mulUp d (topB Z cs)) (mulUp Z (growB d Z cs)) (abs-mul (z -q y)
+    (poly cs z) d (topB Z cs) g (poly-top z Z h cs)) (abs-mul y (poly cs z -q poly cs y) Z (growB d Z cs) k (poly-grows z y d Z h k g cs)))
 
 square-off : (x y : ℚ) → (x -q y) *q (x +q y) ≡ x *q x -q y *q y
 unfolding same
 square-off x y = ring (x ∷ y ∷ []) ((var 0 :- var 1) :* (var 0 :+ var 1)) (var 0 :* var 0 :- var 1 :* var 1) tt
 
 squares : (x y : ℚ) (d X : ℕ) → Abs x X → Abs y X → Abs (x -q y) d → Abs (x *q x -q y *q y) (mulUp d (X + X))
-squares x y d X h k g = abs-eq ((x -q y) *q (x +q y)) (x *q x -q y *q y) (mulUp d (X + X)) (square-off x y) (abs-mul (x -q y) (x +q y) d (X + X) g (abs-add x y X X h k))
+squares x y d X h k g =
+    abs-eq ((x -q y) *q (x +q y)) (x *q x -q y *q y) (mulUp d (X + X)) (square-off x y) (abs-mul (x -q y) (x +q y) d (X + X) g (abs-add x y X X h k))
 
 -- the sums at x and at y, both at most X, by a test
 unfoldable pub sineGrows : ℕ → ℕ → ℕ → Bool
@@ -191,9 +201,12 @@ sine-grows d X N t x y h k g =
     let hh = abs-mul x x X X h h in
     let kk = abs-mul y y X X k k in
     abs-mono (sineSum41 x -q sineSum41 y) B N (leb→le B N t)
-    (abs-eq ((x -q y) *q poly σ (x *q x) +q y *q (poly σ (x *q x) -q poly σ (y *q y))) (sineSum41 x -q sineSum41 y) B (sine-off x y (poly σ (x *q x)) (poly σ (y *q y)) ∙ ap₂ _-q_ (sym (sine-is x)) (sym (sine-is y)))
-    (abs-add ((x -q y) *q poly σ (x *q x)) (y *q (poly σ (x *q x) -q poly σ (y *q y))) (mulUp d (topB Z σ)) (mulUp X (growB (mulUp d (X + X)) Z σ)) (abs-mul (x -q y) (poly σ (x *q x)) d (topB Z σ) g (poly-top (x *q x) Z hh σ))
-    (abs-mul y (poly σ (x *q x) -q poly σ (y *q y)) X (growB (mulUp d (X + X)) Z σ) k (poly-grows (x *q x) (y *q y) (mulUp d (X + X)) Z hh kk (squares x y d X h k g) σ))))
+    (abs-eq ((x -q y) *q poly σ (x *q x) +q y *q (poly σ (x *q x) -q poly σ (y *q y))) (sineSum41 x -q sineSum41 y) B
+    (sine-off x y (poly σ (x *q x)) (poly σ (y *q y)) ∙ ap₂ _-q_ (sym (sine-is x)) (sym (sine-is y)))
+    (abs-add ((x -q y) *q poly σ (x *q x)) (y *q (poly σ (x *q x) -q poly σ (y *q y))) (mulUp d (topB Z σ))
+    (mulUp X (growB (mulUp d (X + X)) Z σ)) (abs-mul (x -q y) (poly σ (x *q x)) d (topB Z σ) g (poly-top (x *q x) Z hh σ))
+    (abs-mul y (poly σ (x *q x) -q poly σ (y *q y)) X (growB (mulUp d (X + X)) Z σ) k
+    (poly-grows (x *q x) (y *q y) (mulUp d (X + X)) Z hh kk (squares x y d X h k g) σ))))
 
 pub cosine-grows : (d X N : ℕ) → T (cosineGrows d X N) → (x y : ℚ) → Abs x X → Abs y X → Abs (x -q y) d → Abs (cosineSum42 x -q cosineSum42 y) N
 unfolding cosineGrows

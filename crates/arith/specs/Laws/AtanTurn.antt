@@ -63,13 +63,15 @@ half-tests v = tt
 quarter-sine : (v : ℚ) → Abs v vTop → Abs (sineSum41 (mk pi/2 -q v) -q cosineSum42 v) (2 ^ 203)
 unfolding quarterS
 quarter-sine v h =
-    abs-eq (evR (v ∷ []) quarterS) (sineSum41 (mk pi/2 -q v) -q cosineSum42 v) (2 ^ 203) (ap₂ _-q_ (sineX-ok (v ∷ []) (rat pi/2 ⊖ rv 0)) (cosineX-ok (v ∷ []) (rv 0)))
+    abs-eq (evR (v ∷ []) quarterS) (sineSum41 (mk pi/2 -q v) -q cosineSum42 v) (2 ^ 203)
+    (ap₂ _-q_ (sineX-ok (v ∷ []) (rat pi/2 ⊖ rv 0)) (cosineX-ok (v ∷ []) (rv 0)))
     (bounded quarterS vTop (2 ^ 203) v (both (leb (bndR v vTop quarterS) (2 ^ 203)) (leb (bndR v vTop quarterC) (2 ^ 203)) (quarter-tests v) .0) h)
 
 quarter-cosine : (v : ℚ) → Abs v vTop → Abs (cosineSum42 (mk pi/2 -q v) -q sineSum41 v) (2 ^ 203)
 unfolding quarterC
 quarter-cosine v h =
-    abs-eq (evR (v ∷ []) quarterC) (cosineSum42 (mk pi/2 -q v) -q sineSum41 v) (2 ^ 203) (ap₂ _-q_ (cosineX-ok (v ∷ []) (rat pi/2 ⊖ rv 0)) (sineX-ok (v ∷ []) (rv 0)))
+    abs-eq (evR (v ∷ []) quarterC) (cosineSum42 (mk pi/2 -q v) -q sineSum41 v) (2 ^ 203)
+    (ap₂ _-q_ (cosineX-ok (v ∷ []) (rat pi/2 ⊖ rv 0)) (sineX-ok (v ∷ []) (rv 0)))
     (bounded quarterC vTop (2 ^ 203) v (both (leb (bndR v vTop quarterS) (2 ^ 203)) (leb (bndR v vTop quarterC) (2 ^ 203)) (quarter-tests v) .1) h)
 
 half-sine : (v : ℚ) → Abs v wTop → Abs (sineSum41 (mk pi -q v) -q sineSum41 v) (2 ^ 207)
@@ -81,7 +83,8 @@ half-sine v h =
 half-cosine : (v : ℚ) → Abs v wTop → Abs (cosineSum42 (mk pi -q v) +q cosineSum42 v) (2 ^ 207)
 unfolding halfC
 half-cosine v h =
-    abs-eq (evR (v ∷ []) halfC) (cosineSum42 (mk pi -q v) +q cosineSum42 v) (2 ^ 207) (ap₂ _+q_ (cosineX-ok (v ∷ []) (rat pi ⊖ rv 0)) (cosineX-ok (v ∷ []) (rv 0)))
+    abs-eq (evR (v ∷ []) halfC) (cosineSum42 (mk pi -q v) +q cosineSum42 v) (2 ^ 207)
+    (ap₂ _+q_ (cosineX-ok (v ∷ []) (rat pi ⊖ rv 0)) (cosineX-ok (v ∷ []) (rv 0)))
     (bounded halfC wTop (2 ^ 207) v (both (leb (bndR v wTop halfS) (2 ^ 207)) (leb (bndR v wTop halfC) (2 ^ 207)) (half-tests v) .1) h)
 
 -- ---- the differences in doubles
@@ -124,11 +127,15 @@ pub record Halved (v w : Float) : Type 0 where
 
 through : (a b c : ℚ) (M N K : ℕ) → T (leb (M + N) K) → Abs (a -q b) M → Abs (b -q c) N → Abs (a -q c) K
 unfolding sameQ
-through a b c M N K t h k = abs-mono (a -q c) (M + N) K (leb→le (M + N) K t) (abs-eq ((a -q b) +q (b -q c)) (a -q c) (M + N) (ringQ (a ∷ b ∷ c ∷ []) ((rv 0 ⊖ rv 1) ⊕ (rv 1 ⊖ rv 2)) (rv 0 ⊖ rv 2) tt) (abs-add (a -q b) (b -q c) M N h k))
+through a b c M N K t h k =
+    abs-mono (a -q c) (M + N) K (leb→le (M + N) K t) (abs-eq ((a -q b) +q (b -q c)) (a -q c) (M + N)
+    (ringQ (a ∷ b ∷ c ∷ []) ((rv 0 ⊖ rv 1) ⊕ (rv 1 ⊖ rv 2)) (rv 0 ⊖ rv 2) tt) (abs-add (a -q b) (b -q c) M N h k))
 
-through' : (a b c : ℚ) (M N K : ℕ) → T (leb (M + N) K) → Abs (a -q b) M → Abs (b +q c) N → Abs (a +q c) K
+through-sum : (a b c : ℚ) (M N K : ℕ) → T (leb (M + N) K) → Abs (a -q b) M → Abs (b +q c) N → Abs (a +q c) K
 unfolding sameQ
-through' a b c M N K t h k = abs-mono (a +q c) (M + N) K (leb→le (M + N) K t) (abs-eq ((a -q b) +q (b +q c)) (a +q c) (M + N) (ringQ (a ∷ b ∷ c ∷ []) ((rv 0 ⊖ rv 1) ⊕ (rv 1 ⊕ rv 2)) (rv 0 ⊕ rv 2) tt) (abs-add (a -q b) (b +q c) M N h k))
+through-sum a b c M N K t h k =
+    abs-mono (a +q c) (M + N) K (leb→le (M + N) K t) (abs-eq ((a -q b) +q (b +q c)) (a +q c) (M + N)
+    (ringQ (a ∷ b ∷ c ∷ []) ((rv 0 ⊖ rv 1) ⊕ (rv 1 ⊕ rv 2)) (rv 0 ⊕ rv 2) tt) (abs-add (a -q b) (b +q c) M N h k))
 
 quarter-grows : T (sineGrows (2 ^ 205) wTop (15 * 2 ^ 204) && cosineGrows (2 ^ 205) wTop (15 * 2 ^ 204))
 unfolding sineGrows cosineGrows
@@ -148,8 +155,10 @@ quarter-turn v f h =
     record {
       fine = c .fine;
       size = c .size;
-      sine = through (sineSum41 (val w)) (sineSum41 d) (cosineSum42 (val v)) N (2 ^ 203) (2 ^ 208) tt (sine-grows (2 ^ 205) wTop N (g .0) (val w) d (c .size) (c .exact-size) (c .near)) (quarter-sine (val v) h);
-      cosine = through (cosineSum42 (val w)) (cosineSum42 d) (sineSum41 (val v)) N (2 ^ 203) (2 ^ 208) tt (cosine-grows (2 ^ 205) wTop N (g .1) (val w) d (c .size) (c .exact-size) (c .near)) (quarter-cosine (val v) h);
+      sine = through (sineSum41 (val w)) (sineSum41 d) (cosineSum42 (val v)) N (2 ^ 203) (2 ^ 208) tt
+          (sine-grows (2 ^ 205) wTop N (g .0) (val w) d (c .size) (c .exact-size) (c .near)) (quarter-sine (val v) h);
+      cosine = through (cosineSum42 (val w)) (cosineSum42 d) (sineSum41 (val v)) N (2 ^ 203) (2 ^ 208) tt
+          (cosine-grows (2 ^ 205) wTop N (g .1) (val w) d (c .size) (c .exact-size) (c .near)) (quarter-cosine (val v) h);
     }
 
 pub half-turn : (v : Float) → T (finite v) → Abs (val v) wTop → Halved v (sub binary64 PI v)
@@ -163,6 +172,8 @@ half-turn v f h =
     record {
       fine = c .fine;
       size = c .size;
-      sine = through (sineSum41 (val w)) (sineSum41 d) (sineSum41 (val v)) N (2 ^ 207) (2 ^ 213) tt (sine-grows D uTop N (g .0) (val w) d (c .size) (c .exact-size) (c .near)) (half-sine (val v) h);
-      cosine = through' (cosineSum42 (val w)) (cosineSum42 d) (cosineSum42 (val v)) N (2 ^ 207) (2 ^ 213) tt (cosine-grows D uTop N (g .1) (val w) d (c .size) (c .exact-size) (c .near)) (half-cosine (val v) h);
+      sine = through (sineSum41 (val w)) (sineSum41 d) (sineSum41 (val v)) N (2 ^ 207) (2 ^ 213) tt
+          (sine-grows D uTop N (g .0) (val w) d (c .size) (c .exact-size) (c .near)) (half-sine (val v) h);
+      cosine = through-sum (cosineSum42 (val w)) (cosineSum42 d) (cosineSum42 (val v)) N (2 ^ 207) (2 ^ 213) tt
+          (cosine-grows D uTop N (g .1) (val w) d (c .size) (c .exact-size) (c .near)) (half-cosine (val v) h);
     }

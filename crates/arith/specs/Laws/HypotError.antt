@@ -46,7 +46,8 @@ rest =
     ⊞ num 843776411785626498807 5316911983139663491615228241121378303 ⊠ (A ⊠ A)
     ⊞ num 549439154539200125 1152921504606846975 ⊠ (hyp 1 ⊠ A)
 
-module _ (a b q x r h y : ℚ) (e : a *q q ≡ b) (a-low : 0≤ (a -q qn 2 *q y)) (y-nn : 0≤ y) (r-nn : 0≤ r) (r-top : 0≤ (mk rTop -q r)) (r-near : Abs (r *q r -q x) (2 ^ (256 - 51)))
+module _ (a b q x r h y : ℚ) (e : a *q q ≡ b) (a-low : 0≤ (a -q qn 2 *q y)) (y-nn : 0≤ y)
+    (r-nn : 0≤ r) (r-top : 0≤ (mk rTop -q r)) (r-near : Abs (r *q r -q x) (2 ^ (256 - 51)))
     (x-near : Abs (x -q (qn 1 +q q *q q)) sumErr) (h-nn : 0≤ h) (h-near : Near (a *q r *q mk part +q y) h (a *q r)) where
   abbrev ρ : List ℚ
   ρ = a ∷ b ∷ q ∷ x ∷ r ∷ h ∷ y ∷ []
@@ -75,7 +76,31 @@ module _ (a b q x r h y : ℚ) (e : a *q q ≡ b) (a-low : 0≤ (a -q qn 2 *q y)
 
   known : Nns ρ H
   unfolding iv
-  known = (a-low, (y-nn, (r-nn, (r-top, (r-near .0, (r-near .1, (x-near .0, (x-near .1, (h-nn, (≤q-sub h (a *q r +q (a *q r *q mk part +q y)) (h-near .0), (≤q-sub (a *q r) (h +q (a *q r *q mk part +q y)) (h-near .1), tt)))))))))))
+  known = (
+    a-low,
+    (
+      y-nn,
+      (
+        r-nn,
+        (
+          r-top,
+          (
+            r-near .0,
+            (
+              r-near .1,
+              (
+                x-near .0,
+                (
+                  x-near .1,
+                  (h-nn, (≤q-sub h (a *q r +q (a *q r *q mk part +q y)) (h-near .0), (≤q-sub (a *q r) (h +q (a *q r *q mk part +q y)) (h-near .1), tt))),
+                ),
+              ),
+            ),
+          ),
+        ),
+      ),
+    ),
+  )
 
   core-high : h *q h ≤q a *q a +q b *q b +q evR ρ err
   unfolding sameQ den comb rest U
@@ -97,7 +122,9 @@ module _ (a b q x r h y : ℚ) (e : a *q q ≡ b) (a-low : 0≤ (a -q qn 2 *q y)
 
 -- ---- the smallest double above 0 is 2 ^ -1074
 two-least : (L a : ℕ) (P : 0 < L) (P2 : 0 < L * 2) → 0 < a → qn 2 *q sg false 1 (L * 2) P2 ≤q sg false a L P
-two-least L a P P2 h = subst (λ z. z ≤q sg false a L P) (sym (*q-mk (whole 2 0) (sgF false 1 (L * 2) P2))) (≤-mk (mulF (whole 2 0) (sgF false 1 (L * 2) P2)) (sgF false a L P) (let z = mul-le-mul-right L h in omega arith))
+two-least L a P P2 h =
+    subst (λ z. z ≤q sg false a L P) (sym (*q-mk (whole 2 0) (sgF false 1 (L * 2) P2)))
+    (≤-mk (mulF (whole 2 0) (sgF false 1 (L * 2) P2)) (sgF false a L P) (let z = mul-le-mul-right L h in omega arith))
 
 above-frac : (a c : ℕ) (C : 0 < c) → qn 0 <q sg false a c C → 0 < a
 unfolding leq
@@ -131,7 +158,9 @@ module _ (a b : Float) (fa : T (fits binary64 a)) (ua : T (unsigned a)) (fb : T 
 
   x-high : val (radicand a b) <q qn 4
   unfolding iv U
-  x-high = T-not (leq (qn 4) (val (radicand a b))) (λ t. no (mk-≤ (whole 4 0) (ivF (513 * 2 ^ 248)) (≤q-trans (qn 4) (val (radicand a b)) (iv (513 * 2 ^ 248)) t (sub-≤q (val (radicand a b)) (iv (513 * 2 ^ 248)) (S .x-top .0)))))
+  x-high =
+      T-not (leq (qn 4) (val (radicand a b))) (λ t. no (mk-≤ (whole 4 0) (ivF (513 * 2 ^ 248))
+      (≤q-trans (qn 4) (val (radicand a b)) (iv (513 * 2 ^ 248)) t (sub-≤q (val (radicand a b)) (iv (513 * 2 ^ 248)) (S .x-top .0)))))
     where
       no : 4 * 2 ^ 256 + 0 * 1 ≤ 513 * 2 ^ 248 * 1 + 0 * 2 ^ 256 → ⊥
       no h = not-le-of-lt (lit< tt) h
@@ -141,25 +170,30 @@ module _ (a b : Float) (fa : T (fits binary64 a)) (ua : T (unsigned a)) (fb : T 
 
   r-unsigned : T (unsigned (sqrt binary64 (radicand a b)))
   r-unsigned =
-      let R = root-units (radicand a b) (add-fits binary64 one (mul binary64 (div binary64 b a) (div binary64 b a))) (positive-of (radicand a b) (S .x-finite) (above-quarter (val (radicand a b)) x-low)) in
+      let R = root-units (radicand a b) (add-fits binary64 one (mul binary64 (div binary64 b a) (div binary64 b a)))
+      (positive-of (radicand a b) (S .x-finite) (above-quarter (val (radicand a b)) x-low)) in
       has→unsigned (sqrt binary64 (radicand a b)) (R .q * 2 ^ R .k) (2 ^ 1074) (R .root)
 
   a-least : qn 2 *q least ≤q val a
   a-least =
       let R = root-units a fa (positive-of a (unsigned-finite a ua) pa) in
       let v = has→val a false (R .A) (2 ^ 1074) (pow-pos 1074) (R .value) .1 in
-      subst (λ z. qn 2 *q least ≤q z) (sym v) (two-least (2 ^ 1074) (R .A) (pow-pos 1074) (mul-pos (pow-pos 1074) (zero-lt-suc 1)) (above-frac (R .A) (2 ^ 1074) (pow-pos 1074) (subst (λ z. qn 0 <q z) v pa)))
+      subst (λ z. qn 2 *q least ≤q z) (sym v) (two-least (2 ^ 1074) (R .A) (pow-pos 1074) (mul-pos (pow-pos 1074) (zero-lt-suc 1))
+      (above-frac (R .A) (2 ^ 1074) (pow-pos 1074) (subst (λ z. qn 0 <q z) v pa)))
 
   pub scaled-near : T (finite (mul binary64 a (sqrt binary64 (radicand a b))))
-      → Near (mk (tiny 49) *q (val a *q val a) +q qn 4 *q least *q val a) (val (mul binary64 a (sqrt binary64 (radicand a b))) *q val (mul binary64 a (sqrt binary64 (radicand a b)))) (val a *q val a +q val b *q val b)
+      → Near (mk (tiny 49) *q (val a *q val a) +q qn 4 *q least *q val a)
+      (val (mul binary64 a (sqrt binary64 (radicand a b))) *q val (mul binary64 a (sqrt binary64 (radicand a b)))) (val a *q val a +q val b *q val b)
   scaled-near t =
       let r = sqrt binary64 (radicand a b) in
       let Q = scaled-root (radicand a b) r (S .x-top) hypot-root in
       let n = mul-near a r ua r-unsigned t in
       let h-nn = mul-nn a r (unsigned-finite a ua) (hypot-root .is-finite) (≤q-total (val a) (qn 0) pa) (hypot-root .not-neg) in
       let a-low = ≤q-sub (qn 2 *q least) (val a) a-least in (
-        core-high (val a) (val b) (S .quotient) (val (radicand a b)) (val r) (val (mul binary64 a r)) least (S .back) a-low least-nn (hypot-root .not-neg) (Q .r-high) (Q .r-near) (S .x-near) h-nn n,
-        core-low (val a) (val b) (S .quotient) (val (radicand a b)) (val r) (val (mul binary64 a r)) least (S .back) a-low least-nn (hypot-root .not-neg) (Q .r-high) (Q .r-near) (S .x-near) h-nn n,
+        core-high (val a) (val b) (S .quotient) (val (radicand a b)) (val r) (val (mul binary64 a r)) least
+            (S .back) a-low least-nn (hypot-root .not-neg) (Q .r-high) (Q .r-near) (S .x-near) h-nn n,
+        core-low (val a) (val b) (S .quotient) (val (radicand a b)) (val r) (val (mul binary64 a r)) least
+            (S .back) a-low least-nn (hypot-root .not-neg) (Q .r-high) (Q .r-near) (S .x-near) h-nn n,
       )
     where
       least-nn : 0≤ least
@@ -178,7 +212,8 @@ scaled-zero : (e : ℤ) (b : Float) → scaledRoot (fin false 0 e) b ≡ fin fal
 unfolding scaledRoot round
 scaled-zero e b = sym (cond-yes _ _ (zero-left e false))
 
-scaled-else : (m : ℕ) (e : ℤ) (b : Float) → scaledRoot (fin false (suc m) e) b ≡ mul binary64 (fin false (suc m) e) (sqrt binary64 (radicand (fin false (suc m) e) b))
+scaled-else : (m : ℕ) (e : ℤ) (b : Float)
+    → scaledRoot (fin false (suc m) e) b ≡ mul binary64 (fin false (suc m) e) (sqrt binary64 (radicand (fin false (suc m) e) b))
 unfolding scaledRoot round
 scaled-else m e b = sym (cond-no _ _ (not-zero-left m e false))
 
@@ -194,7 +229,9 @@ above-val m e = lt→nleb (suc m * up e * 1 + 0 * down e) (0 * down e + 0 * 1) (
 
 all-zero : (a b h : ℚ) → a ≡ qn 0 → b ≡ qn 0 → h ≡ qn 0 → Near (hypotErr a) (h *q h) (a *q a +q b *q b)
 unfolding hypotErr _*q_ _+q_
-all-zero a b h p q r = subst (λ a. Near (hypotErr a) (h *q h) (a *q a +q b *q b)) (sym p) (subst (λ b. Near (hypotErr (qn 0)) (h *q h) (qn 0 *q qn 0 +q b *q b)) (sym q) (subst (λ h. Near (hypotErr (qn 0)) (h *q h) (qn 0 *q qn 0 +q qn 0 *q qn 0)) (sym r) (≤-mk _ _ (lit≤ tt), ≤-mk _ _ (lit≤ tt))))
+all-zero a b h p q r =
+    subst (λ a. Near (hypotErr a) (h *q h) (a *q a +q b *q b)) (sym p) (subst (λ b. Near (hypotErr (qn 0)) (h *q h) (qn 0 *q qn 0 +q b *q b))
+    (sym q) (subst (λ h. Near (hypotErr (qn 0)) (h *q h) (qn 0 *q qn 0 +q qn 0 *q qn 0)) (sym r) (≤-mk _ _ (lit≤ tt), ≤-mk _ _ (lit≤ tt))))
 
 scaled-law : (a b : Float) → T (fits binary64 a) → T (unsigned a) → T (finite b) → 0≤ (val b) → val b ≤q val a → T (finite (scaledRoot a b))
     → Near (hypotErr (val a)) (val (scaledRoot a b) *q val (scaledRoot a b)) (val a *q val a +q val b *q val b)
@@ -204,7 +241,8 @@ scaled-law (inf s) b f u p n l t = absurd u
 scaled-law (fin true m e) b f u p n l t = absurd u
 scaled-law (fin false zero e) b f u p n l t =
     let z = zero-val e in
-    all-zero (val (fin false 0 e)) (val b) (val (scaledRoot (fin false 0 e) b)) z (≤q-antisymm (val b) (qn 0) (subst (λ v. val b ≤q v) z l) n) (ap val (scaled-zero e b) ∙ zero-val (pos 0))
+    all-zero (val (fin false 0 e)) (val b) (val (scaledRoot (fin false 0 e) b)) z
+    (≤q-antisymm (val b) (qn 0) (subst (λ v. val b ≤q v) z l) n) (ap val (scaled-zero e b) ∙ zero-val (pos 0))
 scaled-law (fin false (suc m) e) b f u p n l t =
     let a = fin false (suc m) e in
     let is = scaled-else m e b in
@@ -216,7 +254,8 @@ unfolding sameQ den comb hypotErr
 err-normal m l =
     let H : List Rx = (rv 0 ⊖ rat (tiny 1022)) ∷ [] in
     sub-≤q (hypotErr m) (mk (tiny 48) *q (m *q m))
-    (by-nn (m ∷ []) [] tt H (≤q-sub (mk (tiny 1022)) m l, tt) [] (let M = hyp 0 ⊞ num 1 (2 ^ 1022 - 1) in num 1 (2 ^ 49 - 1) ⊠ (M ⊠ hyp 0) ⊞ num 3 (2 ^ 1073 - 1) ⊠ M)
+    (by-nn (m ∷ []) [] tt H (≤q-sub (mk (tiny 1022)) m l, tt) []
+    (let M = hyp 0 ⊞ num 1 (2 ^ 1022 - 1) in num 1 (2 ^ 49 - 1) ⊠ (M ⊠ hyp 0) ⊞ num 3 (2 ^ 1073 - 1) ⊠ M)
     (rat (tiny 48) ⊗ (rv 0 ⊗ rv 0) ⊖ (rat (tiny 49) ⊗ (rv 0 ⊗ rv 0) ⊕ rat (tiny 1073) ⊗ rv 0)) tt)
 
 -- the same for `Hyp`: an absolute bound
@@ -225,27 +264,34 @@ unfolding same
 zero-within N p q h f z s = record {
   fine = f;
   not-neg = subst 0≤ (sym z) (≤q-refl (qn 0));
-  near = subst₂ (λ h s. Abs (h *q h -q s) N) (sym z) (sym s) (subst 0≤ (ring (iv N ∷ []) (var 0) (var 0 :- (con 0 :* con 0 :- con 0)) tt) (iv-nn N), subst 0≤ (ring (iv N ∷ []) (var 0) (var 0 :+ (con 0 :* con 0 :- con 0)) tt) (iv-nn N));
+  near = subst₂ (λ h s. Abs (h *q h -q s) N) (sym z) (sym s) (
+    subst 0≤ (ring (iv N ∷ []) (var 0) (var 0 :- (con 0 :* con 0 :- con 0)) tt) (iv-nn N),
+    subst 0≤ (ring (iv N ∷ []) (var 0) (var 0 :+ (con 0 :* con 0 :- con 0)) tt) (iv-nn N),
+  );
 }
 
 both-zero : (a b : ℚ) → a ≡ qn 0 → b ≡ qn 0 → a *q a +q b *q b ≡ qn 0
 unfolding _*q_ _+q_
 both-zero a b p q = subst₂ (λ a b. a *q a +q b *q b ≡ qn 0) (sym p) (sym q) (Quot·sound refl)
 
-scaled-within : (A N : ℕ) → T (hyp-fits A N) → (a b p q : Float) → T (fits binary64 a) → T (unsigned a) → T (finite b) → 0≤ (val b) → val b ≤q val a → Abs (val a) A
+scaled-within : (A N : ℕ) → T (hyp-fits A N) → (a b p q : Float) → T (fits binary64 a)
+    → T (unsigned a) → T (finite b) → 0≤ (val b) → val b ≤q val a → Abs (val a) A
     → val a *q val a +q val b *q val b ≡ val p *q val p +q val q *q val q → Hyp N p q (scaledRoot a b)
 scaled-within A N t nan b p q f u g n l h e = absurd u
 scaled-within A N t (inf s) b p q f u g n l h e = absurd u
 scaled-within A N t (fin true m d) b p q f u g n l h e = absurd u
 scaled-within A N t (fin false zero d) b p q f u g n l h e =
     let z = zero-val d in
-    subst (Hyp N p q) (sym (scaled-zero d b)) (zero-within N p q (fin false 0 (pos 0)) tt (zero-val (pos 0)) (sym e ∙ both-zero (val (fin false 0 d)) (val b) z (≤q-antisymm (val b) (qn 0) (subst (λ v. val b ≤q v) z l) n)))
+    subst (Hyp N p q) (sym (scaled-zero d b)) (zero-within N p q (fin false 0 (pos 0)) tt (zero-val (pos 0))
+    (sym e ∙ both-zero (val (fin false 0 d)) (val b) z (≤q-antisymm (val b) (qn 0) (subst (λ v. val b ≤q v) z l) n)))
 scaled-within A N t (fin false (suc m) d) b p q f u g n l h e =
     let a = fin false (suc m) d in
-    subst (Hyp N p q) (sym (scaled-else m d b)) (hyp-intro A N t a b (sqrt binary64 (radicand a b)) p q tt g (above-val m d) n l h (hypot-root a b f u g (above-val m d) n l) e)
+    subst (Hyp N p q) (sym (scaled-else m d b))
+    (hyp-intro A N t a b (sqrt binary64 (radicand a b)) p q tt g (above-val m d) n l h (hypot-root a b f u g (above-val m d) n l) e)
 
 -- ---- `hypotOf`
-hypot-is : (x y : Float) → T (finite x) → T (finite y) → hypotOf x y ≡ cond (lt (absOf x) (absOf y)) (scaledRoot (absOf y) (absOf x)) (scaledRoot (absOf x) (absOf y))
+hypot-is : (x y : Float) → T (finite x) → T (finite y)
+    → hypotOf x y ≡ cond (lt (absOf x) (absOf y)) (scaledRoot (absOf y) (absOf x)) (scaledRoot (absOf x) (absOf y))
 unfolding hypotOf
 hypot-is x y p q = sym (cond-yes _ _ (ap₂ _&&_ (finite-same x ∙ is-true (finite x) p) (finite-same y ∙ is-true (finite y) q)))
 
@@ -256,16 +302,26 @@ module _ (x y : Float) (f : T (fits binary64 x)) (g : T (fits binary64 y)) (p : 
   pub hypot-near : T (finite (hypotOf x y)) → Near (hypotErr (val larger)) (val (hypotOf x y) *q val (hypotOf x y)) (val x *q val x +q val y *q val y)
   hypot-near t =
       subst₂ (λ h s. Near (hypotErr (val larger)) (val h *q val h) s) (sym (hypot-is x y p q)) (ap₂ _+q_ (abs-square x) (abs-square y))
-      (go (lt (absOf x) (absOf y)) (lt-yes (absOf x) (absOf y) (abs-finite x p) (abs-finite y q)) (lt-no (absOf x) (absOf y) (abs-finite x p) (abs-finite y q)) (subst (λ h. T (finite h)) (hypot-is x y p q) t))
+      (go (lt (absOf x) (absOf y)) (lt-yes (absOf x) (absOf y) (abs-finite x p) (abs-finite y q))
+      (lt-no (absOf x) (absOf y) (abs-finite x p) (abs-finite y q)) (subst (λ h. T (finite h)) (hypot-is x y p q) t))
     where
-      go : (b : Bool) → (b ≡ true → val (absOf x) ≤q val (absOf y)) → (b ≡ false → val (absOf y) ≤q val (absOf x)) → T (finite (cond b (scaledRoot (absOf y) (absOf x)) (scaledRoot (absOf x) (absOf y))))
-          → Near (hypotErr (val (cond b (absOf y) (absOf x)))) (val (cond b (scaledRoot (absOf y) (absOf x)) (scaledRoot (absOf x) (absOf y))) *q val (cond b (scaledRoot (absOf y) (absOf x)) (scaledRoot (absOf x) (absOf y)))) (val (absOf x) *q val (absOf x) +q val (absOf y) *q val (absOf y))
-      go true l m t = subst (λ s. Near (hypotErr (val (absOf y))) (val (scaledRoot (absOf y) (absOf x)) *q val (scaledRoot (absOf y) (absOf x))) s) (+q-comm (val (absOf y) *q val (absOf y)) (val (absOf x) *q val (absOf x))) (scaled-law (absOf y) (absOf x) (abs-fits y g) (abs-unsigned y q) (abs-finite x p) (abs-nn x) (l refl) t)
+      go : (b : Bool) → (b ≡ true → val (absOf x) ≤q val (absOf y)) → (b ≡ false → val (absOf y) ≤q val (absOf x))
+          → T (finite (cond b (scaledRoot (absOf y) (absOf x)) (scaledRoot (absOf x) (absOf y))))
+          → Near (hypotErr (val (cond b (absOf y) (absOf x)))) (val (cond b (scaledRoot (absOf y) (absOf x)) (scaledRoot (absOf x) (absOf y)))
+          *q val (cond b (scaledRoot (absOf y) (absOf x)) (scaledRoot (absOf x) (absOf y))))
+          (val (absOf x) *q val (absOf x) +q val (absOf y) *q val (absOf y))
+      go true l m t =
+          subst (λ s. Near (hypotErr (val (absOf y))) (val (scaledRoot (absOf y) (absOf x)) *q val (scaledRoot (absOf y) (absOf x))) s)
+          (+q-comm (val (absOf y) *q val (absOf y)) (val (absOf x) *q val (absOf x)))
+          (scaled-law (absOf y) (absOf x) (abs-fits y g) (abs-unsigned y q) (abs-finite x p) (abs-nn x) (l refl) t)
       go false l m t = scaled-law (absOf x) (absOf y) (abs-fits x f) (abs-unsigned x p) (abs-finite y q) (abs-nn y) (m refl) t
 
   -- for a larger magnitude of at least 2 ^ -1022: within 2 ^ -48 m²
-  pub hypot-normal : T (finite (hypotOf x y)) → mk (tiny 1022) ≤q val larger → Near (mk (tiny 48) *q (val larger *q val larger)) (val (hypotOf x y) *q val (hypotOf x y)) (val x *q val x +q val y *q val y)
-  hypot-normal t l = near-mono (hypotErr (val larger)) (mk (tiny 48) *q (val larger *q val larger)) (val (hypotOf x y) *q val (hypotOf x y)) (val x *q val x +q val y *q val y) (err-normal (val larger) l) (hypot-near t)
+  pub hypot-normal : T (finite (hypotOf x y)) → mk (tiny 1022) ≤q val larger
+      → Near (mk (tiny 48) *q (val larger *q val larger)) (val (hypotOf x y) *q val (hypotOf x y)) (val x *q val x +q val y *q val y)
+  hypot-normal t l =
+      near-mono (hypotErr (val larger)) (mk (tiny 48) *q (val larger *q val larger)) (val (hypotOf x y) *q val (hypotOf x y))
+      (val x *q val x +q val y *q val y) (err-normal (val larger) l) (hypot-near t)
 
   -- for arguments of at most A / U, where the test passes: a finite result, within N / U
   pub hypot-within : (A N : ℕ) → T (hyp-fits A N) → Abs (val x) A → Abs (val y) A → Hyp N x y (hypotOf x y)
@@ -273,6 +329,11 @@ module _ (x y : Float) (f : T (fits binary64 x)) (g : T (fits binary64 y)) (p : 
       subst (Hyp N x y) (sym (hypot-is x y p q))
       (go (lt (absOf x) (absOf y)) (lt-yes (absOf x) (absOf y) (abs-finite x p) (abs-finite y q)) (lt-no (absOf x) (absOf y) (abs-finite x p) (abs-finite y q)))
     where
-      go : (b : Bool) → (b ≡ true → val (absOf x) ≤q val (absOf y)) → (b ≡ false → val (absOf y) ≤q val (absOf x)) → Hyp N x y (cond b (scaledRoot (absOf y) (absOf x)) (scaledRoot (absOf x) (absOf y)))
-      go true l m = scaled-within A N k (absOf y) (absOf x) x y (abs-fits y g) (abs-unsigned y q) (abs-finite x p) (abs-nn x) (l refl) (abs-abs y A b) (+q-comm (val (absOf y) *q val (absOf y)) (val (absOf x) *q val (absOf x)) ∙ ap₂ _+q_ (abs-square x) (abs-square y))
-      go false l m = scaled-within A N k (absOf x) (absOf y) x y (abs-fits x f) (abs-unsigned x p) (abs-finite y q) (abs-nn y) (m refl) (abs-abs x A a) (ap₂ _+q_ (abs-square x) (abs-square y))
+      go : (b : Bool) → (b ≡ true → val (absOf x) ≤q val (absOf y)) → (b ≡ false → val (absOf y) ≤q val (absOf x))
+          → Hyp N x y (cond b (scaledRoot (absOf y) (absOf x)) (scaledRoot (absOf x) (absOf y)))
+      go true l m =
+          scaled-within A N k (absOf y) (absOf x) x y (abs-fits y g) (abs-unsigned y q) (abs-finite x p) (abs-nn x) (l refl) (abs-abs y A b)
+          (+q-comm (val (absOf y) *q val (absOf y)) (val (absOf x) *q val (absOf x)) ∙ ap₂ _+q_ (abs-square x) (abs-square y))
+      go false l m =
+          scaled-within A N k (absOf x) (absOf y) x y (abs-fits x f) (abs-unsigned x p) (abs-finite y q)
+          (abs-nn y) (m refl) (abs-abs x A a) (ap₂ _+q_ (abs-square x) (abs-square y))

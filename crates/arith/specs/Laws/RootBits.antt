@@ -1,4 +1,4 @@
--- Between a float, its number of units 2 ^ -1074 and its bits. Assumes nothing.
+-- Between a float, its number of units 2 ^ -1074 and its bits.
 use mathlib.Core.Path.{_≡_, refl, sym, ap, _∙_, subst}
 use mathlib.Core.Bool.{Bool, true, false, not, cond}
 use Prim.Native.Nat.{ℕ, zero, suc, _+_, _-_, _*_, _/_, _%_, _^_, _≤_, _<_}
@@ -24,14 +24,17 @@ unfolding toBits
 toBits-at f nan A v = absurd v
 toBits-at f (inf s) A v = absurd v
 toBits-at f (fin s m e) A v =
-    ap (λ (b : Bool). cond b (top f) 0 + (size (m * up e * 2 ^ low f / down e) - prec f) * hid f + m * up e * 2 ^ low f / down e / 2 ^ (size (m * up e * 2 ^ low f / down e) - prec f)) (v .0)
+    ap (λ (b : Bool). cond b (top f) 0 + (size (m * up e * 2 ^ low f / down e) - prec f) * hid f
+    + m * up e * 2 ^ low f / down e / 2 ^ (size (m * up e * 2 ^ low f / down e) - prec f)) (v .0)
     ∙ ap (λ (n : ℕ). 0 + (size n - prec f) * hid f + n / 2 ^ (size n - prec f)) (cut f m A e (v .1))
 
 size-is : (n j : ℕ) → 2 ^ j ≤ n → n < 2 ^ suc j → size n ≡ suc j
 size-is n j a b = le-antisymm (size-le n (suc j) b) (lt-of-not-le (λ (g : size n ≤ j). not-le-of-lt (lt-of-lt-of-le (size-lt n) (pow-mono g)) a))
 
 size-of : (q k : ℕ) → 2 ^ 52 ≤ q → q < 2 ^ 53 → size (q * 2 ^ k) - 53 ≡ k
-size-of q k a b = ap (λ (x : ℕ). x - 53) (size-is (q * 2 ^ k) (52 + k) (le-trans (le-of-eq (pow-add 2 52 k)) (mul-le-mul-right (2 ^ k) a)) (subst (λ (x : ℕ). q * 2 ^ k < 2 ^ x) (more k) (shl-lt 53 k b))) ∙ less k
+size-of q k a b =
+    ap (λ (x : ℕ). x - 53) (size-is (q * 2 ^ k) (52 + k) (le-trans (le-of-eq (pow-add 2 52 k)) (mul-le-mul-right (2 ^ k) a))
+    (subst (λ (x : ℕ). q * 2 ^ k < 2 ^ x) (more k) (shl-lt 53 k b))) ∙ less k
   where
     more : (k : ℕ) → 53 + k ≡ suc (52 + k)
     more k = omega arith
@@ -75,8 +78,8 @@ bits-are q k a b c =
 pub room : (M : ℕ) → M + 2 ≤ 2 ^ 54 → M * 2 ^ 52 + 2 ^ 53 ≤ 2 ^ 53 * 2 ^ 53
 room M h = omega arith
 
-pub room' : (n : ℕ) → n + 2 ^ 53 ≤ 2 ^ 53 * 2 ^ 53 → n < 2 ^ 106
-room' n h = omega arith
+pub under-room : (n : ℕ) → n + 2 ^ 53 ≤ 2 ^ 53 * 2 ^ 53 → n < 2 ^ 106
+under-room n h = omega arith
 
 small : (k q : ℕ) → k < 2046 → q < 2 ^ 53 → k * 4503599627370496 + q < 9218868437227405312
 small k q a b = omega arith
@@ -89,8 +92,9 @@ joined M k q a b c n =
     let q-lo = near-lo (M * 2 ^ 52) q lo n in
     let q-hi = near-hi (M * 2 ^ 52) q hi n in (
       small k q c q-hi,
-      bits-are q k q-lo q-hi c ∙ sym (round-at (M * 2 ^ 52) k q lo (room' (M * 2 ^ 52) hi) n)
-          ∙ ap (λ (x : ℕ). roundRoot binary64 x) (mul-assoc M (2 ^ 52) (2 ^ k * 2 ^ k) ∙ ap (λ (x : ℕ). M * x) (sym (pow-add 2 52 (k + k) ∙ ap (λ (x : ℕ). 2 ^ 52 * x) (pow-add 2 k k)))),
+      bits-are q k q-lo q-hi c ∙ sym (round-at (M * 2 ^ 52) k q lo (under-room (M * 2 ^ 52) hi) n)
+          ∙ ap (λ (x : ℕ). roundRoot binary64 x)
+          (mul-assoc M (2 ^ 52) (2 ^ k * 2 ^ k) ∙ ap (λ (x : ℕ). M * x) (sym (pow-add 2 52 (k + k) ∙ ap (λ (x : ℕ). 2 ^ 52 * x) (pow-add 2 k k)))),
     )
 
 pub even-at : (h : ℕ) → h % 2 ≡ 0 → 52 ≤ h → 52 + (h / 2 - 26 + (h / 2 - 26)) ≡ h
@@ -120,16 +124,21 @@ odd-low m h = omega arith
 abbrev pub Joined : ℕ → ℕ → ℕ → Type 0
 Joined m h r = (r < 9218868437227405312) × (ofBits binary64 r ≡ roundRoot binary64 (m * 2 ^ h))
 
-pub join-even : (m h q : ℕ) → 2 ^ 52 ≤ m → m < 2 ^ 53 → 52 ≤ h → h < 4000 → h % 2 ≡ 0 → NearRoot (m * 2 ^ 52) q → Joined m h ((h / 2 - 26) * 4503599627370496 + q)
+pub join-even : (m h q : ℕ) → 2 ^ 52 ≤ m → m < 2 ^ 53 → 52 ≤ h → h < 4000 → h % 2 ≡ 0
+    → NearRoot (m * 2 ^ 52) q → Joined m h ((h / 2 - 26) * 4503599627370496 + q)
 join-even m h q a b c d e n =
     let j = joined m (h / 2 - 26) q a (even-room m b) (drop-lt h d) n in
     (j .0, j .1 ∙ ap (λ (x : ℕ). roundRoot binary64 (m * 2 ^ x)) (even-at h e c))
 
-pub join-odd : (m h q : ℕ) → 2 ^ 52 ≤ m → m < 2 ^ 53 → 52 ≤ h → h < 4000 → (h % 2 ≡ 0 → ⊥) → NearRoot (2 * m * 2 ^ 52) q → Joined m h ((h / 2 - 26) * 4503599627370496 + q)
+pub join-odd : (m h q : ℕ) → 2 ^ 52 ≤ m → m < 2 ^ 53 → 52 ≤ h → h < 4000 → (h % 2 ≡ 0 → ⊥)
+    → NearRoot (2 * m * 2 ^ 52) q → Joined m h ((h / 2 - 26) * 4503599627370496 + q)
 join-odd m h q a b c d e n =
     let x = 52 + (h / 2 - 26 + (h / 2 - 26)) in
-    let j = joined (2 * m) (h / 2 - 26) q (odd-low m a) (odd-room m b) (drop-lt h d) n in
-    (j .0, j .1 ∙ ap (λ (y : ℕ). roundRoot binary64 y) (ap (λ (y : ℕ). y * 2 ^ x) (mul-comm 2 m) ∙ mul-assoc m 2 (2 ^ x) ∙ ap (λ (y : ℕ). m * y) (sym (pow-succ' 2 x)) ∙ ap (λ (y : ℕ). m * 2 ^ y) (odd-at h e c)))
+    let j = joined (2 * m) (h / 2 - 26) q (odd-low m a) (odd-room m b) (drop-lt h d) n in (
+      j .0,
+      j .1 ∙ ap (λ (y : ℕ). roundRoot binary64 y) (ap (λ (y : ℕ). y * 2 ^ x) (mul-comm 2 m) ∙ mul-assoc m 2 (2 ^ x)
+          ∙ ap (λ (y : ℕ). m * y) (sym (pow-succ' 2 x)) ∙ ap (λ (y : ℕ). m * 2 ^ y) (odd-at h e c)),
+    )
 
 -- ---- the value of the bits b, which are neither 0 nor those of an infinity or more
 no-sign : (b : ℕ) → b < 9218868437227405312 → b % top binary64 ≡ b
@@ -140,7 +149,9 @@ plus b h = is-false (leb (top binary64) b) (not-T (leb (top binary64) b) (λ t. 
 
 pub fields : (b : ℕ) → b < 9218868437227405312 → ofBits binary64 b ≡ ofFields binary64 false (b / 4503599627370496) (b % 4503599627370496)
 unfolding ofBits
-fields b h = ap (λ (s : Bool). ofFields binary64 s (b % top binary64 / 4503599627370496) (b % 4503599627370496)) (plus b h) ∙ ap (λ (x : ℕ). ofFields binary64 false (x / 4503599627370496) (b % 4503599627370496)) (no-sign b h)
+fields b h =
+    ap (λ (s : Bool). ofFields binary64 s (b % top binary64 / 4503599627370496) (b % 4503599627370496)) (plus b h)
+    ∙ ap (λ (x : ℕ). ofFields binary64 false (x / 4503599627370496) (b % 4503599627370496)) (no-sign b h)
 
 pub exponent-lt : (b : ℕ) → b < 9218868437227405312 → b / 4503599627370496 < 2047
 exponent-lt b h = omega arith
@@ -158,11 +169,13 @@ low-value t = odd-sign 53 false t 0 1074
 pub high-value : (x t : ℕ) → suc x < 2047 → HasValue (ofFields binary64 false (suc x) t) false ((4503599627370496 + t) * 2 ^ x) (2 ^ 1074)
 unfolding ofFields
 high-value x t h =
-    subst (λ (b : Bool). HasValue (cond b (cond (eqb t 0) (inf false) nan) (odd 53 false (4503599627370496 + t) x 1074)) false ((4503599627370496 + t) * 2 ^ x) (2 ^ 1074)) (sym (not-ones x h))
+    subst (λ (b : Bool). HasValue (cond b (cond (eqb t 0) (inf false) nan) (odd 53 false (4503599627370496 + t) x 1074)) false
+    ((4503599627370496 + t) * 2 ^ x) (2 ^ 1074)) (sym (not-ones x h))
     (odd-sign 53 false (4503599627370496 + t) x 1074)
 
 -- `sqrt` of the bits of a subnormal, whose digits t are not 0
-pub sqrt-low : (b : ℕ) → 0 < b → b < 9218868437227405312 → b / 4503599627370496 ≡ 0 → sqrt binary64 (ofBits binary64 b) ≡ roundRoot binary64 (b % 4503599627370496 * 2 ^ 1074)
+pub sqrt-low : (b : ℕ) → 0 < b → b < 9218868437227405312 → b / 4503599627370496 ≡ 0
+    → sqrt binary64 (ofBits binary64 b) ≡ roundRoot binary64 (b % 4503599627370496 * 2 ^ 1074)
 sqrt-low b p h e =
     let t = b % 4503599627370496 in
     ap (λ (x : Float). sqrt binary64 x) (fields b h ∙ ap (λ (x : ℕ). ofFields binary64 false x t) e)
@@ -176,12 +189,15 @@ pub sqrt-high : (b : ℕ) → b < 9218868437227405312 → (b / 4503599627370496 
     → sqrt binary64 (ofBits binary64 b) ≡ roundRoot binary64 ((b % 4503599627370496 + 4503599627370496) * 2 ^ (b / 4503599627370496 + 1073))
 sqrt-high b h f = ap (λ (x : Float). sqrt binary64 x) (fields b h) ∙ go (b / 4503599627370496) (exponent-lt b h) f
   where
-    go : (x : ℕ) → x < 2047 → (x ≡ 0 → ⊥) → sqrt binary64 (ofFields binary64 false x (b % 4503599627370496)) ≡ roundRoot binary64 ((b % 4503599627370496 + 4503599627370496) * 2 ^ (x + 1073))
+    go : (x : ℕ) → x < 2047 → (x ≡ 0 → ⊥) → sqrt binary64 (ofFields binary64 false x (b % 4503599627370496))
+        ≡ roundRoot binary64 ((b % 4503599627370496 + 4503599627370496) * 2 ^ (x + 1073))
     go zero l n = absurd (n refl)
     go (suc x) l n =
         let t = b % 4503599627370496 in
         sqrt-at binary64 (ofFields binary64 false (suc x) t) ((4503599627370496 + t) * 2 ^ x) (mul-pos (first t) (pow-pos x)) (high-value x t l)
-        ∙ ap (λ (y : ℕ). roundRoot binary64 y) (mul-assoc (4503599627370496 + t) (2 ^ x) (2 ^ 1074) ∙ ap (λ (y : ℕ). (4503599627370496 + t) * y) (sym (pow-add 2 x 1074)) ∙ ap (λ (y : ℕ). (4503599627370496 + t) * 2 ^ y) (shift x) ∙ ap (λ (y : ℕ). y * 2 ^ (suc x + 1073)) (add-comm 4503599627370496 t))
+        ∙ ap (λ (y : ℕ). roundRoot binary64 y)
+        (mul-assoc (4503599627370496 + t) (2 ^ x) (2 ^ 1074) ∙ ap (λ (y : ℕ). (4503599627370496 + t) * y) (sym (pow-add 2 x 1074))
+        ∙ ap (λ (y : ℕ). (4503599627370496 + t) * 2 ^ y) (shift x) ∙ ap (λ (y : ℕ). y * 2 ^ (suc x + 1073)) (add-comm 4503599627370496 t))
       where
         first : (t : ℕ) → 0 < 4503599627370496 + t
         first t = omega arith
@@ -209,9 +225,11 @@ shifted t p h =
     go j z s a b =
         let l = place j a in
         let exact : (t * 2 ^ (z - 11)) % 2 ^ 64 ≡ t * 2 ^ (z - 11) = shl-exact (suc j) (z - 11) 64 b (omega arith) in
-        let lo' : 2 ^ 52 ≤ t * 2 ^ (z - 11) = le-trans (le-of-eq (ap (λ (x : ℕ). 2 ^ x) (up-to j z s l) ∙ pow-add 2 j (z - 11))) (mul-le-mul-right (2 ^ (z - 11)) a) in
+        let lo' : 2 ^ 52 ≤ t * 2 ^ (z - 11) =
+        le-trans (le-of-eq (ap (λ (x : ℕ). 2 ^ x) (up-to j z s l) ∙ pow-add 2 j (z - 11))) (mul-le-mul-right (2 ^ (z - 11)) a) in
         let hi' : t * 2 ^ (z - 11) < 2 ^ 53 = subst (λ (x : ℕ). t * 2 ^ (z - 11) < 2 ^ x) (up-to' j z s l) (shl-lt (suc j) (z - 11) b) in
-        let same' : t * 2 ^ (z - 11) * 2 ^ (1085 - z) ≡ t * 2 ^ 1074 = mul-assoc t (2 ^ (z - 11)) (2 ^ (1085 - z)) ∙ ap (λ (x : ℕ). t * x) (sym (pow-add 2 (z - 11) (1085 - z))) ∙ ap (λ (x : ℕ). t * 2 ^ x) (whole j z s l) in
+        let same' : t * 2 ^ (z - 11) * 2 ^ (1085 - z) ≡ t * 2 ^ 1074 = mul-assoc t (2 ^ (z - 11)) (2 ^ (1085 - z))
+        ∙ ap (λ (x : ℕ). t * x) (sym (pow-add 2 (z - 11) (1085 - z))) ∙ ap (λ (x : ℕ). t * 2 ^ x) (whole j z s l) in
         record {
           z-lo = omega arith;
           z-hi = omega arith;

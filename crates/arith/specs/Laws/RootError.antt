@@ -42,7 +42,9 @@ module _ (n q W : ℕ) (r : NearRoot n q) where
 
 -- x < 4 gives W / 2 ≤ L / 2 ^ 53
 last-place : (n k A : ℕ) → A * 2 ^ 1074 ≡ n * (2 ^ k * 2 ^ k) → 2 ^ 104 ≤ n → A < 4 * 2 ^ 1074 → k < 1023
-last-place n k A e l h = lt-of-not-le (λ (g : 1023 ≤ k). not-le-of-lt (lt-of-le-of-lt (le-of-eq (sym e)) (mul-lt-mul-of-pos-right h (pow-pos 1074))) (le-trans (lit≤ tt) (mul-le-mul l (mul-le-mul (pow-mono g) (pow-mono g)))))
+last-place n k A e l h =
+    lt-of-not-le (λ (g : 1023 ≤ k). not-le-of-lt (lt-of-le-of-lt (le-of-eq (sym e)) (mul-lt-mul-of-pos-right h (pow-pos 1074)))
+    (le-trans (lit≤ tt) (mul-le-mul l (mul-le-mul (pow-mono g) (pow-mono g)))))
 
 -- ---- in fractions
 module _ (A B W L : ℕ) (P : 0 < L) (P2 : 0 < 2 * L) where
@@ -60,11 +62,17 @@ module _ (A B W L : ℕ) (P : 0 < L) (P2 : 0 < 2 * L) where
   unfolding _+q_
   sum-is = Quot·sound (omega arith)
 
-  low-frac : 4 * (B * B) + W * W ≤ 4 * (A * L) + 4 * (B * W) → (sg false B L P -q sg false W (2 * L) P2) *q (sg false B L P -q sg false W (2 * L) P2) ≤q sg false A L P
-  low-frac h = subst (λ z. z *q z ≤q sg false A L P) (sym diff-is) (subst (λ z. z ≤q sg false A L P) (sym (*q-mk low-diff low-diff)) (≤-mk (mulF low-diff low-diff) (sgF false A L P) (let z = mul-le-mul-right L h in omega arith)))
+  low-frac : 4 * (B * B) + W * W ≤ 4 * (A * L) + 4 * (B * W)
+      → (sg false B L P -q sg false W (2 * L) P2) *q (sg false B L P -q sg false W (2 * L) P2) ≤q sg false A L P
+  low-frac h =
+      subst (λ z. z *q z ≤q sg false A L P) (sym diff-is) (subst (λ z. z ≤q sg false A L P) (sym (*q-mk low-diff low-diff))
+      (≤-mk (mulF low-diff low-diff) (sgF false A L P) (let z = mul-le-mul-right L h in omega arith)))
 
-  high-frac : 4 * (A * L) ≤ 4 * (B * B) + 4 * (B * W) + W * W → sg false A L P ≤q (sg false B L P +q sg false W (2 * L) P2) *q (sg false B L P +q sg false W (2 * L) P2)
-  high-frac h = subst (λ z. sg false A L P ≤q z *q z) (sym sum-is) (subst (λ z. sg false A L P ≤q z) (sym (*q-mk high-sum high-sum)) (≤-mk (sgF false A L P) (mulF high-sum high-sum) (let z = mul-le-mul-right L h in omega arith)))
+  high-frac : 4 * (A * L) ≤ 4 * (B * B) + 4 * (B * W) + W * W
+      → sg false A L P ≤q (sg false B L P +q sg false W (2 * L) P2) *q (sg false B L P +q sg false W (2 * L) P2)
+  high-frac h =
+      subst (λ z. sg false A L P ≤q z *q z) (sym sum-is) (subst (λ z. sg false A L P ≤q z) (sym (*q-mk high-sum high-sum))
+      (≤-mk (sgF false A L P) (mulF high-sum high-sum) (let z = mul-le-mul-right L h in omega arith)))
 
 abbrev pub quarter : Fr
 quarter = record { p = 1; n = 0; d = 4; dp = lit< tt }
@@ -98,14 +106,16 @@ unfolding sameQ den comb
 widen-low x r h a b c =
     let H : List Rx = (rv 0 ⊖ (rv 1 ⊖ rv 2) ⊗ (rv 1 ⊖ rv 2)) ∷ (rat u ⊖ rv 2) ∷ (rv 1 ⊖ rat quarter) ∷ [] in
     let N : Nns (x ∷ r ∷ h ∷ []) H = (≤q-sub ((r -q h) *q (r -q h)) x a, (≤q-sub h (mk u) b, (≤q-sub (mk quarter) r c, tt))) in
-    sub-≤q ((r -q mk u) *q (r -q mk u)) x (by-nn (x ∷ r ∷ h ∷ []) [] tt H N [] (hyp 0 ⊞ hyp 1 ⊠ (num 2 0 ⊠ hyp 2 ⊞ hyp 1 ⊞ num 4503599627370494 9007199254740991)) (rv 0 ⊖ (rv 1 ⊖ rat u) ⊗ (rv 1 ⊖ rat u)) tt)
+    sub-≤q ((r -q mk u) *q (r -q mk u)) x (by-nn (x ∷ r ∷ h ∷ []) [] tt H N []
+    (hyp 0 ⊞ hyp 1 ⊠ (num 2 0 ⊠ hyp 2 ⊞ hyp 1 ⊞ num 4503599627370494 9007199254740991)) (rv 0 ⊖ (rv 1 ⊖ rat u) ⊗ (rv 1 ⊖ rat u)) tt)
 
 widen-high : (x r h : ℚ) → x ≤q (r +q h) *q (r +q h) → h ≤q mk u → mk quarter ≤q r → 0≤ h → x ≤q (r +q mk u) *q (r +q mk u)
 unfolding sameQ den comb
 widen-high x r h a b c d =
     let H : List Rx = ((rv 1 ⊕ rv 2) ⊗ (rv 1 ⊕ rv 2) ⊖ rv 0) ∷ (rat u ⊖ rv 2) ∷ (rv 1 ⊖ rat quarter) ∷ rv 2 ∷ [] in
     let N : Nns (x ∷ r ∷ h ∷ []) H = (≤q-sub x ((r +q h) *q (r +q h)) a, (≤q-sub h (mk u) b, (≤q-sub (mk quarter) r c, (d, tt)))) in
-    sub-≤q x ((r +q mk u) *q (r +q mk u)) (by-nn (x ∷ r ∷ h ∷ []) [] tt H N [] (hyp 0 ⊞ hyp 1 ⊠ (num 2 0 ⊠ hyp 2 ⊞ hyp 3 ⊞ num 4503599627370497 9007199254740991)) ((rv 1 ⊕ rat u) ⊗ (rv 1 ⊕ rat u) ⊖ rv 0) tt)
+    sub-≤q x ((r +q mk u) *q (r +q mk u)) (by-nn (x ∷ r ∷ h ∷ []) [] tt H N []
+    (hyp 0 ⊞ hyp 1 ⊠ (num 2 0 ⊠ hyp 2 ⊞ hyp 3 ⊞ num 4503599627370497 9007199254740991)) ((rv 1 ⊕ rat u) ⊗ (rv 1 ⊕ rat u) ⊖ rv 0) tt)
 
 pub root-ok : (x : Float) → T (fits binary64 x) → T (finite x) → mk quarter ≤q val x → val x <q qn 4 → Root x (sqrt binary64 x)
 root-ok x f p a b =
@@ -121,12 +131,15 @@ root-ok x f p a b =
     let h = sg false W (2 * L) P2 in
     let k : R .k < 1023 = last-place (R .n) (R .k) (R .A) (R .square) (R .n-low) (four-in (R .A) L P (subst (λ z. z <q qn 4) v b)) in
     let small : h ≤q mk u = place-out W L P2 (fine (R .k) k) in
-    let big : mk quarter ≤q r = quarter-out B L P (large-whole (R .n) (R .q) W (R .near) (R .A) L (R .square) (le-trans (lit≤ tt) (R .q-low)) (quarter-in (R .A) L P (subst (λ z. mk quarter ≤q z) v a))) in
+    let big : mk quarter ≤q r = quarter-out B L P (large-whole (R .n) (R .q) W (R .near) (R .A) L (R .square)
+    (le-trans (lit≤ tt) (R .q-low)) (quarter-in (R .A) L P (subst (λ z. mk quarter ≤q z) v a))) in
     record {
       is-finite = w .0;
       not-neg = subst 0≤ (sym (w .1)) (sg-nn B L P);
-      low = subst₂ (λ r x. (r -q mk u) *q (r -q mk u) ≤q x) (sym (w .1)) (sym v) (widen-low (sg false (R .A) L P) r h (low-frac (R .A) B W L P P2 (low-whole (R .n) (R .q) W (R .near) (R .A) L (R .square))) small big);
-      high = subst₂ (λ r x. x ≤q (r +q mk u) *q (r +q mk u)) (sym (w .1)) (sym v) (widen-high (sg false (R .A) L P) r h (high-frac (R .A) B W L P P2 (high-whole (R .n) (R .q) W (R .near) (R .A) L (R .square))) small big (sg-nn W (2 * L) P2));
+      low = subst₂ (λ r x. (r -q mk u) *q (r -q mk u) ≤q x) (sym (w .1)) (sym v)
+          (widen-low (sg false (R .A) L P) r h (low-frac (R .A) B W L P P2 (low-whole (R .n) (R .q) W (R .near) (R .A) L (R .square))) small big);
+      high = subst₂ (λ r x. x ≤q (r +q mk u) *q (r +q mk u)) (sym (w .1)) (sym v) (widen-high (sg false (R .A) L P) r h
+          (high-frac (R .A) B W L P P2 (high-whole (R .n) (R .q) W (R .near) (R .A) L (R .square))) small big (sg-nn W (2 * L) P2));
     }
   where
     fine : (k : ℕ) → k < 1023 → 2 ^ k * 4503599627370496 ≤ 2 ^ 1074

@@ -1,4 +1,4 @@
--- The rounded root of m * 2 ^ 52 from the whole root s of m and one division. Assumes nothing.
+-- The rounded root of m * 2 ^ 52 from the whole root s of m and one division.
 use mathlib.Core.Path.{_≡_}
 use Prim.Native.Nat.{ℕ, zero, suc, _+_, _-_, _*_, _/_, _%_, _^_, _≤_, _<_}
 use native.Mathlib.Nat.{mod-lt, div-add-mod', mul-le-mul-right, mul-le-mul, lt-of-not-le, not-le-of-lt, le-of-suc-le-suc}
@@ -83,8 +83,14 @@ square-less : (s t : ℕ) → 67108864 ≤ s → t * t ≤ 4503599627370496 → 
 square-less s zero a b = omega arith
 square-less s (suc t) a b = square-small s (suc t) (suc t * suc t) a b (omega arith)
 
-pub near-up : (m s : ℕ) → Halves m s → wide m s / s * (wide m s / s) + (s * 67108864 + wide m s / s) < wide m s % s * 134217728 → NearRoot (m * 2 ^ 52) (s * 67108864 + wide m s / s + 1)
-near-up m s h = up (m * 2 ^ 52) (s * 67108864 + wide m s / s) (wide m s % s * 134217728) (wide m s / s * (wide m s / s)) (h .total) (rest-small (wide m s % s) s (wide m s / s) (h .p-hi))
+pub near-up : (m s : ℕ) → Halves m s → wide m s / s * (wide m s / s) + (s * 67108864 + wide m s / s) < wide m s % s * 134217728
+    → NearRoot (m * 2 ^ 52) (s * 67108864 + wide m s / s + 1)
+near-up m s h =
+    up (m * 2 ^ 52) (s * 67108864 + wide m s / s) (wide m s % s * 134217728) (wide m s / s * (wide m s / s))
+    (h .total) (rest-small (wide m s % s) s (wide m s / s) (h .p-hi))
 
-pub near-stay : (m s : ℕ) → Halves m s → wide m s % s * 134217728 ≤ wide m s / s * (wide m s / s) + (s * 67108864 + wide m s / s) → NearRoot (m * 2 ^ 52) (s * 67108864 + wide m s / s)
-near-stay m s h = stay (m * 2 ^ 52) (s * 67108864 + wide m s / s) (wide m s % s * 134217728) (wide m s / s * (wide m s / s)) (h .total) (square-less s (wide m s / s) (h .s-lo) (h .tt-hi))
+pub near-stay : (m s : ℕ) → Halves m s → wide m s % s * 134217728 ≤ wide m s / s * (wide m s / s) + (s * 67108864 + wide m s / s)
+    → NearRoot (m * 2 ^ 52) (s * 67108864 + wide m s / s)
+near-stay m s h =
+    stay (m * 2 ^ 52) (s * 67108864 + wide m s / s) (wide m s % s * 134217728)
+    (wide m s / s * (wide m s / s)) (h .total) (square-less s (wide m s / s) (h .s-lo) (h .tt-hi))

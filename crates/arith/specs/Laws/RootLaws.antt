@@ -1,17 +1,17 @@
 -- What `root`, `roundRoot` and `sqrt` of `specs/Root.antt` give. `root-is`: root n is the largest r with r * r ≤ n. `round-at`: for an n of 105 or 106 digits whose root is nearest to q,
--- `roundRoot` of n * 4 ^ k is q * 2 ^ k units. Assumes nothing.
-use mathlib.Core.Path.{_≡_, refl, sym, ap, _∙_, subst}
+-- `roundRoot` of n * 4 ^ k is q * 2 ^ k units.
+use mathlib.Core.Path.{_≡_, sym, ap, _∙_, subst}
 use mathlib.Core.Bool.{Bool, true, false, not, cond}
 use Prim.Native.Nat.{ℕ, zero, suc, _+_, _-_, _*_, _/_, _^_, _≤_, _<_, compare, Ordering, Ordering·lt, Ordering·eq, Ordering·gt}
 use native.Mathlib.Nat.{le-trans, le-of-eq, le-of-suc-le-suc, lt-of-le-of-lt, lt-of-lt-of-le, lt-of-not-le, not-le-of-lt, le-antisymm, zero-mul, lt-irrefl, mul-assoc, mul-pos, mul-le-mul-right, mul-lt-mul-of-pos-right, mul-mul-mul-comm, mul-div-cancel, lt-of-mul-lt-mul-right, eq-of-mul-eq-mul-right, le-dest, suc-add}
 use native.Mathlib.Omega.{arith}
-use lib.Dec.{T, isLe, isEq, leb, leb→le, nleb→lt, eqb, eqb→eq, eqb-refl}
-use lib.Arith.{lt-of-le-ne}
+use lib.Dec.{T, leb, leb→le, nleb→lt}
 use lib.Pow.{pow-add, pow-pos, pow-mono}
 use lib.Ieee.{Float, nan, inf, fin, Format, binary64, low, up, down, size, units, nearest}
 use lib.Ieee.Digits.{size-lt, size-le}
 use lib.Ieee.Fits.{down-pos}
 use lib.Ieee.Exact.{HasValue}
+use Rattle.exact.specs.Grid.{Cmp, cmp}
 use Rattle.arith.specs.Root.{raise, rootIn, root, roundRoot, sqrt, NearRoot}
 use Rattle.arith.specs.Laws.RootHalves.{square-lt}
 
@@ -19,10 +19,11 @@ use Rattle.arith.specs.Laws.RootHalves.{square-lt}
 quarter : (n r : ℕ) → r * r ≤ n / 4 → 2 * r * (2 * r) ≤ n
 quarter n r h = omega arith
 
-quarter' : (n r : ℕ) → n / 4 < suc r * suc r → n < (2 * r + 2) * (2 * r + 2)
-quarter' n r h = omega arith
+quarter-above : (n r : ℕ) → n / 4 < suc r * suc r → n < (2 * r + 2) * (2 * r + 2)
+quarter-above n r h = omega arith
 
-raise-is : (n r : ℕ) → 2 * r * (2 * r) ≤ n → n < (2 * r + 2) * (2 * r + 2) → (raise n (2 * r) * raise n (2 * r) ≤ n) × (n < suc (raise n (2 * r)) * suc (raise n (2 * r)))
+raise-is : (n r : ℕ) → 2 * r * (2 * r) ≤ n → n < (2 * r + 2) * (2 * r + 2)
+    → (raise n (2 * r) * raise n (2 * r) ≤ n) × (n < suc (raise n (2 * r)) * suc (raise n (2 * r)))
 raise-is n r a b = go (leb ((2 * r + 1) * (2 * r + 1)) n) (leb→le ((2 * r + 1) * (2 * r + 1)) n) (nleb→lt ((2 * r + 1) * (2 * r + 1)) n)
   where
     go : (t : Bool) → (T t → (2 * r + 1) * (2 * r + 1) ≤ n) → (T (not t) → n < (2 * r + 1) * (2 * r + 1))
@@ -44,7 +45,7 @@ unfolding rootIn
 rootIn-is zero n h = (omega arith, omega arith)
 rootIn-is (suc d) n h =
     let ih = rootIn-is d (n / 4) (fewer d n h) in
-    raise-is n (rootIn d (n / 4)) (quarter n (rootIn d (n / 4)) (ih .0)) (quarter' n (rootIn d (n / 4)) (ih .1))
+    raise-is n (rootIn d (n / 4)) (quarter n (rootIn d (n / 4)) (ih .0)) (quarter-above n (rootIn d (n / 4)) (ih .1))
 
 twice-le : (d : ℕ) → d ≤ d + d
 twice-le d = omega arith
@@ -52,20 +53,6 @@ twice-le d = omega arith
 pub root-is : (n : ℕ) → (root n * root n ≤ n) × (n < suc (root n) * suc (root n))
 unfolding root
 root-is n = rootIn-is (size n) n (lt-of-lt-of-le (size-lt n) (pow-mono (twice-le (size n))))
-
--- ---- what `compare` says
-abbrev Cmp : Ordering → ℕ → ℕ → Type 0
-Cmp Ordering·lt a b = a < b
-Cmp Ordering·eq a b = a ≡ b
-Cmp Ordering·gt a b = b < a
-
-cmp : (a b : ℕ) → Cmp (compare a b) a b
-cmp a b = go (compare a b) (leb→le a b) (nleb→lt a b) (eqb→eq a b) (λ (e : a ≡ b). subst (λ (x : ℕ). T (eqb a x)) e (eqb-refl a))
-  where
-    go : (o : Ordering) → (T (isLe o) → a ≤ b) → (T (not (isLe o)) → b < a) → (T (isEq o) → a ≡ b) → (a ≡ b → T (isEq o)) → Cmp o a b
-    go Ordering·lt h k e n = lt-of-le-ne (h tt) n
-    go Ordering·eq h k e n = e tt
-    go Ordering·gt h k e n = k tt
 
 -- ---- the root rounded
 -- no number is a quarter more than a whole one: there is no tie
@@ -129,7 +116,8 @@ root-size n j k a b =
     let r = root (n * p) in
     size-is r (j + k)
     (le-of-suc-le-suc (square-lt (2 ^ (j + k)) (suc r) (lt-of-le-of-lt (le-trans (le-of-eq (square j k)) (mul-le-mul-right p a)) (root-is (n * p) .1))))
-    (subst (λ (x : ℕ). r < 2 ^ x) (suc-add j k) (square-lt r (2 ^ (suc j + k)) (lt-of-le-of-lt (root-is (n * p) .0) (lt-of-lt-of-le (mul-lt-mul-of-pos-right b P) (le-of-eq (sym (square (suc j) k)))))))
+    (subst (λ (x : ℕ). r < 2 ^ x) (suc-add j k) (square-lt r (2 ^ (suc j + k))
+    (lt-of-le-of-lt (root-is (n * p) .0) (lt-of-lt-of-le (mul-lt-mul-of-pos-right b P) (le-of-eq (sym (square (suc j) k)))))))
 
 excess : (k : ℕ) → suc (52 + k) - 53 ≡ k
 excess k = omega arith
@@ -144,7 +132,8 @@ round-at n k q a b h =
     let P : 0 < p = mul-pos (pow-pos k) (pow-pos k) in
     let v = n * p in
     let e : size (root v) - 53 ≡ k = ap (λ (x : ℕ). x - 53) (root-size n 52 k a b) ∙ excess k in
-    ap (λ (x : ℕ). units binary64 false (nearest (root (v / (2 ^ x * 2 ^ x))) (compare (4 * v) ((2 * root (v / (2 ^ x * 2 ^ x)) + 1) * (2 * root (v / (2 ^ x * 2 ^ x)) + 1) * (2 ^ x * 2 ^ x)))) x) e
+    ap (λ (x : ℕ). units binary64 false (nearest (root (v / (2 ^ x * 2 ^ x)))
+    (compare (4 * v) ((2 * root (v / (2 ^ x * 2 ^ x)) + 1) * (2 * root (v / (2 ^ x * 2 ^ x)) + 1) * (2 ^ x * 2 ^ x)))) x) e
     ∙ ap (λ (x : ℕ). units binary64 false (nearest (root x) (compare (4 * v) ((2 * root x + 1) * (2 * root x + 1) * p))) k) (mul-div-cancel n P)
     ∙ ap (λ (x : ℕ). units binary64 false x k) (choice n p q P (positive n a) h)
 
@@ -156,7 +145,8 @@ too-big : (n B d : ℕ) → 1 ≤ B → n + B ≤ B * B → (B + d) * (B + d) < 
 too-big n B d o a h = let z = mul-le-mul-right d o in omega arith
 
 pub near-hi : (n q : ℕ) → n + 2 ^ 53 ≤ 2 ^ 53 * 2 ^ 53 → NearRoot n q → q < 2 ^ 53
-near-hi n q a h = lt-of-not-le (λ (g : 2 ^ 53 ≤ q). too-big n (2 ^ 53) (le-dest g .0) (pow-pos 53) a (subst (λ (x : ℕ). x * x < n + x) (sym (le-dest g .1)) (h .0)))
+near-hi n q a h =
+    lt-of-not-le (λ (g : 2 ^ 53 ≤ q). too-big n (2 ^ 53) (le-dest g .0) (pow-pos 53) a (subst (λ (x : ℕ). x * x < n + x) (sym (le-dest g .1)) (h .0)))
 
 -- ---- `sqrt` of a value that is known as a number of units
 no-zero : (A d : ℕ) (e : ℕ) → 0 < A → 0 < d → 0 * e ≡ A * d → ⊥

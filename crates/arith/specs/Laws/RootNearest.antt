@@ -31,7 +31,8 @@ pos-of a b h = omega arith
 square-less : (a b : ℕ) → a < b → a * a < b * b
 square-less a b h = lt-of-le-of-lt (mul-le-mul-left a (le-of-lt h)) (mul-lt-mul-of-pos-right h (pos-of a b h))
 
-middle-above : (m j k q n : ℕ) → m < 2 ^ 53 → 2 ^ 52 ≤ q → NearRoot n q → q * 2 ^ k < m * 2 ^ j → 4 * (n * (2 ^ k * 2 ^ k)) < (m * 2 ^ j + q * 2 ^ k) * (m * 2 ^ j + q * 2 ^ k)
+middle-above : (m j k q n : ℕ) → m < 2 ^ 53 → 2 ^ 52 ≤ q → NearRoot n q → q * 2 ^ k < m * 2 ^ j
+    → 4 * (n * (2 ^ k * 2 ^ k)) < (m * 2 ^ j + q * 2 ^ k) * (m * 2 ^ j + q * 2 ^ k)
 middle-above m j k q n a b r h = go (2 ^ k) (m * 2 ^ j) (pow-pos k) (above-next m j k q a b h)
   where
     up : (w : ℕ) → 0 < w → n * (w * w) ≤ (q * q + q) * (w * w) → 4 * (n * (w * w)) < ((q + 1) * w + q * w) * ((q + 1) * w + q * w)
@@ -40,7 +41,8 @@ middle-above m j k q n a b r h = go (2 ^ k) (m * 2 ^ j) (pow-pos k) (above-next 
     go : (w B : ℕ) → 0 < w → (q + 1) * w ≤ B → 4 * (n * (w * w)) < (B + q * w) * (B + q * w)
     go w B p l = lt-of-lt-of-le (up w p (mul-le-mul-right (w * w) (r .1))) (square-le ((q + 1) * w + q * w) (B + q * w) (omega arith))
 
-middle-below : (m j k q n : ℕ) → m < 2 ^ 53 → 2 ^ 52 ≤ q → 2 ^ 104 ≤ n → NearRoot n q → m * 2 ^ j < q * 2 ^ k → (m * 2 ^ j + q * 2 ^ k) * (m * 2 ^ j + q * 2 ^ k) < 4 * (n * (2 ^ k * 2 ^ k))
+middle-below : (m j k q n : ℕ) → m < 2 ^ 53 → 2 ^ 52 ≤ q → 2 ^ 104 ≤ n → NearRoot n q
+    → m * 2 ^ j < q * 2 ^ k → (m * 2 ^ j + q * 2 ^ k) * (m * 2 ^ j + q * 2 ^ k) < 4 * (n * (2 ^ k * 2 ^ k))
 middle-below m j k q n a b c r h = by (eq-or-lt-of-le b)
   where
     -- q is the least of its binade, and the root is at least q
@@ -61,14 +63,17 @@ middle-below m j k q n a b c r h = by (eq-or-lt-of-le b)
         fill P e g = let z = subst (λ (x : ℕ). B ≤ x * w) e g in omega arith
 
     by : (2 ^ 52 ≡ q) ⊎ (2 ^ 52 < q) → (m * 2 ^ j + q * 2 ^ k) * (m * 2 ^ j + q * 2 ^ k) < 4 * (n * (2 ^ k * 2 ^ k))
-    by (inl e) = subst (λ (x : ℕ). (m * 2 ^ j + x * 2 ^ k) * (m * 2 ^ j + x * 2 ^ k) < 4 * (n * (2 ^ k * 2 ^ k))) e (least (2 ^ k) (m * 2 ^ j) (subst (λ (x : ℕ). m * 2 ^ j < x * 2 ^ k) (sym e) h) (mul-le-mul-right (2 ^ k * 2 ^ k) c))
+    by (inl e) =
+        subst (λ (x : ℕ). (m * 2 ^ j + x * 2 ^ k) * (m * 2 ^ j + x * 2 ^ k) < 4 * (n * (2 ^ k * 2 ^ k))) e
+        (least (2 ^ k) (m * 2 ^ j) (subst (λ (x : ℕ). m * 2 ^ j < x * 2 ^ k) (sym e) h) (mul-le-mul-right (2 ^ k * 2 ^ k) c))
     by (inr l) = next q (2 ^ k) (m * 2 ^ j) (pow-pos k) l (r .0) (below-next m j k q a l h)
 
 -- ---- in fractions
 four-frac : (A L : ℕ) (P : 0 < L) → qn 4 *q sg false A L P ≡ sg false (4 * (A * L)) (L * L) (mul-pos P P)
 four-frac A L P = *q-mk (whole 4 0) (sgF false A L P) ∙ Quot·sound (omega arith)
 
-both-frac : (a b L : ℕ) (P : 0 < L) → (sg false a L P +q sg false b L P) *q (sg false a L P +q sg false b L P) ≡ sg false ((a + b) * (a + b)) (L * L) (mul-pos P P)
+both-frac : (a b L : ℕ) (P : 0 < L)
+    → (sg false a L P +q sg false b L P) *q (sg false a L P +q sg false b L P) ≡ sg false ((a + b) * (a + b)) (L * L) (mul-pos P P)
 both-frac a b L P = ap (λ z. z *q z) (sym (plus a b L P)) ∙ sym (times false false (a + b) (a + b) L L P P)
 
 pub positive-of : (x : Float) → T (finite x) → qn 0 <q val x → T (positive x)
@@ -122,10 +127,12 @@ module _ (x : Float) (f : T (fits binary64 x)) (p : T (finite x)) (above : qn 0 
     pub below-nearer : val z <q val (sqrt binary64 x) → (val z +q val (sqrt binary64 x)) *q (val z +q val (sqrt binary64 x)) <q qn 4 *q val x
     below-nearer t =
         let l = frac-less (point .m * 2 ^ point .j) (own .q * 2 ^ own .k) (2 ^ 1074) L (subst₂ _<q_ (point .is) (root-has .1) t) in
-        subst₂ _<q_ (sym middle) (sym four-x) (less-frac _ _ (2 ^ 1074 * 2 ^ 1074) (mul-pos L L) (middle-below (point .m) (point .j) (own .k) (own .q) (own .n) (point .digits) (own .q-low) (own .n-low) (own .near) l))
+        subst₂ _<q_ (sym middle) (sym four-x) (less-frac _ _ (2 ^ 1074 * 2 ^ 1074) (mul-pos L L)
+        (middle-below (point .m) (point .j) (own .k) (own .q) (own .n) (point .digits) (own .q-low) (own .n-low) (own .near) l))
 
     -- a representable z above it: the root of x is below the middle of z and r
     pub above-nearer : val (sqrt binary64 x) <q val z → qn 4 *q val x <q (val z +q val (sqrt binary64 x)) *q (val z +q val (sqrt binary64 x))
     above-nearer t =
         let l = frac-less (own .q * 2 ^ own .k) (point .m * 2 ^ point .j) (2 ^ 1074) L (subst₂ _<q_ (root-has .1) (point .is) t) in
-        subst₂ _<q_ (sym four-x) (sym middle) (less-frac _ _ (2 ^ 1074 * 2 ^ 1074) (mul-pos L L) (middle-above (point .m) (point .j) (own .k) (own .q) (own .n) (point .digits) (own .q-low) (own .near) l))
+        subst₂ _<q_ (sym four-x) (sym middle) (less-frac _ _ (2 ^ 1074 * 2 ^ 1074) (mul-pos L L)
+        (middle-above (point .m) (point .j) (own .k) (own .q) (own .n) (point .digits) (own .q-low) (own .near) l))

@@ -16,7 +16,7 @@ use lib.Ieee.Exact.{HasValue, units-val}
 use lib.Ieee.Positive.{positive}
 use Rattle.arith.specs.Root.{roundRoot, sqrt, NearRoot}
 use Rattle.arith.specs.Laws.RootLaws.{round-at, near-lo, near-hi, sqrt-at, near-exists}
-use Rattle.arith.specs.Laws.RootBits.{fine, units-fit, room, room', even-at, odd-at, drop-lt, even-room, odd-room, odd-low}
+use Rattle.arith.specs.Laws.RootBits.{fine, units-fit, room, under-room, even-at, odd-at, drop-lt, even-room, odd-room, odd-low}
 
 -- ---- a finite double is a whole number m * 2 ^ j of units, m of at most 53 digits
 pub record Units (x : Float) (s : Bool) : Type 0 where
@@ -27,10 +27,13 @@ pub record Units (x : Float) (s : Bool) : Type 0 where
   pub value : HasValue x s (m * 2 ^ j) (2 ^ 1074)
 
 whole-exponent : (m k : ℕ) → 0 < m → m * 2 ^ k < 2 ^ 1024 * 1 → k < 1024
-whole-exponent m k p h = lt-of-not-le (λ (g : 1024 ≤ k). not-le-of-lt h (le-trans (lit≤ tt) (le-trans (pow-mono g) (le-trans (le-of-eq (sym (one-mul (2 ^ k)))) (mul-le-mul-right (2 ^ k) p)))))
+whole-exponent m k p h =
+    lt-of-not-le (λ (g : 1024 ≤ k). not-le-of-lt h
+    (le-trans (lit≤ tt) (le-trans (pow-mono g) (le-trans (le-of-eq (sym (one-mul (2 ^ k)))) (mul-le-mul-right (2 ^ k) p)))))
 
 part-exponent : (k : ℕ) → 2 ^ suc k ≤ 2 ^ 1074 → suc k ≤ 1074
-part-exponent k h = le-of-suc-le-suc (lt-of-not-le (λ (g : 1075 ≤ suc k). not-le-of-lt (lt-of-le-of-lt h (pow-lt {i = 1074} {j = 1075} (lit≤ tt))) (pow-mono g)))
+part-exponent k h =
+    le-of-suc-le-suc (lt-of-not-le (λ (g : 1075 ≤ suc k). not-le-of-lt (lt-of-le-of-lt h (pow-lt {i = 1074} {j = 1075} (lit≤ tt))) (pow-mono g)))
 
 units-of : (s : Bool) (m : ℕ) (e : ℤ) → 0 < m → m < 2 ^ 53 → down e ≤ 2 ^ 1074 → m * up e < 2 ^ 1024 * down e → Units (fin s m e) s
 units-of s m (pos k) p d l h = record {
@@ -47,7 +50,11 @@ units-of s m (negsuc k) p d l h =
       j = 1074 - suc k;
       digits = d;
       scale = omega arith;
-      value = (refl, ap (λ (x : ℕ). x * 2 ^ 1074) (mul-one m) ∙ ap (λ (x : ℕ). m * 2 ^ x) (sym (back k g)) ∙ ap (λ (x : ℕ). m * x) (pow-add 2 (1074 - suc k) (suc k)) ∙ sym (mul-assoc m (2 ^ (1074 - suc k)) (2 ^ suc k)));
+      value = (
+        refl,
+        ap (λ (x : ℕ). x * 2 ^ 1074) (mul-one m) ∙ ap (λ (x : ℕ). m * 2 ^ x) (sym (back k g))
+            ∙ ap (λ (x : ℕ). m * x) (pow-add 2 (1074 - suc k) (suc k)) ∙ sym (mul-assoc m (2 ^ (1074 - suc k)) (2 ^ suc k)),
+      );
     }
   where
     back : (k : ℕ) → suc k ≤ 1074 → 1074 - suc k + suc k ≡ 1074
@@ -55,7 +62,13 @@ units-of s m (negsuc k) p d l h =
 
 pub in-units : (s : Bool) (m : ℕ) (e : ℤ) → T (fits binary64 (fin s m e)) → Units (fin s m e) s
 unfolding fits
-in-units s zero e f = record { m = 0; j = 0; digits = pow-pos 53; scale = lit≤ tt; value = (refl, ap (λ (x : ℕ). x * 2 ^ 1074) (zero-mul (up e)) ∙ sym (zero-mul (down e))) }
+in-units s zero e f = record {
+  m = 0;
+  j = 0;
+  digits = pow-pos 53;
+  scale = lit≤ tt;
+  value = (refl, ap (λ (x : ℕ). x * 2 ^ 1074) (zero-mul (up e)) ∙ sym (zero-mul (down e)));
+}
 in-units s (suc m) e f =
     let odd = eqb (suc m % 2) 1 in
     let few = ltb (suc m) (2 ^ 53) in
@@ -63,7 +76,8 @@ in-units s (suc m) e f =
     let below = ltb (suc m * up e) (2 ^ 1024 * down e) in
     let f' = and-l (odd && few && fine) below f in
     let f'' = and-l (odd && few) fine f' in
-    units-of s (suc m) e (zero-lt-suc m) (ltb→lt (suc m) (2 ^ 53) (and-r odd few f'')) (leb→le (down e) (2 ^ 1074) (and-r (odd && few) fine f')) (ltb→lt (suc m * up e) (2 ^ 1024 * down e) (and-r (odd && few && fine) below f))
+    units-of s (suc m) e (zero-lt-suc m) (ltb→lt (suc m) (2 ^ 53) (and-r odd few f'')) (leb→le (down e) (2 ^ 1074) (and-r (odd && few) fine f'))
+    (ltb→lt (suc m * up e) (2 ^ 1024 * down e) (and-r (odd && few && fine) below f))
 
 -- ---- the root
 pub record RootUnits (x : Float) : Type 0 where
@@ -84,7 +98,8 @@ positive-n : (n : ℕ) → 20282409603651670423947251286016 ≤ n → 0 < n
 positive-n n h = omega arith
 
 -- x is A units, and that times 2 ^ 1074 is M * 2 ^ 52 times 4 ^ k, as `join` has it
-rooted-at : (x : Float) (A M k : ℕ) → HasValue x false A (2 ^ 1074) → sqrt binary64 x ≡ roundRoot binary64 (A * 2 ^ 1074) → A * 2 ^ 1074 ≡ M * 2 ^ 52 * (2 ^ k * 2 ^ k) → 2 ^ 52 ≤ M → M + 2 ≤ 2 ^ 54 → k < 2046 → RootUnits x
+rooted-at : (x : Float) (A M k : ℕ) → HasValue x false A (2 ^ 1074) → sqrt binary64 x ≡ roundRoot binary64 (A * 2 ^ 1074)
+    → A * 2 ^ 1074 ≡ M * 2 ^ 52 * (2 ^ k * 2 ^ k) → 2 ^ 52 ≤ M → M + 2 ≤ 2 ^ 54 → k < 2046 → RootUnits x
 rooted-at x A M k v s e a b c =
     let n = M * 2 ^ 52 in
     let lo : 2 ^ 104 ≤ n = mul-le-mul-right (2 ^ 52) a in
@@ -93,7 +108,7 @@ rooted-at x A M k v s e a b c =
     let q = w .0 in
     let h = w .1 in
     let q-hi = near-hi n q hi h in
-    let is : sqrt binary64 x ≡ units binary64 false q k = s ∙ ap (λ (z : ℕ). roundRoot binary64 z) e ∙ round-at n k q lo (room' n hi) h in
+    let is : sqrt binary64 x ≡ units binary64 false q k = s ∙ ap (λ (z : ℕ). roundRoot binary64 z) e ∙ round-at n k q lo (under-room n hi) h in
     record {
       A = A;
       n = n;
@@ -120,20 +135,28 @@ scaled m s l a b = (low-part, subst (λ (z : ℕ). m * 2 ^ (53 - s) < 2 ^ z) (fi
     half z h = omega arith
 
     low-part : 2 ^ 52 ≤ m * 2 ^ (53 - s)
-    low-part = half (m * 2 ^ (53 - s)) (le-trans (le-of-eq (ap (λ (z : ℕ). 2 ^ z) (sym (fill s l)) ∙ pow-add 2 s (53 - s))) (le-trans (mul-le-mul-right (2 ^ (53 - s)) a) (le-of-eq (mul-assoc 2 m (2 ^ (53 - s))))))
+    low-part =
+        half (m * 2 ^ (53 - s)) (le-trans (le-of-eq (ap (λ (z : ℕ). 2 ^ z) (sym (fill s l)) ∙ pow-add 2 s (53 - s)))
+        (le-trans (mul-le-mul-right (2 ^ (53 - s)) a) (le-of-eq (mul-assoc 2 m (2 ^ (53 - s))))))
 
-rooted-even : (x : Float) (A M h : ℕ) → HasValue x false A (2 ^ 1074) → sqrt binary64 x ≡ roundRoot binary64 (A * 2 ^ 1074) → A * 2 ^ 1074 ≡ M * 2 ^ h → 2 ^ 52 ≤ M → M < 2 ^ 53 → 52 ≤ h → h < 4000 → h % 2 ≡ 0 → RootUnits x
+rooted-even : (x : Float) (A M h : ℕ) → HasValue x false A (2 ^ 1074) → sqrt binary64 x ≡ roundRoot binary64 (A * 2 ^ 1074)
+    → A * 2 ^ 1074 ≡ M * 2 ^ h → 2 ^ 52 ≤ M → M < 2 ^ 53 → 52 ≤ h → h < 4000 → h % 2 ≡ 0 → RootUnits x
 rooted-even x A M h v s e a b c d p =
     let k = h / 2 - 26 in
     rooted-at x A M k v s
-    (e ∙ ap (λ (z : ℕ). M * 2 ^ z) (sym (even-at h p c)) ∙ ap (λ (z : ℕ). M * z) (pow-add 2 52 (k + k) ∙ ap (λ (z : ℕ). 2 ^ 52 * z) (pow-add 2 k k)) ∙ sym (mul-assoc M (2 ^ 52) (2 ^ k * 2 ^ k))) a (even-room M b) (drop-lt h d)
+    (e ∙ ap (λ (z : ℕ). M * 2 ^ z) (sym (even-at h p c)) ∙ ap (λ (z : ℕ). M * z) (pow-add 2 52 (k + k) ∙ ap (λ (z : ℕ). 2 ^ 52 * z) (pow-add 2 k k))
+    ∙ sym (mul-assoc M (2 ^ 52) (2 ^ k * 2 ^ k))) a (even-room M b) (drop-lt h d)
 
-rooted-odd : (x : Float) (A M h : ℕ) → HasValue x false A (2 ^ 1074) → sqrt binary64 x ≡ roundRoot binary64 (A * 2 ^ 1074) → A * 2 ^ 1074 ≡ M * 2 ^ h → 2 ^ 52 ≤ M → M < 2 ^ 53 → 52 ≤ h → h < 4000 → (h % 2 ≡ 0 → ⊥) → RootUnits x
+rooted-odd : (x : Float) (A M h : ℕ) → HasValue x false A (2 ^ 1074) → sqrt binary64 x ≡ roundRoot binary64 (A * 2 ^ 1074)
+    → A * 2 ^ 1074 ≡ M * 2 ^ h → 2 ^ 52 ≤ M → M < 2 ^ 53 → 52 ≤ h → h < 4000 → (h % 2 ≡ 0 → ⊥) → RootUnits x
 rooted-odd x A M h v s e a b c d p =
     let k = h / 2 - 26 in
     rooted-at x A (2 * M) k v s
-    (e ∙ ap (λ (z : ℕ). M * 2 ^ z) (sym (odd-at h p c)) ∙ ap (λ (z : ℕ). M * z) (pow-succ' 2 (52 + (k + k))) ∙ mul-left-comm M 2 (2 ^ (52 + (k + k))) ∙ sym (mul-assoc 2 M (2 ^ (52 + (k + k))))
-    ∙ ap (λ (z : ℕ). 2 * M * z) (pow-add 2 52 (k + k) ∙ ap (λ (z : ℕ). 2 ^ 52 * z) (pow-add 2 k k)) ∙ sym (mul-assoc (2 * M) (2 ^ 52) (2 ^ k * 2 ^ k))) (odd-low M a) (odd-room M b) (drop-lt h d)
+    (e ∙ ap (λ (z : ℕ). M * 2 ^ z) (sym (odd-at h p c)) ∙ ap (λ (z : ℕ). M * z) (pow-succ' 2 (52 + (k + k)))
+    ∙ mul-left-comm M 2 (2 ^ (52 + (k + k))) ∙ sym (mul-assoc 2 M (2 ^ (52 + (k + k))))
+    ∙ ap (λ (z : ℕ). 2 * M * z) (pow-add 2 52 (k + k) ∙ ap (λ (z : ℕ). 2 ^ 52 * z) (pow-add 2 k k))
+    ∙ sym (mul-assoc (2 * M) (2 ^ 52) (2 ^ k * 2 ^ k))) (odd-low M a)
+    (odd-room M b) (drop-lt h d)
 
 rooted-units : (x : Float) (m j : ℕ) → 0 < m → m < 2 ^ 53 → j ≤ 2098 → HasValue x false (m * 2 ^ j) (2 ^ 1074) → RootUnits x
 rooted-units x m j p q l val =
@@ -143,7 +166,9 @@ rooted-units x m j p q l val =
     let sc = scaled m s s-hi (top-digit m s refl (size-pos m p)) (size-lt m) in
     let M = m * 2 ^ (53 - s) in
     let h = j + 1021 + s in
-    let e : A * 2 ^ 1074 ≡ M * 2 ^ h = mul-assoc m (2 ^ j) (2 ^ 1074) ∙ ap (λ (z : ℕ). m * z) (sym (pow-add 2 j 1074) ∙ ap (λ (z : ℕ). 2 ^ z) (whole j s s-hi) ∙ pow-add 2 (53 - s) h) ∙ sym (mul-assoc m (2 ^ (53 - s)) (2 ^ h)) in
+    let e : A * 2 ^ 1074 ≡ M * 2 ^ h = mul-assoc m (2 ^ j) (2 ^ 1074)
+    ∙ ap (λ (z : ℕ). m * z) (sym (pow-add 2 j 1074) ∙ ap (λ (z : ℕ). 2 ^ z) (whole j s s-hi) ∙ pow-add 2 (53 - s) h)
+    ∙ sym (mul-assoc m (2 ^ (53 - s)) (2 ^ h)) in
     go A M h (ℕ-discrete (h % 2) 0) val (sqrt-at binary64 x A (mul-pos p (pow-pos j)) val) e (sc .0) (sc .1) (reach j s) (bounded j s l s-hi)
   where
     size-pos : (m : ℕ) → 0 < m → 0 < size m
@@ -162,7 +187,8 @@ rooted-units x m j p q l val =
     bounded : (j s : ℕ) → j ≤ 2098 → s ≤ 53 → j + 1021 + s < 4000
     bounded j s a b = omega arith
 
-    go : (A M h : ℕ) → Dec (h % 2 ≡ 0) → HasValue x false A (2 ^ 1074) → sqrt binary64 x ≡ roundRoot binary64 (A * 2 ^ 1074) → A * 2 ^ 1074 ≡ M * 2 ^ h → 2 ^ 52 ≤ M → M < 2 ^ 53 → 52 ≤ h → h < 4000 → RootUnits x
+    go : (A M h : ℕ) → Dec (h % 2 ≡ 0) → HasValue x false A (2 ^ 1074) → sqrt binary64 x ≡ roundRoot binary64 (A * 2 ^ 1074)
+        → A * 2 ^ 1074 ≡ M * 2 ^ h → 2 ^ 52 ≤ M → M < 2 ^ 53 → 52 ≤ h → h < 4000 → RootUnits x
     go A M h (yes z) v s e a b c d = rooted-even x A M h v s e a b c d z
     go A M h (no z) v s e a b c d = rooted-odd x A M h v s e a b c d z
 
@@ -176,5 +202,7 @@ root-units (fin false (suc m) e) f p =
     rooted-units (fin false (suc m) e) (u .m) (u .j) (above (u .m) (u .j) (u .value .1)) (u .digits) (u .scale) (u .value)
   where
     above : (n j : ℕ) → suc m * up e * 2 ^ 1074 ≡ n * 2 ^ j * down e → 0 < n
-    above zero j h = absurd (lt-irrefl 0 (subst (λ (x : ℕ). 0 < x) (h ∙ ap (λ (x : ℕ). x * down e) (zero-mul (2 ^ j)) ∙ zero-mul (down e)) (mul-pos (mul-pos (zero-lt-suc m) (up-pos e)) (pow-pos 1074))))
+    above zero j h =
+        absurd (lt-irrefl 0 (subst (λ (x : ℕ). 0 < x) (h ∙ ap (λ (x : ℕ). x * down e) (zero-mul (2 ^ j)) ∙ zero-mul (down e))
+        (mul-pos (mul-pos (zero-lt-suc m) (up-pos e)) (pow-pos 1074))))
     above (suc n) j h = zero-lt-suc n

@@ -193,19 +193,24 @@ X-tested : (h : ℚ) (x : Float) (k : ℕ) → k ≤ 3 → 0≤ h → Rel x (X h
 unfolding sameQ den comb iv U
 X-tested h x k l p r t =
     let e = abs-mono (val x -q X h k) (err (bx k)) (2 ^ 206) (bx-err k l) (r .2) in
-    let g : 0≤ (iv (2 ^ 255) -q val x) = subst (λ z. 0≤ (z -q val x)) (sym half-val) (≤q-sub (val x) (val (ratio 1 2)) (subst T (sym t ∙ le-val x (ratio 1 2) (r .0) half-finite) tt)) in
+    let g : 0≤ (iv (2 ^ 255) -q val x) =
+    subst (λ z. 0≤ (z -q val x)) (sym half-val) (≤q-sub (val x) (val (ratio 1 2)) (subst T (sym t ∙ le-val x (ratio 1 2) (r .0) half-finite) tt)) in
     let ρ : List ℚ = X h k ∷ val x ∷ [] in
     let H : List Rx = rv 0 ∷ (rat (ivF (2 ^ 255)) ⊖ rv 1) ∷ (rat (ivF (2 ^ 206)) ⊕ (rv 1 ⊖ rv 0)) ∷ [] in
-    let P : Nns ρ H = (X-nn h k p, (g, (e .1, tt))) in
-    (by-nn ρ [] tt H P [] (hyp 1 ⊞ hyp 2) (rat (ivF xmax) ⊖ rv 0) tt, by-nn ρ [] tt H P [] (hyp 0 ⊞ num 562949953421313 1125899906842623) (rat (ivF xmax) ⊕ rv 0) tt)
+    let P : Nns ρ H = (X-nn h k p, (g, (e .1, tt))) in (
+      by-nn ρ [] tt H P [] (hyp 1 ⊞ hyp 2) (rat (ivF xmax) ⊖ rv 0) tt,
+      by-nn ρ [] tt H P [] (hyp 0 ⊞ num 562949953421313 1125899906842623) (rat (ivF xmax) ⊕ rv 0) tt,
+    )
 
 -- and after three halvings of an angle of at most 4 it need not be made
 X-third : (h : ℚ) → 0≤ h → 0≤ (qn 4 -q h) → Abs (X h 3) xmax
 unfolding sameQ den comb iv U X
 X-third h a b =
     let H : List Rx = rv 0 ∷ (nat 4 ⊖ rv 0) ∷ [] in
-    let e = rv 0 ⊗ rat halfF ⊗ rat halfF ⊗ rat halfF in
-    (by-nn (h ∷ []) [] tt H (a, (b, tt)) [] (num 1 7 ⊠ hyp 1 ⊞ num 1 1125899906842623) (rat (ivF xmax) ⊖ e) tt, by-nn (h ∷ []) [] tt H (a, (b, tt)) [] (num 1 7 ⊠ hyp 0 ⊞ num 562949953421313 1125899906842623) (rat (ivF xmax) ⊕ e) tt)
+    let e = rv 0 ⊗ rat halfF ⊗ rat halfF ⊗ rat halfF in (
+      by-nn (h ∷ []) [] tt H (a, (b, tt)) [] (num 1 7 ⊠ hyp 1 ⊞ num 1 1125899906842623) (rat (ivF xmax) ⊖ e) tt,
+      by-nn (h ∷ []) [] tt H (a, (b, tt)) [] (num 1 7 ⊠ hyp 0 ⊞ num 562949953421313 1125899906842623) (rat (ivF xmax) ⊕ e) tt,
+    )
 
 -- ---- the sums and the doubling
 min-or : (a b : ℕ) → (min a b ≡ a) ⊎ (min a b ≡ b)
@@ -232,8 +237,10 @@ unfolding S C X db chk β₀ free halfTurn
 start h x k l m r =
     let g : Good (x ∷ []) (X h k ∷ []) (β₀ k) = ((r .0, X-xm (X h k) k m (r .1), r .2), tt) in
     let o = db-ok k l 0 (lit≤ tt) in (
-      subst (λ f. Rel f (S h k 0) (db k 0 .0)) (sine-runs x) (sound (x ∷ []) (X h k ∷ []) (β₀ k) g (sineE (fv 0)) (known (X h k ∷ []) (sineE (fv 0)) tt) (and-l (ok (db k 0 .0)) (ok (db k 0 .1)) o)),
-      subst (λ f. Rel f (C h k 0) (db k 0 .1)) (cosine-runs x) (sound (x ∷ []) (X h k ∷ []) (β₀ k) g (cosineE (fv 0)) (known (X h k ∷ []) (cosineE (fv 0)) tt) (and-r (ok (db k 0 .0)) (ok (db k 0 .1)) o)),
+      subst (λ f. Rel f (S h k 0) (db k 0 .0)) (sine-runs x)
+          (sound (x ∷ []) (X h k ∷ []) (β₀ k) g (sineE (fv 0)) (known (X h k ∷ []) (sineE (fv 0)) tt) (and-l (ok (db k 0 .0)) (ok (db k 0 .1)) o)),
+      subst (λ f. Rel f (C h k 0) (db k 0 .1)) (cosine-runs x)
+          (sound (x ∷ []) (X h k ∷ []) (β₀ k) g (cosineE (fv 0)) (known (X h k ∷ []) (cosineE (fv 0)) tt) (and-r (ok (db k 0 .0)) (ok (db k 0 .1)) o)),
     )
 
 again : (h : ℚ) (t : Turn) (k i : ℕ) → k ≤ 3 → suc i ≤ 3 → Turned h k i t → Turned h k (suc i) (doubled t)
@@ -295,7 +302,9 @@ grow (suc k) m = grow k (m + m)
 h-abs : (h : ℚ) (k m : ℕ) → Abs (X h k) m → Abs h (grow k m)
 unfolding grow X sameQ
 h-abs h zero m a = a
-h-abs h (suc k) m a = h-abs h k (m + m) (abs-eq (X h (suc k) +q X h (suc k)) (X h k) (m + m) (ringQ (X h k ∷ []) (rv 0 ⊗ rat halfF ⊕ rv 0 ⊗ rat halfF) (rv 0) tt) (abs-add (X h (suc k)) (X h (suc k)) m m a a))
+h-abs h (suc k) m a =
+    h-abs h k (m + m) (abs-eq (X h (suc k) +q X h (suc k)) (X h k) (m + m)
+    (ringQ (X h k ∷ []) (rv 0 ⊗ rat halfF ⊕ rv 0 ⊗ rat halfF) (rv 0) tt) (abs-add (X h (suc k)) (X h (suc k)) m m a a))
 
 close : ℚ → ℕ → Fx → Rx → Bool
 unfolding bndR toR grow plain
@@ -306,7 +315,8 @@ unfolding close fs sineR cosineR
 polys x k l = all3 (λ k. close x k (fs k k .0) sineR && close x k (fs k k .1) cosineR) tt tt tt tt k l
 
 -- |f - g| ≤ e and |g - y| ≤ e
-done : (h : ℚ) (k : ℕ) (e : Fx) (p : Rx) → T (close h k e p) → Abs (X h k) xmax → (f : ℚ) → Abs (f -q exact (h ∷ []) e) (2 ^ (256 - 41)) → Abs (f -q evR (h ∷ []) p) (2 ^ (256 - 40))
+done : (h : ℚ) (k : ℕ) (e : Fx) (p : Rx) → T (close h k e p) → Abs (X h k) xmax → (f : ℚ)
+    → Abs (f -q exact (h ∷ []) e) (2 ^ (256 - 41)) → Abs (f -q evR (h ∷ []) p) (2 ^ (256 - 40))
 unfolding close sameQ
 done h k e p t m f A =
     let d = toR e ⊖ p in
@@ -317,7 +327,8 @@ done h k e p t m f A =
     let t2 = and-r (leb (bndR h (grow k xmax) d) N) (plain e) t in
     let B = abs-mono (evR (h ∷ []) d) (bndR h (grow k xmax) d) N (leb→le (bndR h (grow k xmax) d) N t1) (bndR-ok h (grow k xmax) (h-abs h k xmax m) d) in
     let B' = abs-eq (evR (h ∷ []) d) (g -q y) N (ap (λ z. z -q y) (toR-ok (h ∷ []) e t2)) B in
-    abs-eq ((f -q g) +q (g -q y)) (f -q y) (2 ^ (256 - 40)) (ringQ (f ∷ g ∷ y ∷ []) ((rv 0 ⊖ rv 1) ⊕ (rv 1 ⊖ rv 2)) (rv 0 ⊖ rv 2) tt) (abs-add (f -q g) (g -q y) N N A B')
+    abs-eq ((f -q g) +q (g -q y)) (f -q y) (2 ^ (256 - 40))
+    (ringQ (f ∷ g ∷ y ∷ []) ((rv 0 ⊖ rv 1) ⊕ (rv 1 ⊖ rv 2)) (rv 0 ⊖ rv 2) tt) (abs-add (f -q g) (g -q y) N N A B')
 
 -- ---- the law
 pub record SinesNear (x : ℚ) (t : Turn) : Type 0 where
@@ -330,8 +341,10 @@ near-of : (a b : ℚ) → Abs (a -q b) (2 ^ (256 - 40)) → Near (mk (tiny 40)) 
 unfolding sameQ den comb iv U
 near-of a b h =
     let H : List Rx = (rat (ivF (2 ^ (256 - 40))) ⊖ (rv 0 ⊖ rv 1)) ∷ (rat (ivF (2 ^ (256 - 40))) ⊕ (rv 0 ⊖ rv 1)) ∷ [] in
-    let ρ : List ℚ = a ∷ b ∷ [] in
-    (sub-≤q a (b +q mk (tiny 40)) (by-nn ρ [] tt H (h .0, (h .1, tt)) [] (hyp 0) (rv 1 ⊕ rat (tiny 40) ⊖ rv 0) tt), sub-≤q b (a +q mk (tiny 40)) (by-nn ρ [] tt H (h .0, (h .1, tt)) [] (hyp 1) (rv 0 ⊕ rat (tiny 40) ⊖ rv 1) tt))
+    let ρ : List ℚ = a ∷ b ∷ [] in (
+      sub-≤q a (b +q mk (tiny 40)) (by-nn ρ [] tt H (h .0, (h .1, tt)) [] (hyp 0) (rv 1 ⊕ rat (tiny 40) ⊖ rv 0) tt),
+      sub-≤q b (a +q mk (tiny 40)) (by-nn ρ [] tt H (h .0, (h .1, tt)) [] (hyp 1) (rv 0 ⊕ rat (tiny 40) ⊖ rv 1) tt),
+    )
 
 add-none : (i k : ℕ) → i + 0 ≡ k → i ≡ k
 add-none i k e = omega arith
@@ -355,8 +368,10 @@ turn-near h f a b =
     record {
       sine-finite = r .0 .0;
       cosine-finite = r .1 .0;
-      sine = subst (Near (mk (tiny 40)) (val (t .s))) (sine-poly x) (near-of (val (t .s)) (evR (x ∷ []) sineR) (done x k (fs k k .0) sineR (and-l P Q o) (st .angle) (val (t .s)) (abs-mono (val (t .s) -q S x k k) (err (db k k .0)) N es (r .0 .2))));
-      cosine = subst (Near (mk (tiny 40)) (val (t .c))) (cosine-poly x) (near-of (val (t .c)) (evR (x ∷ []) cosineR) (done x k (fs k k .1) cosineR (and-r P Q o) (st .angle) (val (t .c)) (abs-mono (val (t .c) -q C x k k) (err (db k k .1)) N ec (r .1 .2))));
+      sine = subst (Near (mk (tiny 40)) (val (t .s))) (sine-poly x) (near-of (val (t .s)) (evR (x ∷ []) sineR)
+          (done x k (fs k k .0) sineR (and-l P Q o) (st .angle) (val (t .s)) (abs-mono (val (t .s) -q S x k k) (err (db k k .0)) N es (r .0 .2))));
+      cosine = subst (Near (mk (tiny 40)) (val (t .c))) (cosine-poly x) (near-of (val (t .c)) (evR (x ∷ []) cosineR)
+          (done x k (fs k k .1) cosineR (and-r P Q o) (st .angle) (val (t .c)) (abs-mono (val (t .c) -q C x k k) (err (db k k .1)) N ec (r .1 .2))));
     }
 
 -- ---- which angles `sinCosOf` accepts: those that are finite, from 0 to 4 (-0 too)
@@ -383,9 +398,12 @@ accepted-finite (fin s m e) p q = tt
 pub sin-cos-accepts : (h : Float) → T (finite h) → qn 0 ≤q val h → val h ≤q qn 4 → sinCosOf h ≡ Sines.Value (turnOf 3 h)
 unfolding sinCosOf
 sin-cos-accepts h f a b =
-    let p : lt h (ratio 0 1) ≡ false = lt-val h (ratio 0 1) f (small-finite 0 (inl refl)) ∙ ap not (is-true (leq (val (ratio 0 1)) (val h)) (subst (λ z. z ≤q val h) (sym zero-val) a)) in
-    let q : le h (ratio 4 1) ≡ true = le-val h (ratio 4 1) f (small-finite 4 (inr refl)) ∙ is-true (leq (val h) (val (ratio 4 1))) (subst (λ z. val h ≤q z) (sym four-val) b) in
-    ap (λ c. cond c Sines.Refused (cond (le h (ratio 4 1)) (Sines.Value (turnOf 3 h)) Sines.Refused)) p ∙ ap (λ c. cond c (Sines.Value (turnOf 3 h)) Sines.Refused) q
+    let p : lt h (ratio 0 1) ≡ false = lt-val h (ratio 0 1) f (small-finite 0 (inl refl))
+    ∙ ap not (is-true (leq (val (ratio 0 1)) (val h)) (subst (λ z. z ≤q val h) (sym zero-val) a)) in
+    let q : le h (ratio 4 1) ≡ true = le-val h (ratio 4 1) f (small-finite 4 (inr refl))
+    ∙ is-true (leq (val h) (val (ratio 4 1))) (subst (λ z. val h ≤q z) (sym four-val) b) in
+    ap (λ c. cond c Sines.Refused (cond (le h (ratio 4 1)) (Sines.Value (turnOf 3 h)) Sines.Refused)) p
+    ∙ ap (λ c. cond c (Sines.Value (turnOf 3 h)) Sines.Refused) q
 
 same-value : (a t : Turn) → Sines.Value a ≡ Sines.Value t → a ≡ t
 same-value a t e = cc
@@ -403,7 +421,8 @@ pub sin-cos-accepted : (h : Float) (t : Turn) → sinCosOf h ≡ Sines.Value t �
 unfolding sinCosOf
 sin-cos-accepted h t e = go (lt h (ratio 0 1)) (le h (ratio 4 1)) refl refl e
   where
-    go : (a b : Bool) → lt h (ratio 0 1) ≡ a → le h (ratio 4 1) ≡ b → cond a Sines.Refused (cond b (Sines.Value (turnOf 3 h)) Sines.Refused) ≡ Sines.Value t → Accepted h t
+    go : (a b : Bool) → lt h (ratio 0 1) ≡ a → le h (ratio 4 1) ≡ b
+        → cond a Sines.Refused (cond b (Sines.Value (turnOf 3 h)) Sines.Refused) ≡ Sines.Value t → Accepted h t
     go true b p q e = absurd (no-value t e)
     go false false p q e = absurd (no-value t e)
     go false true p q e =

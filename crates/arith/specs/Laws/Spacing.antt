@@ -46,7 +46,8 @@ above-next m j k q a b h = whole (gap-fine m j k q a b h)
   where
     whole : k ≤ j → (q + 1) * 2 ^ k ≤ m * 2 ^ j
     whole g =
-        let e : m * 2 ^ j ≡ m * 2 ^ (j - k) * 2 ^ k = ap (λ (x : ℕ). m * 2 ^ x) (back g) ∙ ap (λ (x : ℕ). m * x) (pow-add 2 (j - k) k) ∙ sym (mul-assoc m (2 ^ (j - k)) (2 ^ k)) in
+        let e : m * 2 ^ j ≡ m * 2 ^ (j - k) * 2 ^ k = ap (λ (x : ℕ). m * 2 ^ x) (back g)
+        ∙ ap (λ (x : ℕ). m * x) (pow-add 2 (j - k) k) ∙ sym (mul-assoc m (2 ^ (j - k)) (2 ^ k)) in
         let l = lt-of-mul-lt-mul-right (2 ^ k) (lt-of-lt-of-le h (le-of-eq e)) in
         le-trans (mul-le-mul-right (2 ^ k) (next (m * 2 ^ (j - k)) l)) (le-of-eq (sym e))
       where
@@ -105,4 +106,9 @@ grid (inf s) f p h = absurd p
 grid (fin false m e) f p h =
     let u = in-units false m e f in
     record { m = u .m; j = u .j; digits = u .digits; is = has→val (fin false m e) false (u .m * 2 ^ u .j) (2 ^ 1074) (pow-pos 1074) (u .value) .1 }
-grid (fin true m e) f p h = record { m = 0; j = 0; digits = pow-pos 53; is = zero-both true (m * up e) (down e) (2 ^ 1074) (down-pos e) (pow-pos 1074) (no-less (m * up e) (down e) (down-pos e) h) }
+grid (fin true m e) f p h = record {
+  m = 0;
+  j = 0;
+  digits = pow-pos 53;
+  is = zero-both true (m * up e) (down e) (2 ^ 1074) (down-pos e) (pow-pos 1074) (no-less (m * up e) (down e) (down-pos e) h);
+}

@@ -1,4 +1,5 @@
--- Aligned axes: where both rows across are at most their tolerance, and the Z axes' dot product passed its test, the exact Z of frame b is within 10^-11 of frame a's Z, across, and not opposed.
+-- Aligned axes: where both rows across are at most their tolerance, and the Z axes' dot product passed its test, the exact Z of
+-- frame b is within 10^-11 of frame a's Z, across, and not opposed.
 use mathlib.Core.Path.{_≡_, sym, subst}
 use mathlib.Core.List.{List, [], _∷_}
 use mathlib.Core.Bool.{not}
@@ -59,18 +60,22 @@ within-across x h =
     (sub-≤q (negq across) x (subst 0≤ (minus-minus x across) low), sub-≤q x across (by-nn ρ [] tt H k [] (hyp 0 ⊞ hyp 2) (rv 2 ⊖ rv 0) tt))
 
 -- one row across
-crossed : (axis z : Vec3) (E F : Vector) (v t : Float) → IsV axis E (2 ^ 256) axisErr → IsV z F (2 ^ 256) axisErr → dotOf axis z ≡ v → ratio 1 (10 ^ 13) ≡ t → T (le (absOf v) t) → (negq across ≤q F · E) × (F · E ≤q across)
+crossed : (axis z : Vec3) (E F : Vector) (v t : Float) → IsV axis E (2 ^ 256) axisErr → IsV z F (2 ^ 256) axisErr
+    → dotOf axis z ≡ v → ratio 1 (10 ^ 13) ≡ t → T (le (absOf v) t) → (negq across ≤q F · E) × (F · E ≤q across)
 unfolding sameQ
 crossed axis z E F v t ha hz ev et k =
     let D = dot-near (2 ^ 256) axisErr (2 ^ 256) axisErr (13 * 2 ^ 211) axis-dots axis z E F ha hz in
     let w = val (dotOf axis z) in
     let tol = subst (λ x. T (finite x) × Abs (val x) (2 ^ 213)) et align-tolerance in
     let w-top = subst (λ x. Abs (val x) (2 ^ 213)) (sym ev) (value-top v t (2 ^ 213) (tol .0) (tol .1) k) in
-    let s = abs-eq (w -q (w -q E · F)) (E · F) (2 ^ 213 + 13 * 2 ^ 211) (ringQ (w ∷ (E · F) ∷ []) (rv 0 ⊖ (rv 0 ⊖ rv 1)) (rv 1) tt) (abs-sub w (w -q E · F) (2 ^ 213) (13 * 2 ^ 211) w-top (D .1)) in
+    let s =
+    abs-eq (w -q (w -q E · F)) (E · F) (2 ^ 213 + 13 * 2 ^ 211) (ringQ (w ∷ (E · F) ∷ []) (rv 0 ⊖ (rv 0 ⊖ rv 1)) (rv 1) tt)
+    (abs-sub w (w -q E · F) (2 ^ 213) (13 * 2 ^ 211) w-top (D .1)) in
     within-across (F · E) (subst (λ x. Abs x (17 * 2 ^ 211)) (swap E F) s)
 
 -- not opposed
-not-opposed : (za z : Vec3) (E F : Vector) → IsV za E (2 ^ 256) axisErr → IsV z F (2 ^ 256) axisErr → T (not (le (dotOf za z) (ratio 1 (10 ^ 10)))) → qn 0 <q F · E
+not-opposed : (za z : Vec3) (E F : Vector) → IsV za E (2 ^ 256) axisErr → IsV z F (2 ^ 256) axisErr
+    → T (not (le (dotOf za z) (ratio 1 (10 ^ 10)))) → qn 0 <q F · E
 unfolding sameQ den comb
 not-opposed za z E F ha hz k =
     let D = dot-near (2 ^ 256) axisErr (2 ^ 256) axisErr (13 * 2 ^ 211) axis-dots za z E F ha hz in
@@ -86,12 +91,17 @@ not-opposed za z E F ha hz k =
     gap : 0≤ (iv (2 ^ 222) -q (iv (13 * 2 ^ 211) +q iv (2 ^ 214)))
     gap = unfold leq _+q_ negq iv U in tt
 
-pub aligned : (fa fb : Quat) (ga gb : Quaternion) (z : Vec3) (x y : EqualityRow) → NearUnit fa (ga .x) (ga .y) (ga .z) (ga .w) → NearUnit fb (gb .x) (gb .y) (gb .z) (gb .w) → Facing fa fb z → Across fa axisX z x → Across fa axisY z y
+pub aligned : (fa fb : Quat) (ga gb : Quaternion) (z : Vec3) (x y : EqualityRow)
+    → NearUnit fa (ga .x) (ga .y) (ga .z) (ga .w) → NearUnit fb (gb .x) (gb .y) (gb .z) (gb .w) → Facing fa fb z → Across fa axisX z x → Across fa axisY z y
     → T (le (absOf (x .value)) (x .tolerance)) → T (le (absOf (y .value)) (y .tolerance)) → Aligned ga (Z gb)
 aligned fa fb ga gb z x y A B F Rx₀ Ry₀ tx ty =
     let zb = z-axis fb gb z B (F .b-rotates) in
     record {
-      on-x = crossed (Rx₀ .axis) z (X ga) (Z gb) (x .value) (x .tolerance) (x-axis fa ga (Rx₀ .axis) A (Rx₀ .rotates)) zb (Rx₀ .value-is) (Rx₀ .tolerance-is) tx;
-      on-y = crossed (Ry₀ .axis) z (Y ga) (Z gb) (y .value) (y .tolerance) (y-axis fa ga (Ry₀ .axis) A (Ry₀ .rotates)) zb (Ry₀ .value-is) (Ry₀ .tolerance-is) ty;
+      on-x =
+          crossed (Rx₀ .axis) z (X ga) (Z gb) (x .value) (x .tolerance) (x-axis fa ga (Rx₀ .axis) A (Rx₀ .rotates)) zb
+          (Rx₀ .value-is) (Rx₀ .tolerance-is) tx;
+      on-y =
+          crossed (Ry₀ .axis) z (Y ga) (Z gb) (y .value) (y .tolerance) (y-axis fa ga (Ry₀ .axis) A (Ry₀ .rotates)) zb
+          (Ry₀ .value-is) (Ry₀ .tolerance-is) ty;
       on-z = not-opposed (F .za) z (Z ga) (Z gb) (z-axis fa ga (F .za) A (F .a-rotates)) zb (F .above);
     }

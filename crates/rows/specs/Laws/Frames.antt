@@ -5,7 +5,7 @@ use mathlib.Core.List.{[], _∷_}
 use Prim.Native.Nat.{_^_}
 use lib.Dec.{T}
 use lib.Ieee.{le}
-use Rattle.exact.specs.Rat.{ℚ, qn, leq, _+q_, _*q_, _-q_, _≤q_, _<q_, ≤q-sub, sub-≤q, cancel-nn}
+use Rattle.exact.specs.Rat.{ℚ, qn, leq, _*q_, _-q_, _≤q_, _<q_, ≤q-sub, sub-≤q, cancel-nn}
 use Rattle.exact.specs.Ring.{var, con, _:-_, _:*_, same, ring}
 use Rattle.exact.specs.Abs.{T-not}
 use Rattle.exact.specs.RingQ.{rv, _⊕_, _⊖_, _⊗_, sameQ, ringQ}
@@ -20,7 +20,8 @@ use Rattle.vectors.specs.Laws.UnitTest.{unit-quat}
 use Rattle.vectors.specs.Laws.Product.{own-near}
 use Rattle.rows.specs.declared.geometry.JointFrame.{JointFrame}
 use Rattle.rows.specs.declared.geometry.Joint.{Joint}
-use Rattle.rows.specs.ExactGeometry.{Quaternion, quaternion, N, product, Place, Stands, kindFinite, Proper}
+use Rattle.rows.specs.ExactGeometry.{Quaternion, quaternion, N, product, Place, Stands, motionsFinite, Proper}
+use Rattle.rows.specs.Motions.{motionsOf}
 use Rattle.rows.specs.Laws.Anchors.{Inside}
 use Rattle.rows.specs.Laws.Met.{frameIn}
 
@@ -65,7 +66,8 @@ frame-stands f t =
     }
 
 -- ---- the joint
-pub proper : (joint : Joint) (a b : Place) → T (frameIn (joint .«frame_a»)) → T (frameIn (joint .«frame_b»)) → T (kindFinite (joint .kind)) → qn 0 <q N (a .rotation) → qn 0 <q N (b .rotation) → Proper joint a b
+pub proper : (joint : Joint) (a b : Place) → T (frameIn (joint .«frame_a»)) → T (frameIn (joint .«frame_b»)) → T (motionsFinite (motionsOf (joint .kind)))
+    → qn 0 <q N (a .rotation) → qn 0 <q N (b .rotation) → Proper joint a b
 proper joint a b ia ib k p q =
     let A = frame-stands (joint .«frame_a») ia in
     let B = frame-stands (joint .«frame_b») ib in

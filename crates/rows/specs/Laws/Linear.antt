@@ -70,11 +70,16 @@ tolerance-top pa pb A B t ha hb T₀ =
     let la = anchor-length pa A ha in
     let lb = anchor-length pb B hb in
     let σ = val (lengthOf pa) ∷ val (lengthOf pb) ∷ [] in
-    let S = sound (lengthOf pa ∷ lengthOf pb ∷ []) σ toleranceβ (given (lengthOf pa) (63 * 2 ^ 264) la, (given (lengthOf pb) (63 * 2 ^ 264) lb, tt)) toleranceE ((tt, tt), (tt, tt)) tt in
+    let S =
+    sound (lengthOf pa ∷ lengthOf pb ∷ []) σ toleranceβ
+    (given (lengthOf pa) (63 * 2 ^ 264) la, (given (lengthOf pb) (63 * 2 ^ 264) lb, tt)) toleranceE ((tt, tt), (tt, tt)) tt in
     let m = mag (chk toleranceβ toleranceE) + err (chk toleranceβ toleranceE) in
     let r = ratio 32 1 ⊠f epsilon ⊠f (lengthOf pa ⊞f lengthOf pb) in
     let P : Float → Type 0 = λ f. T (finite f) × Abs (val f) tolTop in
-    subst P (T₀ .is) (max-keeps P r (ratio 1 (10 ^ 13)) (S .0, abs-mono (val r) m tolTop (leb→le m tolTop tt) (own (val r) _ (mag (chk toleranceβ toleranceE)) (err (chk toleranceβ toleranceE)) (S .1) (S .2))) least-tolerance)
+    subst P (T₀ .is)
+    (max-keeps P r (ratio 1 (10 ^ 13))
+    (S .0, abs-mono (val r) m tolTop (leb→le m tolTop tt) (own (val r) _ (mag (chk toleranceβ toleranceE)) (err (chk toleranceβ toleranceE)) (S .1) (S .2)))
+    least-tolerance)
 
 -- ---- |v| ≤ t
 pub value-top : (v t : Float) (n : ℕ) → T (finite t) → Abs (val t) n → T (le (absOf v) t) → Abs (val v) n
@@ -97,11 +102,14 @@ unfoldable pub dots : ℕ → ℕ → ℕ → ℕ → ℕ → Bool
 unfolding dotE dotβ chk
 dots m e n d K = ok (chk (dotβ m e n d) dotE) && leb (err (chk (dotβ m e n d) dotE)) K
 
-pub dot-near : (m e n d K : ℕ) → T (dots m e n d K) → (u v : Vec3) (E F : Vector) → IsV u E m e → IsV v F n d → T (finite (dotOf u v)) × Abs (val (dotOf u v) -q E · F) K
+pub dot-near : (m e n d K : ℕ) → T (dots m e n d K) → (u v : Vec3) (E F : Vector) → IsV u E m e → IsV v F n d
+    → T (finite (dotOf u v)) × Abs (val (dotOf u v) -q E · F) K
 unfolding dots
 dot-near m e n d K t u v E F h k =
     let s = both (ok (chk (dotβ m e n d) dotE)) (leb (err (chk (dotβ m e n d) dotE)) K) t in
-    let R = sound (u .x ∷ u .y ∷ u .z ∷ v .x ∷ v .y ∷ v .z ∷ []) (E .x ∷ E .y ∷ E .z ∷ F .x ∷ F .y ∷ F .z ∷ []) (dotβ m e n d) (h .x-is, (h .y-is, (h .z-is, (k .x-is, (k .y-is, (k .z-is, tt)))))) dotE (((tt, tt), (tt, tt)), (tt, tt)) (s .0) in
+    let R =
+    sound (u .x ∷ u .y ∷ u .z ∷ v .x ∷ v .y ∷ v .z ∷ []) (E .x ∷ E .y ∷ E .z ∷ F .x ∷ F .y ∷ F .z ∷ []) (dotβ m e n d)
+    (h .x-is, (h .y-is, (h .z-is, (k .x-is, (k .y-is, (k .z-is, tt)))))) dotE (((tt, tt), (tt, tt)), (tt, tt)) (s .0) in
     (R .0, abs-mono (val (dotOf u v) -q E · F) (err (chk (dotβ m e n d) dotE)) K (leb→le (err (chk (dotβ m e n d) dotE)) K (s .1)) (R .2))
 
 -- ---- the axes of a frame: unit vectors, within 2 ^ -44
@@ -112,14 +120,18 @@ unit-x : (v : Vector) → v · v ≡ qn 1 → Abs (v .x) (2 ^ 256)
 unfolding sameQ den comb iv U
 unit-x v e =
     root-abs (v .x) (2 ^ 256) tt
-    (by-nn (v .x ∷ v .y ∷ v .z ∷ []) ((rv 0 ⊗ rv 0 ⊕ rv 1 ⊗ rv 1 ⊕ rv 2 ⊗ rv 2, nat 1) ∷ []) (e, tt) [] tt ((nat 0 ⊖ nat 1) ∷ []) (sqr (rv 1) ⊞ sqr (rv 2)) (rat (ivF (2 ^ 256)) ⊗ rat (ivF (2 ^ 256)) ⊖ rv 0 ⊗ rv 0) tt)
+    (by-nn (v .x ∷ v .y ∷ v .z ∷ []) ((rv 0 ⊗ rv 0 ⊕ rv 1 ⊗ rv 1 ⊕ rv 2 ⊗ rv 2, nat 1) ∷ []) (e, tt) [] tt ((nat 0 ⊖ nat 1) ∷ [])
+    (sqr (rv 1) ⊞ sqr (rv 2)) (rat (ivF (2 ^ 256)) ⊗ rat (ivF (2 ^ 256)) ⊖ rv 0 ⊗ rv 0) tt)
 
 unit-all : (v : Vector) → v · v ≡ qn 1 → Abs (v .x) (2 ^ 256) × Abs (v .y) (2 ^ 256) × Abs (v .z) (2 ^ 256)
 unfolding sameQ
 unit-all v e =
     let ρ = v .x ∷ v .y ∷ v .z ∷ [] in
-    let s = rv 0 ⊗ rv 0 ⊕ rv 1 ⊗ rv 1 ⊕ rv 2 ⊗ rv 2 in
-    (unit-x v e, unit-x (record { x = v .y; y = v .z; z = v .x }) (ringQ ρ (rv 1 ⊗ rv 1 ⊕ rv 2 ⊗ rv 2 ⊕ rv 0 ⊗ rv 0) s tt ∙ e), unit-x (record { x = v .z; y = v .x; z = v .y }) (ringQ ρ (rv 2 ⊗ rv 2 ⊕ rv 0 ⊗ rv 0 ⊕ rv 1 ⊗ rv 1) s tt ∙ e))
+    let s = rv 0 ⊗ rv 0 ⊕ rv 1 ⊗ rv 1 ⊕ rv 2 ⊗ rv 2 in (
+      unit-x v e,
+      unit-x (record { x = v .y; y = v .z; z = v .x }) (ringQ ρ (rv 1 ⊗ rv 1 ⊕ rv 2 ⊗ rv 2 ⊕ rv 0 ⊗ rv 0) s tt ∙ e),
+      unit-x (record { x = v .z; y = v .x; z = v .y }) (ringQ ρ (rv 2 ⊗ rv 2 ⊕ rv 0 ⊗ rv 0 ⊕ rv 1 ⊗ rv 1) s tt ∙ e),
+    )
 
 one-zero : (val (ratio 1 1) ≡ qn 1) × (val (ratio 0 1) ≡ qn 0)
 unfolding round
@@ -135,7 +147,8 @@ one-top = subst (λ v. Abs v (2 ^ 256)) (sym (one-zero .0)) (small-ones .0)
 zero-top : Abs (val (ratio 0 1)) (2 ^ 256)
 zero-top = subst (λ v. Abs v (2 ^ 256)) (sym (one-zero .1)) (small-ones .1)
 
-axis-near : (f : Quat) (g : Quaternion) (local r : Vec3) (e : Vector) → vector local ≡ e → e · e ≡ qn 1 → Below (2 ^ 256) local → NearUnit f (g .x) (g .y) (g .z) (g .w) → rotateVectorOf f local ≡ Some r → IsV r (turned g e) (2 ^ 256) axisErr
+axis-near : (f : Quat) (g : Quaternion) (local r : Vec3) (e : Vector) → vector local ≡ e → e · e ≡ qn 1 → Below (2 ^ 256) local
+    → NearUnit f (g .x) (g .y) (g .z) (g .w) → rotateVectorOf f local ≡ Some r → IsV r (turned g e) (2 ^ 256) axisErr
 axis-near f g local r e is unit B G h =
     let T₀ = subst (λ v. IsV r (turned g v) (2 ^ 257) axisErr) is (turned-near (2 ^ 256) (386 * 2 ^ 203) axisErr axis-turns f g local r h G B) in
     let u = unit-all (turned g e) (turned-square g e (inv-ok (N g) (norm-pos (N g) (G .size))) ∙ unit) in
@@ -145,19 +158,22 @@ module _ (f : Quat) (g : Quaternion) (r : Vec3) (G : NearUnit f (g .x) (g .y) (g
   pub x-axis : rotateVectorOf f axisX ≡ Some r → IsV r (X g) (2 ^ 256) axisErr
   unfolding sameQ
   x-axis h =
-      axis-near f g axisX r (record { x = qn 1; y = qn 0; z = qn 0 }) (λ i. record { x = one-zero .0 i; y = one-zero .1 i; z = one-zero .1 i }) (ringQ [] (nat 1 ⊗ nat 1 ⊕ nat 0 ⊗ nat 0 ⊕ nat 0 ⊗ nat 0) (nat 1) tt)
+      axis-near f g axisX r (record { x = qn 1; y = qn 0; z = qn 0 })
+      (λ i. record { x = one-zero .0 i; y = one-zero .1 i; z = one-zero .1 i }) (ringQ [] (nat 1 ⊗ nat 1 ⊕ nat 0 ⊗ nat 0 ⊕ nat 0 ⊗ nat 0) (nat 1) tt)
       (record { x-below = one-top; y-below = zero-top; z-below = zero-top }) G h
 
   pub y-axis : rotateVectorOf f axisY ≡ Some r → IsV r (Y g) (2 ^ 256) axisErr
   unfolding sameQ
   y-axis h =
-      axis-near f g axisY r (record { x = qn 0; y = qn 1; z = qn 0 }) (λ i. record { x = one-zero .1 i; y = one-zero .0 i; z = one-zero .1 i }) (ringQ [] (nat 0 ⊗ nat 0 ⊕ nat 1 ⊗ nat 1 ⊕ nat 0 ⊗ nat 0) (nat 1) tt)
+      axis-near f g axisY r (record { x = qn 0; y = qn 1; z = qn 0 })
+      (λ i. record { x = one-zero .1 i; y = one-zero .0 i; z = one-zero .1 i }) (ringQ [] (nat 0 ⊗ nat 0 ⊕ nat 1 ⊗ nat 1 ⊕ nat 0 ⊗ nat 0) (nat 1) tt)
       (record { x-below = zero-top; y-below = one-top; z-below = zero-top }) G h
 
   pub z-axis : rotateVectorOf f axisZ ≡ Some r → IsV r (Z g) (2 ^ 256) axisErr
   unfolding sameQ
   z-axis h =
-      axis-near f g axisZ r (record { x = qn 0; y = qn 0; z = qn 1 }) (λ i. record { x = one-zero .1 i; y = one-zero .1 i; z = one-zero .0 i }) (ringQ [] (nat 0 ⊗ nat 0 ⊕ nat 0 ⊗ nat 0 ⊕ nat 1 ⊗ nat 1) (nat 1) tt)
+      axis-near f g axisZ r (record { x = qn 0; y = qn 0; z = qn 1 })
+      (λ i. record { x = one-zero .1 i; y = one-zero .1 i; z = one-zero .0 i }) (ringQ [] (nat 0 ⊗ nat 0 ⊕ nat 0 ⊗ nat 0 ⊕ nat 1 ⊗ nat 1) (nat 1) tt)
       (record { x-below = zero-top; y-below = zero-top; z-below = one-top }) G h
 
 -- ---- what leads from anchor a to anchor b: within 2 ^ -34.8
@@ -177,8 +193,11 @@ difference : (p q : Float) (P Q : ℚ) → Is p P pTop aErr → Is q Q pTop aErr
 unfolding differenceE differenceβ chk U
 difference p q P Q h k =
     let S = sound (p ∷ q ∷ []) (P ∷ Q ∷ []) differenceβ (h, (k, tt)) differenceE (tt, tt) tt in
-    let b = chk differenceβ differenceE in
-    (S .0, abs-mono (P -q Q) (mag b) dTop (leb→le (mag b) dTop tt) (S .1), abs-mono (val (sub binary64 p q) -q (P -q Q)) (err b) dErr (leb→le (err b) dErr tt) (S .2))
+    let b = chk differenceβ differenceE in (
+      S .0,
+      abs-mono (P -q Q) (mag b) dTop (leb→le (mag b) dTop tt) (S .1),
+      abs-mono (val (sub binary64 p q) -q (P -q Q)) (err b) dErr (leb→le (err b) dErr tt) (S .2),
+    )
 
 pub delta-near : (pa pb : Vec3) (A B : Vector) → AnchorNear pa A → AnchorNear pb B → IsV (subOf pb pa) (B -v A) dTop dErr
 delta-near pa pb A B ha hb =
@@ -198,7 +217,8 @@ linear-dots : T (dots dTop dErr (2 ^ 256) axisErr (2 ^ 228))
 unfolding dots U
 linear-dots = tt
 
-pub row-near : (delta axis : Vec3) (d E : Vector) (v t : Float) → IsV delta d dTop dErr → IsV axis E (2 ^ 256) axisErr → dotOf delta axis ≡ v → T (finite t) → Abs (val t) tolTop → T (le (absOf v) t) → Abs (d · E) rowErr
+pub row-near : (delta axis : Vec3) (d E : Vector) (v t : Float) → IsV delta d dTop dErr → IsV axis E (2 ^ 256) axisErr → dotOf delta axis ≡ v
+    → T (finite t) → Abs (val t) tolTop → T (le (absOf v) t) → Abs (d · E) rowErr
 unfolding sameQ
 row-near delta axis d E v t hd ha e ft ht k =
     let D = dot-near dTop dErr (2 ^ 256) axisErr (2 ^ 228) linear-dots delta axis d E hd ha in

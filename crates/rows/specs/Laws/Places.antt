@@ -1,4 +1,5 @@
--- The place that a body hands back: its record stands for the origin centre - turned local centre and the body's rotation, also where the old bits are kept (-0 is 0).
+-- The place that a body hands back: its record stands for the origin centre - turned local centre and the body's rotation, also where the old bits are
+-- kept (-0 is 0).
 use mathlib.Core.Path.{_≡_, refl, sym, subst}
 use mathlib.Core.Bool.{Bool, true, false, cond, _&&_}
 use lib.Dec.{T}
@@ -10,7 +11,7 @@ use Rattle.arith.specs.Real.{isFinite}
 use Rattle.arith.specs.Laws.Magnitude.{finite-same}
 use Rattle.vectors.specs.declared.vector.Vec3.{Vec3}
 use Rattle.vectors.specs.declared.quaternion.Quat.{Quat}
-use Rattle.vectors.specs.Vector.{subOf, finiteOf}
+use Rattle.vectors.specs.Vector.{vec, subOf, finiteOf}
 use Rattle.vectors.specs.Quaternion.{quatFiniteOf}
 use Rattle.vectors.specs.Laws.Tests.{both, eq-val}
 use Rattle.vectors.specs.Laws.Rotation.{finite-parts}
@@ -35,7 +36,9 @@ test : (x : Float) → T (finite x) → T (isFinite x)
 test x t = subst T (sym (finite-same x)) t
 
 pub finite-vec : (v : Vec3) → Fin3 v → T (finiteOf v)
-finite-vec v f = and-i (isFinite (v .x) && isFinite (v .y)) (isFinite (v .z)) (and-i (isFinite (v .x)) (isFinite (v .y)) (test (v .x) (f .0)) (test (v .y) (f .1))) (test (v .z) (f .2))
+finite-vec v f =
+    let x = isFinite (v .x) in let y = isFinite (v .y) in let z = isFinite (v .z) in
+    and-i (x && y) z (and-i x y (test (v .x) (f .0)) (test (v .y) (f .1))) (test (v .z) (f .2))
 
 same-vec : (v w : Vec3) → Fin3 v → T (sameVec3 v w) → SameVec v w
 same-vec v w f t =
@@ -51,7 +54,7 @@ pub record SameQuat (p q : Quat) : Type 0 where
   pub is : quaternion p ≡ quaternion q
 
 finite-quat : (q : Quat) → T (finite (q .x)) → T (finite (q .y)) → T (finite (q .z)) → T (finite (q .w)) → T (quatFiniteOf q)
-finite-quat q x y z w = and-i (isFinite (q .x) && isFinite (q .y) && isFinite (q .z)) (isFinite (q .w)) (and-i (isFinite (q .x) && isFinite (q .y)) (isFinite (q .z)) (and-i (isFinite (q .x)) (isFinite (q .y)) (test (q .x) x) (test (q .y) y)) (test (q .z) z)) (test (q .w) w)
+finite-quat q x y z w = let v = vec (q .x) (q .y) (q .z) in and-i (finiteOf v) (isFinite (q .w)) (finite-vec v (x, y, z)) (test (q .w) w)
 
 same-quat : (p q : Quat) → UnitQuat p → T (sameQuat p q) → SameQuat p q
 same-quat p q P t =
@@ -87,13 +90,20 @@ placed a old s h = subst (λ s. Placed a s o) (h .is) (choose (sameVec3 o (old .
     Q : UnitQuat q
     Q = unit-quat q (h .unit)
 
-    choose : (b : Bool) → (sameVec3 o (old .origin) && sameQuat q (old .rotation)) ≡ b → Placed a (cond b (stateWith (old .origin) (old .rotation) (h .linear) (h .angular)) (stateWith o q (h .linear) (h .angular))) o
+    choose : (b : Bool) → (sameVec3 o (old .origin) && sameQuat q (old .rotation)) ≡ b
+        → Placed a (cond b (stateWith (old .origin) (old .rotation) (h .linear) (h .angular)) (stateWith o q (h .linear) (h .angular))) o
     choose true e =
         let t = both (sameVec3 o (old .origin)) (sameQuat q (old .rotation)) (subst T (sym e) tt) in
         let f = finite-parts o (h .finite) in
         let v = same-vec o (old .origin) f (t .0) in
         let r = same-quat q (old .rotation) Q (t .1) in
-        record { unit = Q; origin-finite = f; origin-is = v .is; rotation-is = r .is; stands = record { origin-finite = v .finite; rotation-finite = r .finite; N-above = subst (λ p. qn 0 <q N p) (r .is) (N-above q Q) } }
+        record {
+          unit = Q;
+          origin-finite = f;
+          origin-is = v .is;
+          rotation-is = r .is;
+          stands = record { origin-finite = v .finite; rotation-finite = r .finite; N-above = subst (λ p. qn 0 <q N p) (r .is) (N-above q Q) };
+        }
     choose false e = record {
       unit = Q;
       origin-finite = finite-parts o (h .finite);

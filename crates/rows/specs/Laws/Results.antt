@@ -65,6 +65,12 @@ rotate-go : (q : Quat) (v r : Vec3) → tryRotate q v ≡ go r → rotateVectorO
 rotate-go q v r h = vector-some arithmeticOverflow (rotateVectorOf q v) r h
 
 -- ---- stateOf
+-- what `stateOf` answers at the origin o
+abbrev pub statedAt : MomentumBody → BodyState → Vec3 → Vec3 → Vec3 → BodyState
+statedAt a old o linear angular =
+    cond (sameVec3 o (old .origin) && sameQuat (a .rotation) (old .rotation)) (stateWith (old .origin) (old .rotation) linear angular)
+    (stateWith o (a .rotation) linear angular)
+
 pub record Stated (a : MomentumBody) (old s : BodyState) : Type 0 where
   pub centre : Vec3
   pub rotates : rotateVectorOf (a .rotation) (a .«center_of_mass») ≡ Vector.Some centre
@@ -72,7 +78,7 @@ pub record Stated (a : MomentumBody) (old s : BodyState) : Type 0 where
   pub unit : T (isNormalizedOf (a .rotation))
   pub linear : Vec3
   pub angular : Vec3
-  pub is : cond (sameVec3 (subOf (a .center) centre) (old .origin) && sameQuat (a .rotation) (old .rotation)) (stateWith (old .origin) (old .rotation) linear angular) (stateWith (subOf (a .center) centre) (a .rotation) linear angular) ≡ s
+  pub is : statedAt a old (subOf (a .center) centre) linear angular ≡ s
 
 -- the origin
 record Started (a : MomentumBody) (o : Vec3) : Type 0 where
@@ -112,7 +118,7 @@ stated a old s h =
       unit = O .unit;
       linear = r₂ .0;
       angular = r₃ .0;
-      is = subst (λ v. cond (sameVec3 v (old .origin) && sameQuat (a .rotation) (old .rotation)) (stateWith (old .origin) (old .rotation) (r₂ .0) (r₃ .0)) (stateWith v (a .rotation) (r₂ .0) (r₃ .0)) ≡ s) (sym (O .is)) (go-same _ s (r₃ .2));
+      is = subst (λ o. statedAt a old o (r₂ .0) (r₃ .0) ≡ s) (sym (O .is)) (go-same _ s (r₃ .2));
     }
 
 -- ---- anchorOf
@@ -155,10 +161,14 @@ ended joint a b e h =
     })
 
 -- ---- toleranceOf
+-- what `toleranceOf` answers for the lengths la and lb
+abbrev pub toleratedAt : Float → Float → Float
+toleratedAt la lb = maxOf (ratio 32 1 ⊗ epsilon ⊗ (la ⊕ lb)) (ratio 1 (10 ^ 13))
+
 pub record Tolerated (pa pb : Vec3) (t : Float) : Type 0 where
   pub a-finite : T (isFinite (lengthOf pa))
   pub b-finite : T (isFinite (lengthOf pb))
-  pub is : maxOf (ratio 32 1 ⊗ epsilon ⊗ (lengthOf pa ⊕ lengthOf pb)) (ratio 1 (10 ^ 13)) ≡ t
+  pub is : toleratedAt (lengthOf pa) (lengthOf pb) ≡ t
 
 pub tolerated : (pa pb : Vec3) (t : Float) → toleranceOf pa pb ≡ go t → Tolerated pa pb t
 unfolding toleranceOf
@@ -170,7 +180,7 @@ tolerated pa pb t h =
     record {
       a-finite = subst (λ x. T (isFinite x)) (sym (la .0)) (la .1);
       b-finite = subst (λ x. T (isFinite x)) (sym (lb .0)) (lb .1);
-      is = ap (λ x. maxOf (ratio 32 1 ⊗ epsilon ⊗ (x ⊕ lengthOf pb)) (ratio 1 (10 ^ 13))) (la .0) ∙ ap (λ y. maxOf (ratio 32 1 ⊗ epsilon ⊗ (r₁ .0 ⊕ y)) (ratio 1 (10 ^ 13))) (lb .0) ∙ go-same _ t (r₂ .2);
+      is = ap (λ x. toleratedAt x (lengthOf pb)) (la .0) ∙ ap (toleratedAt (r₁ .0)) (lb .0) ∙ go-same _ t (r₂ .2);
     }
 
 -- ---- the rows
@@ -242,4 +252,5 @@ unfolding alignRow
 across joint frameA local z row h =
     let r₁ = step _ _ row h in
     let r₂ = step _ _ row (r₁ .2) in
-    subst (Across frameA local z) (go-same _ row (r₂ .2)) (record { axis = r₁ .0; rotates = rotate-go frameA local (r₁ .0) (r₁ .1); value-is = refl; tolerance-is = refl })
+    subst (Across frameA local z) (go-same _ row (r₂ .2))
+    (record { axis = r₁ .0; rotates = rotate-go frameA local (r₁ .0) (r₁ .1); value-is = refl; tolerance-is = refl })

@@ -41,20 +41,40 @@ short : (L l s : ℚ) → 0≤ l → 0≤ (L -q mk eighth) → Abs (l -q L) (2 ^
 unfolding sameQ den comb iv U
 short L l s p h k j =
     let ρ = L ∷ l ∷ s ∷ [] in
-    let H : List Rx = (rat (ivF (2 ^ 228)) ⊖ (rv 1 ⊖ rv 0)) ∷ rv 1 ∷ (rv 0 ⊖ rat eighth) ∷ (rat (ivF (2 ^ 233)) ⊕ (rv 1 ⊗ rv 1 ⊖ rv 2)) ∷ (rat (ivF (2 ^ 228)) ⊕ (rv 1 ⊖ rv 0)) ∷ (rat (ivF (2 ^ 233)) ⊖ (rv 1 ⊗ rv 1 ⊖ rv 2)) ∷ [] in
+    let H : List Rx =
+    (rat (ivF (2 ^ 228)) ⊖ (rv 1 ⊖ rv 0)) ∷ rv 1 ∷ (rv 0 ⊖ rat eighth) ∷ (rat (ivF (2 ^ 233)) ⊕ (rv 1 ⊗ rv 1 ⊖ rv 2))
+    ∷ (rat (ivF (2 ^ 228)) ⊕ (rv 1 ⊖ rv 0)) ∷ (rat (ivF (2 ^ 233)) ⊖ (rv 1 ⊗ rv 1 ⊖ rv 2)) ∷ [] in
     let w : Nns ρ H = (k .0, (p, (h, (j .1, (k .1, (j .0, tt)))))) in (
-      sub-≤q ((L -q micrometre) *q (L -q micrometre)) s (by-nn ρ [] tt H w [] (hyp 4 ⊠ (hyp 1 ⊞ hyp 2 ⊞ num 33554431 268435455) ⊞ num 4178679 2097151999999 ⊠ hyp 2 ⊞ hyp 5 ⊞ num 2284492919162096209 17592186044415999999999999) (rv 2 ⊖ (rv 0 ⊖ rat μ) ⊗ (rv 0 ⊖ rat μ)) tt),
-      sub-≤q s ((L +q micrometre) *q (L +q micrometre)) (by-nn ρ [] tt H w [] (hyp 0 ⊠ (hyp 2 ⊞ num 33554433 268435455 ⊞ hyp 1) ⊞ num 4178679 2097151999999 ⊠ hyp 2 ⊞ hyp 3 ⊞ num 2284528103045903791 17592186044415999999999999) ((rv 0 ⊕ rat μ) ⊗ (rv 0 ⊕ rat μ) ⊖ rv 2) tt),
+      sub-≤q ((L -q micrometre) *q (L -q micrometre)) s
+          (by-nn ρ [] tt H w []
+          (hyp 4 ⊠ (hyp 1 ⊞ hyp 2 ⊞ num 33554431 268435455) ⊞ num 4178679 2097151999999 ⊠ hyp 2
+          ⊞ hyp 5 ⊞ num 2284492919162096209 17592186044415999999999999)
+          (rv 2 ⊖ (rv 0 ⊖ rat μ) ⊗ (rv 0 ⊖ rat μ)) tt),
+      sub-≤q s ((L +q micrometre) *q (L +q micrometre))
+          (by-nn ρ [] tt H w []
+          (hyp 0 ⊠ (hyp 2 ⊞ num 33554433 268435455 ⊞ hyp 1) ⊞ num 4178679 2097151999999 ⊠ hyp 2
+          ⊞ hyp 3 ⊞ num 2284528103045903791 17592186044415999999999999)
+          ((rv 0 ⊕ rat μ) ⊗ (rv 0 ⊕ rat μ) ⊖ rv 2) tt),
     )
 
 long : (L l s : ℚ) → 0≤ l → 0≤ (L -q qn 64) → Abs (l -q L) (2 ^ 228) → Abs (l *q l -q s) (2 ^ 243) → Bounded L s
 unfolding sameQ den comb iv U
 long L l s p h k j =
     let ρ = L ∷ l ∷ s ∷ [] in
-    let H : List Rx = (rat (ivF (2 ^ 228)) ⊖ (rv 1 ⊖ rv 0)) ∷ rv 1 ∷ (rv 0 ⊖ nat 64) ∷ (rat (ivF (2 ^ 243)) ⊕ (rv 1 ⊗ rv 1 ⊖ rv 2)) ∷ (rat (ivF (2 ^ 228)) ⊕ (rv 1 ⊖ rv 0)) ∷ (rat (ivF (2 ^ 243)) ⊖ (rv 1 ⊗ rv 1 ⊖ rv 2)) ∷ [] in
+    let H : List Rx =
+    (rat (ivF (2 ^ 228)) ⊖ (rv 1 ⊖ rv 0)) ∷ rv 1 ∷ (rv 0 ⊖ nat 64) ∷ (rat (ivF (2 ^ 243)) ⊕ (rv 1 ⊗ rv 1 ⊖ rv 2))
+    ∷ (rat (ivF (2 ^ 228)) ⊕ (rv 1 ⊖ rv 0)) ∷ (rat (ivF (2 ^ 243)) ⊖ (rv 1 ⊗ rv 1 ⊖ rv 2)) ∷ [] in
     let w : Nns ρ H = (k .0, (p, (h, (j .1, (k .1, (j .0, tt)))))) in (
-      sub-≤q ((L -q micrometre) *q (L -q micrometre)) s (by-nn ρ [] tt H w [] (hyp 4 ⊠ (hyp 1 ⊞ hyp 2 ⊞ num 17179869183 268435455) ⊞ num 4178679 2097151999999 ⊠ hyp 2 ⊞ hyp 5 ⊞ num 95927540093306096209 17592186044415999999999999) (rv 2 ⊖ (rv 0 ⊖ rat μ) ⊗ (rv 0 ⊖ rat μ)) tt),
-      sub-≤q s ((L +q micrometre) *q (L +q micrometre)) (by-nn ρ [] tt H w [] (hyp 0 ⊠ (hyp 2 ⊞ num 17179869185 268435455 ⊞ hyp 1) ⊞ num 4178679 2097151999999 ⊠ hyp 2 ⊞ hyp 3 ⊞ num 95927575277189903791 17592186044415999999999999) ((rv 0 ⊕ rat μ) ⊗ (rv 0 ⊕ rat μ) ⊖ rv 2) tt),
+      sub-≤q ((L -q micrometre) *q (L -q micrometre)) s
+          (by-nn ρ [] tt H w []
+          (hyp 4 ⊠ (hyp 1 ⊞ hyp 2 ⊞ num 17179869183 268435455) ⊞ num 4178679 2097151999999 ⊠ hyp 2
+          ⊞ hyp 5 ⊞ num 95927540093306096209 17592186044415999999999999)
+          (rv 2 ⊖ (rv 0 ⊖ rat μ) ⊗ (rv 0 ⊖ rat μ)) tt),
+      sub-≤q s ((L +q micrometre) *q (L +q micrometre))
+          (by-nn ρ [] tt H w []
+          (hyp 0 ⊠ (hyp 2 ⊞ num 17179869185 268435455 ⊞ hyp 1) ⊞ num 4178679 2097151999999 ⊠ hyp 2
+          ⊞ hyp 3 ⊞ num 95927575277189903791 17592186044415999999999999)
+          ((rv 0 ⊕ rat μ) ⊗ (rv 0 ⊕ rat μ) ⊖ rv 2) tt),
     )
 
 -- ---- L ≤ 64: each part of delta is at most 65
@@ -66,7 +86,9 @@ small L l x y z p h k j =
     let H : List Rx = (rat (ivF (3 * 2 ^ 238)) ⊕ (rv 1 ⊗ rv 1 ⊖ s)) ∷ (nat 64 ⊖ rv 0) ∷ (rat (ivF (2 ^ 228)) ⊖ (rv 1 ⊖ rv 0)) ∷ rv 1 ∷ [] in
     let w : Nns ρ H = (j .1, (≤q-sub L (qn 64) h, (k .0, (p, tt)))) in
     root-abs x (65 * 2 ^ 256) tt
-    (by-nn ρ [] tt H w [] (sqr (rv 3) ⊞ sqr (rv 4) ⊞ hyp 0 ⊞ (hyp 1 ⊞ hyp 2) ⊠ (num 17179869185 268435455 ⊞ hyp 3) ⊞ num 9295428771899244543 72057594037927935) (rat (ivF (65 * 2 ^ 256)) ⊗ rat (ivF (65 * 2 ^ 256)) ⊖ rv 2 ⊗ rv 2) tt)
+    (by-nn ρ [] tt H w []
+    (sqr (rv 3) ⊞ sqr (rv 4) ⊞ hyp 0 ⊞ (hyp 1 ⊞ hyp 2) ⊠ (num 17179869185 268435455 ⊞ hyp 3) ⊞ num 9295428771899244543 72057594037927935)
+    (rat (ivF (65 * 2 ^ 256)) ⊗ rat (ivF (65 * 2 ^ 256)) ⊖ rv 2 ⊗ rv 2) tt)
 
 -- ---- delta² less d², for parts of at most A
 offR : Rx
@@ -76,7 +98,9 @@ unfoldable pub offs : ℕ → ℕ → Bool
 unfolding offR bounds
 offs A K = bounds (dErr ∷ dErr ∷ dErr ∷ A ∷ A ∷ A ∷ []) offR K
 
-squares : (A K e S : ℕ) → T (offs A K) → T (leb (e + K) S) → (l x y z a b c : ℚ) → Abs x A → Abs y A → Abs z A → Abs (x -q a) dErr → Abs (y -q b) dErr → Abs (z -q c) dErr → Abs (l *q l -q (x *q x +q y *q y +q z *q z)) e → Abs (l *q l -q (a *q a +q b *q b +q c *q c)) S
+squares : (A K e S : ℕ) → T (offs A K) → T (leb (e + K) S) → (l x y z a b c : ℚ)
+    → Abs x A → Abs y A → Abs z A → Abs (x -q a) dErr → Abs (y -q b) dErr → Abs (z -q c) dErr
+    → Abs (l *q l -q (x *q x +q y *q y +q z *q z)) e → Abs (l *q l -q (a *q a +q b *q b +q c *q c)) S
 unfolding offs offR sameQ
 squares A K e S t u l x y z a b c hx hy hz dx dy dz j =
     let ρ = l ∷ x ∷ y ∷ z ∷ a ∷ b ∷ c ∷ [] in
@@ -85,7 +109,10 @@ squares A K e S t u l x y z a b c hx hy hz dx dy dz j =
     let r = (x -q a) *q (qn 2 *q x -q (x -q a)) +q (y -q b) *q (qn 2 *q y -q (y -q b)) +q (z -q c) *q (qn 2 *q z -q (z -q c)) in
     abs-mono (l *q l -q (a *q a +q b *q b +q c *q c)) (e + K) S (leb→le (e + K) S u)
     (abs-eq ((l *q l -q s) +q r) (l *q l -q (a *q a +q b *q b +q c *q c)) (e + K)
-    (ringQ ρ ((rv 0 ⊗ rv 0 ⊖ (rv 1 ⊗ rv 1 ⊕ rv 2 ⊗ rv 2 ⊕ rv 3 ⊗ rv 3)) ⊕ ((rv 1 ⊖ rv 4) ⊗ (nat 2 ⊗ rv 1 ⊖ (rv 1 ⊖ rv 4)) ⊕ (rv 2 ⊖ rv 5) ⊗ (nat 2 ⊗ rv 2 ⊖ (rv 2 ⊖ rv 5)) ⊕ (rv 3 ⊖ rv 6) ⊗ (nat 2 ⊗ rv 3 ⊖ (rv 3 ⊖ rv 6)))) (rv 0 ⊗ rv 0 ⊖ (rv 4 ⊗ rv 4 ⊕ rv 5 ⊗ rv 5 ⊕ rv 6 ⊗ rv 6)) tt)
+    (ringQ ρ
+    ((rv 0 ⊗ rv 0 ⊖ (rv 1 ⊗ rv 1 ⊕ rv 2 ⊗ rv 2 ⊕ rv 3 ⊗ rv 3))
+    ⊕ ((rv 1 ⊖ rv 4) ⊗ (nat 2 ⊗ rv 1 ⊖ (rv 1 ⊖ rv 4)) ⊕ (rv 2 ⊖ rv 5) ⊗ (nat 2 ⊗ rv 2 ⊖ (rv 2 ⊖ rv 5)) ⊕ (rv 3 ⊖ rv 6) ⊗ (nat 2 ⊗ rv 3 ⊖ (rv 3 ⊖ rv 6))))
+    (rv 0 ⊗ rv 0 ⊖ (rv 4 ⊗ rv 4 ⊕ rv 5 ⊗ rv 5 ⊕ rv 6 ⊗ rv 6)) tt)
     (abs-add (l *q l -q s) r e K j o))
 
 abbrev wide : ℕ
@@ -94,11 +121,13 @@ wide = 71 * 2 ^ 264
 abbrev near : ℕ
 near = 65 * 2 ^ 256
 
-wide-sides : T (sides wide wide wide (2 ^ 238) (101 * 2 ^ 264)) × T (sides (101 * 2 ^ 264) wide (101 * 2 ^ 264) (2 ^ 239) (124 * 2 ^ 264)) × T (offs wide (2 ^ 238)) × T (leb (2 ^ 239 + (2 ^ 238 + 0) + (2 ^ 238)) (2 ^ 243))
+wide-sides : T (sides wide wide wide (2 ^ 238) (101 * 2 ^ 264)) × T (sides (101 * 2 ^ 264) wide (101 * 2 ^ 264) (2 ^ 239) (124 * 2 ^ 264))
+    × T (offs wide (2 ^ 238)) × T (leb (2 ^ 239 + (2 ^ 238 + 0) + (2 ^ 238)) (2 ^ 243))
 unfolding sides offs hyp-fits leq _+q_ _*q_ iv U negq
 wide-sides = (tt, tt, tt, tt)
 
-near-sides : T (sides near near near (2 ^ 220) (92 * 2 ^ 256)) × T (sides (92 * 2 ^ 256) near (92 * 2 ^ 256) (2 ^ 221) (113 * 2 ^ 256)) × T (offs near (7 * 2 ^ 227)) × T (leb (2 ^ 221 + (2 ^ 220 + 0) + 7 * 2 ^ 227) (2 ^ 233))
+near-sides : T (sides near near near (2 ^ 220) (92 * 2 ^ 256)) × T (sides (92 * 2 ^ 256) near (92 * 2 ^ 256) (2 ^ 221) (113 * 2 ^ 256))
+    × T (offs near (7 * 2 ^ 227)) × T (leb (2 ^ 221 + (2 ^ 220 + 0) + 7 * 2 ^ 227) (2 ^ 233))
 unfolding sides offs hyp-fits leq _+q_ _*q_ iv U negq
 near-sides = (tt, tt, tt, tt)
 
@@ -118,26 +147,37 @@ own-wide f x h = abs-mono (val f) (dTop + dErr) wide (leb→le (dTop + dErr) wid
 
 round-sum : (l x y z : ℚ) (e : ℕ) → Abs (l *q l -q (x *q x +q y *q y +q z *q z)) e → Abs (l *q l -q (y *q y +q z *q z +q x *q x)) e
 unfolding sameQ
-round-sum l x y z e h = abs-eq (l *q l -q (x *q x +q y *q y +q z *q z)) (l *q l -q (y *q y +q z *q z +q x *q x)) e (ringQ (l ∷ x ∷ y ∷ z ∷ []) (rv 0 ⊗ rv 0 ⊖ (rv 1 ⊗ rv 1 ⊕ rv 2 ⊗ rv 2 ⊕ rv 3 ⊗ rv 3)) (rv 0 ⊗ rv 0 ⊖ (rv 2 ⊗ rv 2 ⊕ rv 3 ⊗ rv 3 ⊕ rv 1 ⊗ rv 1)) tt) h
+round-sum l x y z e h =
+    abs-eq (l *q l -q (x *q x +q y *q y +q z *q z)) (l *q l -q (y *q y +q z *q z +q x *q x)) e
+    (ringQ (l ∷ x ∷ y ∷ z ∷ [])
+    (rv 0 ⊗ rv 0 ⊖ (rv 1 ⊗ rv 1 ⊕ rv 2 ⊗ rv 2 ⊕ rv 3 ⊗ rv 3)) (rv 0 ⊗ rv 0 ⊖ (rv 2 ⊗ rv 2 ⊕ rv 3 ⊗ rv 3 ⊕ rv 1 ⊗ rv 1)) tt) h
 
-pub rod-met : (delta : Vec3) (d : Vector) (L v t : Float) → Fits3 delta → IsV delta d dTop dErr → lengthOf delta less L ≡ v → T (finite L) → mk eighth ≤q val L → T (finite t) → Abs (val t) tolTop → T (le (absOf v) t) → Bounded (val L) (d · d)
-rod-met delta d L v t F D e fL lo ft ht k =
-    let x = val (delta .x) in
-    let y = val (delta .y) in
-    let z = val (delta .z) in
-    let l = lengthOf delta in
-    let W = vec-length wide (101 * 2 ^ 264) (124 * 2 ^ 264) (2 ^ 238) (2 ^ 239) (wide-sides .0) (wide-sides .1) delta F (own-wide (delta .x) (d .x) (D .x-is)) (own-wide (delta .y) (d .y) (D .y-is)) (own-wide (delta .z) (d .z) (D .z-is)) in
-    let fv = abs-limit v t ft k .0 in
-    let apart = sub-back l L tolTop (W .side .fine) fL (subst (λ a. T (finite a)) (sym e) fv) (subst (λ a. Abs (val a) tolTop) (sym e) (value-top v t tolTop ft ht k)) in
-    let off = abs-mono (val l -q val L) (2 * tolTop + 1) (2 ^ 228) (leb→le (2 * tolTop + 1) (2 ^ 228) tt) apart in
-    choose (leq (val L) (qn 64)) refl W off
-  where
-    choose : (b : Bool) → leq (val L) (qn 64) ≡ b → Long (lengthOf delta) (val (delta .x) *q val (delta .x) +q val (delta .y) *q val (delta .y) +q val (delta .z) *q val (delta .z)) (2 ^ 239 + (2 ^ 238 + 0)) (124 * 2 ^ 264) → Abs (val (lengthOf delta) -q val L) (2 ^ 228) → Bounded (val L) (d · d)
-    choose true b W off =
-        let x = val (delta .x) in
-        let y = val (delta .y) in
-        let z = val (delta .z) in
-        let l = val (lengthOf delta) in
+module _ (delta : Vec3) (d : Vector) (D : IsV delta d dTop dErr) where
+  abbrev x : ℚ
+  x = val (delta .x)
+
+  abbrev y : ℚ
+  y = val (delta .y)
+
+  abbrev z : ℚ
+  z = val (delta .z)
+
+  abbrev l : ℚ
+  l = val (lengthOf delta)
+
+  x-wide : Abs x wide
+  x-wide = own-wide (delta .x) (d .x) (D .x-is)
+
+  y-wide : Abs y wide
+  y-wide = own-wide (delta .y) (d .y) (D .y-is)
+
+  z-wide : Abs z wide
+  z-wide = own-wide (delta .z) (d .z) (D .z-is)
+
+  module _ (L : Float) (F : Fits3 delta) (lo : mk eighth ≤q val L) (W : Long (lengthOf delta) (x *q x +q y *q y +q z *q z) (3 * 2 ^ 238) (124 * 2 ^ 264))
+      (off : Abs (l -q val L) (2 ^ 228)) where
+    by-length : (b : Bool) → leq (val L) (qn 64) ≡ b → Bounded (val L) (d · d)
+    by-length true b =
         let low = subst T (sym b) tt in
         let n = W .side .near in
         let hx = small (val L) l x y z (W .not-neg) low off n in
@@ -145,10 +185,26 @@ rod-met delta d L v t F D e fL lo ft ht k =
         let hz = small (val L) l z x y (W .not-neg) low off (round-sum l y z x (3 * 2 ^ 238) (round-sum l x y z (3 * 2 ^ 238) n)) in
         let M = vec-length near (92 * 2 ^ 256) (113 * 2 ^ 256) (2 ^ 220) (2 ^ 221) (near-sides .0) (near-sides .1) delta F hx hy hz in
         short (val L) l (d · d) (W .not-neg) (≤q-sub (mk eighth) (val L) lo) off
-        (squares near (7 * 2 ^ 227) (2 ^ 221 + (2 ^ 220 + 0)) (2 ^ 233) (near-sides .2) (near-sides .3) l x y z (d .x) (d .y) (d .z) hx hy hz (D .x-is .2) (D .y-is .2) (D .z-is .2) (M .side .near))
-    choose false b W off =
-        long (val L) (val (lengthOf delta)) (d · d) (W .not-neg) (≤q-sub (qn 64) (val L) (≤q-total (val L) (qn 64) (subst (λ c. T (not c)) (sym b) tt))) off
-        (squares wide (2 ^ 238) (2 ^ 239 + (2 ^ 238 + 0)) (2 ^ 243) (wide-sides .2) (wide-sides .3) (val (lengthOf delta)) (val (delta .x)) (val (delta .y)) (val (delta .z)) (d .x) (d .y) (d .z) (own-wide (delta .x) (d .x) (D .x-is)) (own-wide (delta .y) (d .y) (D .y-is)) (own-wide (delta .z) (d .z) (D .z-is)) (D .x-is .2) (D .y-is .2) (D .z-is .2) (W .side .near))
+        (squares near (7 * 2 ^ 227) (2 ^ 221 + (2 ^ 220 + 0)) (2 ^ 233) (near-sides .2) (near-sides .3) l x y z (d .x) (d .y) (d .z) hx hy hz
+        (D .x-is .2) (D .y-is .2) (D .z-is .2) (M .side .near))
+    by-length false b =
+        long (val L) l (d · d) (W .not-neg) (≤q-sub (qn 64) (val L) (≤q-total (val L) (qn 64) (subst (λ c. T (not c)) (sym b) tt))) off
+        (squares wide (2 ^ 238) (2 ^ 239 + (2 ^ 238 + 0)) (2 ^ 243) (wide-sides .2) (wide-sides .3) l x y z (d .x) (d .y) (d .z) x-wide y-wide z-wide
+        (D .x-is .2) (D .y-is .2) (D .z-is .2) (W .side .near))
+
+pub rod-met : (delta : Vec3) (d : Vector) (L v t : Float) → Fits3 delta → IsV delta d dTop dErr → lengthOf delta less L ≡ v
+    → T (finite L) → mk eighth ≤q val L → T (finite t) → Abs (val t) tolTop → T (le (absOf v) t) → Bounded (val L) (d · d)
+rod-met delta d L v t F D e fL lo ft ht k =
+    let l = lengthOf delta in
+    let W =
+    vec-length wide (101 * 2 ^ 264) (124 * 2 ^ 264) (2 ^ 238) (2 ^ 239) (wide-sides .0) (wide-sides .1) delta F
+    (x-wide delta d D) (y-wide delta d D) (z-wide delta d D) in
+    let fv = abs-limit v t ft k .0 in
+    let apart =
+    sub-back l L tolTop (W .side .fine) fL (subst (λ a. T (finite a)) (sym e) fv)
+    (subst (λ a. Abs (val a) tolTop) (sym e) (value-top v t tolTop ft ht k)) in
+    let off = abs-mono (val l -q val L) (2 * tolTop + 1) (2 ^ 228) (leb→le (2 * tolTop + 1) (2 ^ 228) tt) apart in
+    by-length delta d D L F lo W off (leq (val L) (qn 64)) refl
 
 -- the test of refusal 9
 pub length-in : (L : Float) → T (lengthIn L) → T (finite L) × (mk eighth ≤q val L)

@@ -15,10 +15,12 @@ use Rattle.arith.specs.FlowLaws.{every-at}
 use Rattle.vectors.specs.declared.vector.Vec3.{Vec3}
 use Rattle.vectors.specs.Vector.{axisX, axisY, axisZ}
 use Rattle.rows.specs.declared.geometry.Joint.{Joint}
+use Rattle.rows.specs.declared.geometry.Linear.{Linear}
+use Rattle.rows.specs.declared.geometry.Turning.{Turning}
 use Rattle.rows.specs.declared.geometry.EqualityRow.{EqualityRow}
 use Rattle.rows.specs.declared.geometry.Ends.{Ends}
 use Rattle.rows.specs.Fault.{Result}
-use Rattle.rows.specs.Geometry.{linearRow, rowIf, linearAxes, linearRows, alignRows, angularRows, frameRows}
+use Rattle.rows.specs.Geometry.{linearRow, rowIf, axesOf, linearRows, alignRows, turningRows, frameRows}
 use Rattle.rows.specs.Laws.Results.{step, go-same, Facing, facing, Across, across}
 
 -- row.value.abs() <= row.tolerance
@@ -48,7 +50,8 @@ pub record Each (r : Result (List EqualityRow)) : Type 0 where
   pub is : r ≡ go rows
   pub within : RowsIn rows
 
-pub rows-each : (f : ℕ → Result (List EqualityRow)) (n : ℕ) (rows : List EqualityRow) → loop n (λ k before. f k >>= λ local. go (before ++ local)) [] ≡ go rows → RowsIn rows → (k : ℕ) → k < n → Each (f k)
+pub rows-each : (f : ℕ → Result (List EqualityRow)) (n : ℕ) (rows : List EqualityRow)
+    → loop n (λ k before. f k >>= λ local. go (before ++ local)) [] ≡ go rows → RowsIn rows → (k : ℕ) → k < n → Each (f k)
 unfolding loop
 rows-each f zero rows h w k l = absurd (omega arith)
 rows-each f (suc n) rows h w k l =
@@ -69,42 +72,45 @@ pub record Found (r : Result EqualityRow) : Type 0 where
 
 found-if : (locked : Bool) (r : Result EqualityRow) (l : List EqualityRow) → rowIf locked r ≡ go l → RowsIn l → T locked → Found r
 found-if false r l h w t = absurd t
-found-if true r l h w t = let s = step r (λ (row : EqualityRow). go (row ∷ [])) l h in record { row = s .0; is = s .1; within = subst RowsIn (sym (go-same (s .0 ∷ []) l (s .2))) w .0 }
+found-if true r l h w t =
+    let s = step r (λ (row : EqualityRow). go (row ∷ [])) l h in
+    record { row = s .0; is = s .1; within = subst RowsIn (sym (go-same (s .0 ∷ []) l (s .2))) w .0 }
 
-pub record Linear (joint : Joint) (e : Ends) : Type 0 where
-  pub on-x : T (linearAxes (joint .kind) .x) → Found (linearRow joint e axisX)
-  pub on-y : T (linearAxes (joint .kind) .y) → Found (linearRow joint e axisY)
-  pub on-z : T (linearAxes (joint .kind) .z) → Found (linearRow joint e axisZ)
+pub record OnAxes (linear : Linear) (joint : Joint) (e : Ends) : Type 0 where
+  pub on-x : T (axesOf linear .x) → Found (linearRow joint e axisX)
+  pub on-y : T (axesOf linear .y) → Found (linearRow joint e axisY)
+  pub on-z : T (axesOf linear .z) → Found (linearRow joint e axisZ)
 
-linear : (joint : Joint) (e : Ends) (l : List EqualityRow) → linearRows joint e ≡ go l → RowsIn l → Linear joint e
+on-axes : (linear : Linear) (joint : Joint) (e : Ends) (l : List EqualityRow) → linearRows linear joint e ≡ go l → RowsIn l → OnAxes linear joint e
 unfolding linearRows
-linear joint e l h w =
+on-axes linear joint e l h w =
     let r₁ = step _ _ l h in
     let r₂ = step _ _ l (r₁ .2) in
     let r₃ = step _ _ l (r₂ .2) in
     let s = rows-split (r₁ .0 ++ r₂ .0) (r₃ .0) (subst RowsIn (sym (go-same ((r₁ .0 ++ r₂ .0) ++ r₃ .0) l (r₃ .2))) w) in
     let s' = rows-split (r₁ .0) (r₂ .0) (s .0) in
     record {
-      on-x = found-if (linearAxes (joint .kind) .x) (linearRow joint e axisX) (r₁ .0) (r₁ .1) (s' .0);
-      on-y = found-if (linearAxes (joint .kind) .y) (linearRow joint e axisY) (r₂ .0) (r₂ .1) (s' .1);
-      on-z = found-if (linearAxes (joint .kind) .z) (linearRow joint e axisZ) (r₃ .0) (r₃ .1) (s .1);
+      on-x = found-if (axesOf linear .x) (linearRow joint e axisX) (r₁ .0) (r₁ .1) (s' .0);
+      on-y = found-if (axesOf linear .y) (linearRow joint e axisY) (r₂ .0) (r₂ .1) (s' .1);
+      on-z = found-if (axesOf linear .z) (linearRow joint e axisZ) (r₃ .0) (r₃ .1) (s .1);
     }
 
--- ---- the rows of a kind that is no rod
-pub record Framed (joint : Joint) (e : Ends) : Type 0 where
-  pub linear : Linear joint e
+-- ---- the rows of a joint that is no rod
+pub record Framed (linear : Linear) (turning : Turning) (joint : Joint) (e : Ends) : Type 0 where
+  pub along : OnAxes linear joint e
   pub angular : List EqualityRow
-  pub angular-is : angularRows (joint .kind) joint e ≡ go angular
+  pub angular-is : turningRows turning joint e ≡ go angular
   pub within : RowsIn angular
 
-pub framed : (joint : Joint) (e : Ends) (rows : List EqualityRow) → frameRows joint e ≡ go rows → RowsIn rows → Framed joint e
-unfolding frameRows
-framed joint e rows h w =
-    let r₁ = step _ _ rows h in
-    let r₂ = step _ _ rows (r₁ .2) in
-    let r₃ = step _ _ rows (r₂ .2) in
-    let s = rows-split (r₁ .0) (r₂ .0) (subst RowsIn (sym (go-same (r₁ .0 ++ r₂ .0) rows (r₃ .2))) w) in
-    record { linear = linear joint e (r₁ .0) (r₁ .1) (s .0); angular = r₂ .0; angular-is = r₂ .1; within = s .1 }
+module _ (linear : Linear) (turning : Turning) (joint : Joint) (e : Ends) where
+  pub framed : (rows : List EqualityRow) → frameRows linear turning joint e ≡ go rows → RowsIn rows → Framed linear turning joint e
+  unfolding frameRows
+  framed rows h w =
+      let r₁ = step _ _ rows h in
+      let r₂ = step _ _ rows (r₁ .2) in
+      let r₃ = step _ _ rows (r₂ .2) in
+      let s = rows-split (r₁ .0) (r₂ .0) (subst RowsIn (sym (go-same (r₁ .0 ++ r₂ .0) rows (r₃ .2))) w) in
+      record { along = on-axes linear joint e (r₁ .0) (r₁ .1) (s .0); angular = r₂ .0; angular-is = r₂ .1; within = s .1 }
 
 -- ---- the two rows across
 pub record Aligns (joint : Joint) (e : Ends) : Type 0 where

@@ -1,8 +1,9 @@
+-- `settle` is `settled` for each end of the run: the states are written where all stand on the ground.
 use Rattle.step.specs.View.{statesAt}
 use native.Mathlib.Omega.{arith}
-use mathlib.Core.Path.{_≡_, refl, sym, ap, _∙_}
-use Prim.Native.Nat.{ℕ, _+_, _*_, _≤_, _<_, _-_}
-use lib.ListN.{length, length-set}
+use mathlib.Core.Path.{refl}
+use Prim.Native.Nat.{_-_}
+use lib.ListN.{length}
 use denote.Ref.{now}
 use Rattle.step.proofs.FinishLaws.{settle-as, settle-accepts, settle-grounds}
 use borrow.Author.Needs.{needs}
@@ -13,16 +14,26 @@ enum-told : tie.Need-enum-told
 enum-told c = search needs
 
 in-ground-requires : tie.Need-in-ground-requires
-in-ground-requires c κs = (c .before .before .before .before .pre .2, c .before .before .before .before .pre .3)
+in-ground-requires c κs =
+    let at-entry = c .before .before .before .before in
+    (at-entry .pre .2, at-entry .pre .3)
 
 write-states-requires : tie.Need-write-states-requires
-write-states-requires c κs = (omega (arith, c .before .before .before .before .before .before .before .pre .1), c .before .before .before .before .before .before .before .pre .2, c .before .before .before .before .before .before .before .pre .3)
+write-states-requires c κs =
+    let at-slice-known = c .before .before .before .before .before .before in let at-entry = at-slice-known .before in
+    (omega arith, at-entry .pre .2, at-entry .pre .3)
 
 same-length : tie.Need-same-length
 same-length c = search needs
 
 returns : tie.Need-returns
-returns c = λ nonlinear linear scratch. settle-as (now (c .before .before .before .before .before .before .before .before .before .before .args .bodies)) scratch (statesAt (now (c .before .before .before .before .before .before .before .before .before .before .args .work)) (c .before .before .before .before .before .before .before .before .before .before .args .n)) (c .before .before .before .before .before .before .before .before .before .before .args .finish) (c .before .before .before .before .before .before .enum-told .given .1) nonlinear linear (settle-accepts (c .before .before .before .before .before .before .before .before .before .before .args .n) (now (c .before .before .before .before .before .before .before .before .before .before .args .work)) (now (c .before .before .before .before .before .before .before .before .before .before .args .bodies)) (c .before .before .before .before .before .in-ground .ensures) nonlinear linear scratch (c .before .before .before .before .if1 .taken) (c .before .before .before .before .before .before .before .before .before .before .pre .1) (c .before .before .before .before .before .before .before .before .before .before .pre .0) (c .before .before .write-states .ensures))
+returns c =
+    let at-if1 = c .before .before .before .before in let at-in-ground = at-if1 .before in let at-enum-told = at-in-ground .before in
+    let at-entry = at-enum-told .before .before .before .before in
+    λ nonlinear linear scratch. settle-as (now (at-entry .args .bodies)) scratch (statesAt (now (at-entry .args .work)) (at-entry .args .n))
+    (at-entry .args .finish) (at-enum-told .enum-told .given .1) nonlinear linear
+    (settle-accepts (at-entry .args .n) (now (at-entry .args .work)) (now (at-entry .args .bodies)) (at-in-ground .in-ground .ensures) nonlinear
+    linear scratch (at-if1 .if1 .taken) (at-entry .pre .1) (at-entry .pre .0) (c .before .before .write-states .ensures))
 
 enum-told-2 : tie.Need-enum-told-2
 enum-told-2 c = search needs
@@ -31,13 +42,24 @@ enum-told-3 : tie.Need-enum-told-3
 enum-told-3 c = search needs
 
 returns-2 : tie.Need-returns-2
-returns-2 c = λ nonlinear linear scratch. settle-as (now (c .before .before .before .before .before .before .args .bodies)) scratch (statesAt (now (c .before .before .before .before .before .before .args .work)) (c .before .before .before .before .before .before .args .n)) (c .before .before .before .before .before .before .args .finish) (c .before .before .enum-told .given .1) nonlinear linear (settle-grounds (c .before .before .before .before .before .before .args .n) (now (c .before .before .before .before .before .before .args .work)) (now (c .before .before .before .before .before .before .args .bodies)) (c .before .in-ground .ensures) nonlinear linear scratch (c .if1 .left))
+returns-2 c =
+    let at-entry = c .before .before .before .before .before .before in
+    λ nonlinear linear scratch. settle-as (now (at-entry .args .bodies)) scratch (statesAt (now (at-entry .args .work)) (at-entry .args .n))
+    (at-entry .args .finish) (c .before .before .enum-told .given .1) nonlinear linear
+    (settle-grounds (at-entry .args .n) (now (at-entry .args .work)) (now (at-entry .args .bodies)) (c .before .in-ground .ensures) nonlinear linear
+    scratch (c .if1 .left))
 
 returns-3 : tie.Need-returns-3
-returns-3 c = λ nonlinear linear scratch. settle-as (now (c .before .before .before .before .args .bodies)) scratch (statesAt (now (c .before .before .before .before .args .work)) (c .before .before .before .before .args .n)) (c .before .before .before .before .args .finish) (c .enum-told2 .given .1) nonlinear linear refl
+returns-3 c =
+    let at-entry = c .before .before .before .before in
+    λ nonlinear linear scratch. settle-as (now (at-entry .args .bodies)) scratch (statesAt (now (at-entry .args .work)) (at-entry .args .n))
+    (at-entry .args .finish) (c .enum-told2 .given .1) nonlinear linear refl
 
 returns-4 : tie.Need-returns-4
-returns-4 c = λ nonlinear linear scratch. settle-as (now (c .before .before .before .before .args .bodies)) scratch (statesAt (now (c .before .before .before .before .args .work)) (c .before .before .before .before .args .n)) (c .before .before .before .before .args .finish) (c .enum-told3 .given .1) nonlinear linear refl
+returns-4 c =
+    let at-entry = c .before .before .before .before in
+    λ nonlinear linear scratch. settle-as (now (at-entry .args .bodies)) scratch (statesAt (now (at-entry .args .work)) (at-entry .args .n))
+    (at-entry .args .finish) (c .enum-told3 .given .1) nonlinear linear refl
 
 pub settle-spec : {M : Type 1} → statement M
 settle-spec =

@@ -1,15 +1,14 @@
+-- `solve` meets `Answered`: an early refusal by the checks' contract, else by `solve_in` and the laws of the definition (AnsweredLaws).
 use Rattle.step.specs.Records.{recordsOf}
 use Rattle.step.specs.Step.{runOf}
-use lib.ListN.{length, length-set}
+use lib.ListN.{length}
 use denote.Ref.{now}
 use Rattle.step.specs.CheckLaws.{ready-joined}
 use Rattle.step.proofs.AnsweredLaws.{run-ready, answered-refused, answered-run}
 use Rattle.step.proofs.FinishLaws.{solved-scratch}
 use Rattle.step.proofs.StepLaws.{take-long}
-use native.Mathlib.Omega.{arith}
-use mathlib.Core.Path.{_≡_, refl, sym, ap, _∙_}
-use Prim.Native.Nat.{ℕ, _+_, _*_, _≤_, _<_, _-_}
-use borrow.Author.Needs.{counted-is}
+use mathlib.Core.Path.{sym}
+use Prim.Native.Nat.{_-_}
 use borrow.Author.Needs.{needs}
 use Rattle.step.proofs.solve.Statement.{statement}
 use Rattle.step.proofs.solve.Tie as tie
@@ -24,16 +23,39 @@ same-length : tie.Need-same-length
 same-length c = search needs
 
 returns : tie.Need-returns
-returns c = answered-refused (now (c .before .before .before .before .before .before .args .bodies)) (c .before .before .before .before .before .before .args .joints) (c .before .before .before .before .before .before .args .count) (c .before .before .before .before .before .before .args .dt) (now (c .before .before .before .before .before .before .args .scratch)) (c .before .before .refusal .ensures) (c .before .accepted .ensures) (c .if1 .taken)
+returns c =
+    let at-entry = c .before .before .before .before .before .before in
+    answered-refused (now (at-entry .args .bodies)) (at-entry .args .joints) (at-entry .args .count) (at-entry .args .dt)
+    (now (at-entry .args .scratch)) (c .before .before .refusal .ensures) (c .before .accepted .ensures) (c .if1 .taken)
 
 slice-relend-prefix-solve-in : tie.Need-slice-relend-prefix-solve-in
-slice-relend-prefix-solve-in c = run-ready (now (c .before .before .before .before .before .before .before .args .bodies)) (c .before .before .before .before .before .before .before .args .joints) (c .before .before .before .before .before .before .before .args .count) (c .before .before .before .before .before .before .before .args .dt) (now (c .before .before .before .before .before .before .before .args .scratch)) (c .before .before .before .refusal .ensures) (c .before .before .accepted .ensures) (c .before .if1 .left) .room
+slice-relend-prefix-solve-in c =
+    let at-refusal = c .before .before .before in let at-entry = at-refusal .before .before .before .before in
+    run-ready (now (at-entry .args .bodies)) (at-entry .args .joints) (at-entry .args .count) (at-entry .args .dt) (now (at-entry .args .scratch))
+    (at-refusal .refusal .ensures) (c .before .before .accepted .ensures) (c .before .if1 .left) .room
 
 slice-aggregate-solve-in : tie.Need-slice-aggregate-solve-in
-slice-aggregate-solve-in c = sym (take-long 6144 (c .before .before .before .before .before .before .before .before .args .scratch .now) (run-ready (now (c .before .before .before .before .before .before .before .before .args .bodies)) (c .before .before .before .before .before .before .before .before .args .joints) (c .before .before .before .before .before .before .before .before .args .count) (c .before .before .before .before .before .before .before .before .args .dt) (now (c .before .before .before .before .before .before .before .before .args .scratch)) (c .before .before .before .before .refusal .ensures) (c .before .before .before .accepted .ensures) (c .before .before .if1 .left) .room))
+slice-aggregate-solve-in c =
+    let at-accepted = c .before .before .before in let at-refusal = at-accepted .before in
+    let at-entry = at-refusal .before .before .before .before in
+    sym
+    (take-long 6144 (at-entry .args .scratch .now)
+    (run-ready (now (at-entry .args .bodies)) (at-entry .args .joints) (at-entry .args .count) (at-entry .args .dt) (now (at-entry .args .scratch))
+    (at-refusal .refusal .ensures) (at-accepted .accepted .ensures) (c .before .before .if1 .left) .room))
 
 solve-in-requires : tie.Need-solve-in-requires
-solve-in-requires c κs = (take-long 6144 (c .before .before .before .before .before .before .before .before .args .scratch .now) (run-ready (now (c .before .before .before .before .before .before .before .before .args .bodies)) (c .before .before .before .before .before .before .before .before .args .joints) (c .before .before .before .before .before .before .before .before .args .count) (c .before .before .before .before .before .before .before .before .args .dt) (now (c .before .before .before .before .before .before .before .before .args .scratch)) (c .before .before .before .before .refusal .ensures) (c .before .before .before .accepted .ensures) (c .before .before .if1 .left) .room), run-ready (now (c .before .before .before .before .before .before .before .before .args .bodies)) (c .before .before .before .before .before .before .before .before .args .joints) (c .before .before .before .before .before .before .before .before .args .count) (c .before .before .before .before .before .before .before .before .args .dt) (now (c .before .before .before .before .before .before .before .before .args .scratch)) (c .before .before .before .before .refusal .ensures) (c .before .before .before .accepted .ensures) (c .before .before .if1 .left) .whole, ready-joined (run-ready (now (c .before .before .before .before .before .before .before .before .args .bodies)) (c .before .before .before .before .before .before .before .before .args .joints) (c .before .before .before .before .before .before .before .before .args .count) (c .before .before .before .before .before .before .before .before .args .dt) (now (c .before .before .before .before .before .before .before .before .args .scratch)) (c .before .before .before .before .refusal .ensures) (c .before .before .before .accepted .ensures) (c .before .before .if1 .left)))
+solve-in-requires c κs =
+    let at-if1 = c .before .before in let at-accepted = at-if1 .before in let at-refusal = at-accepted .before in
+    let at-entry = at-refusal .before .before .before .before in (
+      take-long 6144 (at-entry .args .scratch .now)
+          (run-ready (now (at-entry .args .bodies)) (at-entry .args .joints) (at-entry .args .count) (at-entry .args .dt) (now (at-entry .args .scratch))
+          (at-refusal .refusal .ensures) (at-accepted .accepted .ensures) (at-if1 .if1 .left) .room),
+      run-ready (now (at-entry .args .bodies)) (at-entry .args .joints) (at-entry .args .count) (at-entry .args .dt) (now (at-entry .args .scratch))
+          (at-refusal .refusal .ensures) (at-accepted .accepted .ensures) (at-if1 .if1 .left) .whole,
+      ready-joined
+          (run-ready (now (at-entry .args .bodies)) (at-entry .args .joints) (at-entry .args .count) (at-entry .args .dt) (now (at-entry .args .scratch))
+          (at-refusal .refusal .ensures) (at-accepted .accepted .ensures) (at-if1 .if1 .left)),
+    )
 
 same-length-2 : tie.Need-same-length-2
 same-length-2 c = search needs
@@ -42,7 +64,14 @@ same-length-3 : tie.Need-same-length-3
 same-length-3 c = search needs
 
 returns-2 : tie.Need-returns-2
-returns-2 c = answered-run (now (c .before .before .before .before .before .before .before .before .before .before .before .before .before .args .bodies)) (c .before .before .before .before .before .before .before .before .before .before .before .before .before .args .joints) (c .before .before .before .before .before .before .before .before .before .before .before .before .before .args .count) (c .before .before .before .before .before .before .before .before .before .before .before .before .before .args .dt) (now (c .before .before .before .before .before .before .before .before .before .before .before .before .before .args .scratch)) (c .before .before .before .before .before .before .before .before .before .refusal .ensures) (c .before .before .before .before .before .before .before .before .accepted .ensures) _ _ _ (c .before .before .before .before .before .before .before .if1 .left) (solved-scratch (now (c .before .before .before .before .before .before .before .before .before .before .before .before .before .args .bodies)) (now (c .before .before .before .before .before .before .before .before .before .before .before .before .before .args .scratch)) (runOf (recordsOf (now (c .before .before .before .before .before .before .before .before .before .before .before .before .before .args .bodies))) (c .before .before .before .before .before .before .before .before .before .before .before .before .before .args .joints) (c .before .before .before .before .before .before .before .before .before .before .before .before .before .args .count) (c .before .before .before .before .before .before .before .before .before .before .before .before .before .args .dt)) (c .before .before .before .before .solve-in .ensures))
+returns-2 c =
+    let at-solve-in = c .before .before .before .before in let at-if1 = at-solve-in .before .before .before in let at-accepted = at-if1 .before in
+    let at-refusal = at-accepted .before in let at-entry = at-refusal .before .before .before .before in
+    answered-run (now (at-entry .args .bodies)) (at-entry .args .joints) (at-entry .args .count) (at-entry .args .dt)
+    (now (at-entry .args .scratch)) (at-refusal .refusal .ensures) (at-accepted .accepted .ensures) _ _ _ (at-if1 .if1 .left)
+    (solved-scratch (now (at-entry .args .bodies)) (now (at-entry .args .scratch))
+    (runOf (recordsOf (now (at-entry .args .bodies))) (at-entry .args .joints) (at-entry .args .count) (at-entry .args .dt))
+    (at-solve-in .solve-in .ensures))
 
 pub solve-spec : {M : Type 1} → statement M
 solve-spec =

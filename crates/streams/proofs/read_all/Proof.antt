@@ -1,11 +1,9 @@
 -- `read_all`: after each turn the bytes behind what came are those of the first buffer, and the last read brought some.
 use Prim.Native.Nat.{_-_, _≤_, _<_, _^_}
-use mathlib.Core.Path.{_≡_, refl, sym, _∙_}
+use mathlib.Core.Path.{_≡_, refl}
 use native.Mathlib.Omega.{arith}
-use lib.ListN.{length, drop}
-use denote.Ref.{now}
+use lib.ListN.{length}
 use borrow.Author.Needs.{needs}
-use Rattle.streams.specs.Receive.{isMore}
 use Rattle.streams.proofs.Readings.{reading-none, reading-more, reading-stops, reading-full, Reading}
 use Rattle.streams.proofs.read_all.Statement.{statement}
 use Rattle.streams.proofs.read_all.Tie as tie

@@ -1,6 +1,6 @@
 -- `read_to`: the part of the chunk that was lent comes back with as many bytes, and what came is copied.
 use Prim.Native.Nat.{ℕ, _+_, _≤_}
-use mathlib.Core.Path.{_≡_, sym, ap, subst, _∙_}
+use mathlib.Core.Path.{_≡_, sym, ap, _∙_}
 use mathlib.Core.List.{List, _++_}
 use native.Mathlib.Omega.{arith}
 use lib.ListN.{length, drop}
@@ -38,13 +38,16 @@ bytes-requires : tie.Need-bytes-requires
 bytes-requires c κs = search needs
 
 -- the chunk, whose front `read` was lent, and how long it is again
+abbrev came : tie.After-read → tie.Start
+came c = c .before .before .before .before .before
+
 abbrev chunk : tie.After-read → List ℕ
 chunk c =
     let at-least = c .before .before in
     let start = at-least .before .before .before in
     (c .read .last .1 .0) ++ drop (at-least .least .result) (now (start .args .chunk))
 
-whole : (c : tie.After-read) → length (chunk c) ≡ length (now (c .before .before .before .before .before .args .chunk))
+whole : (c : tie.After-read) → length (chunk c) ≡ length (now (came c .args .chunk))
 whole c =
     let at-least = c .before .before in
     let start = at-least .before .before .before in

@@ -31,7 +31,8 @@ root-le h B b p s =
     let ρ : List ℚ = h ∷ iv B ∷ [] in
     let k : 0≤ (iv B +q h -q iv B) = by-nn ρ [] tt (rv 0 ∷ []) (p, tt) [] (hyp 0) (rv 1 ⊕ rv 0 ⊖ rv 1) tt in
     let H : List Rx = (rv 1 ⊗ rv 1 ⊖ rv 0 ⊗ rv 0) ∷ [] in
-    let l = cancel-nn (iv B +q h) (iv B -q h) (positive (iv B +q h) B (leb→le 1 B b) (sub-≤q (iv B) (iv B +q h) k)) (by-nn ρ [] tt H (s, tt) [] (hyp 0) ((rv 1 ⊕ rv 0) ⊗ (rv 1 ⊖ rv 0)) tt) in
+    let l = cancel-nn (iv B +q h) (iv B -q h) (positive (iv B +q h) B (leb→le 1 B b) (sub-≤q (iv B) (iv B +q h) k))
+    (by-nn ρ [] tt H (s, tt) [] (hyp 0) ((rv 1 ⊕ rv 0) ⊗ (rv 1 ⊖ rv 0)) tt) in
     (l, by-nn ρ [] tt (rv 0 ∷ (rv 1 ⊖ rv 0) ∷ []) (p, (l, tt)) [] (hyp 0 ⊞ hyp 0 ⊞ hyp 1) (rv 1 ⊕ rv 0) tt)
 
 pub root-abs : (h : ℚ) (B : ℕ) → T (leb 1 B) → 0≤ (iv B *q iv B -q h *q h) → Abs h B
@@ -75,17 +76,22 @@ side p P f g h =
 hypot-fits : (x y : Float) → T (fits binary64 (hypotOf x y))
 unfolding hypotOf scaledRoot
 hypot-fits x y =
-    cond-fits binary64 (isFinite x && isFinite y) (cond (Ieee.lt (absOf x) (absOf y)) (scaledRoot (absOf y) (absOf x)) (scaledRoot (absOf x) (absOf y))) (inf false)
-    (cond-fits binary64 (Ieee.lt (absOf x) (absOf y)) (scaledRoot (absOf y) (absOf x)) (scaledRoot (absOf x) (absOf y)) (part (absOf y) (absOf x)) (part (absOf x) (absOf y))) (inf-fits binary64 false)
+    cond-fits binary64 (isFinite x && isFinite y)
+    (cond (Ieee.lt (absOf x) (absOf y)) (scaledRoot (absOf y) (absOf x)) (scaledRoot (absOf x) (absOf y))) (inf false)
+    (cond-fits binary64 (Ieee.lt (absOf x) (absOf y)) (scaledRoot (absOf y) (absOf x)) (scaledRoot (absOf x) (absOf y))
+    (part (absOf y) (absOf x)) (part (absOf x) (absOf y))) (inf-fits binary64 false)
   where
     part : (a b : Float) → T (fits binary64 (scaledRoot a b))
-    part a b = cond-fits binary64 (Ieee.eq a (ratio 0 1)) (ratio 0 1) (a *f sqrt binary64 (ratio 1 1 +f (b /f a) *f (b /f a))) (round-fits binary64 false 0 1) (mul-fits binary64 a (sqrt binary64 (ratio 1 1 +f (b /f a) *f (b /f a))))
+    part a b =
+        cond-fits binary64 (Ieee.eq a (ratio 0 1)) (ratio 0 1) (a *f sqrt binary64 (ratio 1 1 +f (b /f a) *f (b /f a)))
+        (round-fits binary64 false 0 1) (mul-fits binary64 a (sqrt binary64 (ratio 1 1 +f (b /f a) *f (b /f a))))
 
 pub record Long (h : Float) (s : ℚ) (e B : ℕ) : Type 0 where
   pub not-neg : 0≤ (val h)
   pub side : Side h s e B
 
-pub longer : (P Q A N B e : ℕ) → T (sides P Q A N B) → (p q : Float) (s : ℚ) → Side p s e P → T (fits binary64 q) → T (finite q) → Abs (val q) Q → Long (hypotOf p q) (s +q val q *q val q) (N + e) B
+pub longer : (P Q A N B e : ℕ) → T (sides P Q A N B) → (p q : Float) (s : ℚ) → Side p s e P
+    → T (fits binary64 q) → T (finite q) → Abs (val q) Q → Long (hypotOf p q) (s +q val q *q val q) (N + e) B
 unfolding sides tops sameQ den comb
 longer P Q A N B e t p q s S f g k =
     let t₁ = and-r (hyp-fits A N) (leb P A && (leb Q A && (leb 1 B && tops P Q N B))) t in
@@ -93,16 +99,19 @@ longer P Q A N B e t p q s S f g k =
     let t₃ = and-r (leb Q A) (leb 1 B && tops P Q N B) t₂ in
     let h = hypotOf p q in
     let H = hypot-within p q (S .fit) f (S .fine) g A N (and-l (hyp-fits A N) (leb P A && (leb Q A && (leb 1 B && tops P Q N B))) t)
-    (abs-mono (val p) P A (leb→le P A (and-l (leb P A) (leb Q A && (leb 1 B && tops P Q N B)) t₁)) (S .top)) (abs-mono (val q) Q A (leb→le Q A (and-l (leb Q A) (leb 1 B && tops P Q N B) t₂)) k) in
+    (abs-mono (val p) P A (leb→le P A (and-l (leb P A) (leb Q A && (leb 1 B && tops P Q N B)) t₁)) (S .top))
+    (abs-mono (val q) Q A (leb→le Q A (and-l (leb Q A) (leb 1 B && tops P Q N B) t₂)) k) in
     let ρ : List ℚ = val h ∷ val p ∷ val q ∷ iv P ∷ iv Q ∷ iv N ∷ iv B ∷ s ∷ [] in
-    let K : List Rx = (rv 3 ⊖ rv 1) ∷ (rv 3 ⊕ rv 1) ∷ (rv 4 ⊖ rv 2) ∷ (rv 4 ⊕ rv 2) ∷ (rv 5 ⊖ (rv 0 ⊗ rv 0 ⊖ (rv 1 ⊗ rv 1 ⊕ rv 2 ⊗ rv 2))) ∷ (rv 6 ⊗ rv 6 ⊖ (rv 3 ⊗ rv 3 ⊕ rv 4 ⊗ rv 4 ⊕ rv 5)) ∷ [] in
+    let K : List Rx = (rv 3 ⊖ rv 1) ∷ (rv 3 ⊕ rv 1) ∷ (rv 4 ⊖ rv 2) ∷ (rv 4 ⊕ rv 2)
+    ∷ (rv 5 ⊖ (rv 0 ⊗ rv 0 ⊖ (rv 1 ⊗ rv 1 ⊕ rv 2 ⊗ rv 2))) ∷ (rv 6 ⊗ rv 6 ⊖ (rv 3 ⊗ rv 3 ⊕ rv 4 ⊗ rv 4 ⊕ rv 5)) ∷ [] in
     let n : Nns ρ K = (S .top .0, (S .top .1, (k .0, (k .1, (H .near .0, (and-r (leb 1 B) (tops P Q N B) t₃, tt)))))) in
     record {
       not-neg = H .not-neg;
       side = record {
         fit = hypot-fits p q;
         fine = H .fine;
-        top = root-le (val h) B (and-l (leb 1 B) (tops P Q N B) t₃) (H .not-neg) (by-nn ρ [] tt K n [] (hyp 0 ⊠ hyp 1 ⊞ hyp 2 ⊠ hyp 3 ⊞ hyp 4 ⊞ hyp 5) (rv 6 ⊗ rv 6 ⊖ rv 0 ⊗ rv 0) tt);
+        top = root-le (val h) B (and-l (leb 1 B) (tops P Q N B) t₃) (H .not-neg)
+            (by-nn ρ [] tt K n [] (hyp 0 ⊠ hyp 1 ⊞ hyp 2 ⊠ hyp 3 ⊞ hyp 4 ⊞ hyp 5) (rv 6 ⊗ rv 6 ⊖ rv 0 ⊗ rv 0) tt);
         near = abs-eq ((val h *q val h -q (val p *q val p +q val q *q val q)) +q (val p *q val p -q s)) (val h *q val h -q (s +q val q *q val q)) (N + e)
             (ringQ ρ ((rv 0 ⊗ rv 0 ⊖ (rv 1 ⊗ rv 1 ⊕ rv 2 ⊗ rv 2)) ⊕ (rv 1 ⊗ rv 1 ⊖ rv 7)) (rv 0 ⊗ rv 0 ⊖ (rv 7 ⊕ rv 2 ⊗ rv 2)) tt)
             (abs-add (val h *q val h -q (val p *q val p +q val q *q val q)) (val p *q val p -q s) N e (H .near) (S .near));
@@ -117,10 +126,12 @@ hypot-part : (s m : ℚ) → 0≤ (s -q m *q m) → Abs m (2 ^ 257) → hypotErr
 unfolding hypotErr sameQ den comb iv U
 hypot-part s m h k =
     sub-≤q (hypotErr m) (mk (tiny 49) *q s +q iv 1)
-    (by-nn (s ∷ m ∷ []) [] tt ((rv 0 ⊖ rv 1 ⊗ rv 1) ∷ (rat (ivF (2 ^ 257)) ⊖ rv 1) ∷ []) (h, (k .0, tt)) [] (num 1 (2 ^ 49 - 1) ⊠ hyp 0 ⊞ num 1 (2 ^ 1073 - 1) ⊠ hyp 1 ⊞ num (2 ^ 816 - 1) (2 ^ 1072 - 1))
+    (by-nn (s ∷ m ∷ []) [] tt ((rv 0 ⊖ rv 1 ⊗ rv 1) ∷ (rat (ivF (2 ^ 257)) ⊖ rv 1) ∷ []) (h, (k .0, tt)) []
+    (num 1 (2 ^ 49 - 1) ⊠ hyp 0 ⊞ num 1 (2 ^ 1073 - 1) ⊠ hyp 1 ⊞ num (2 ^ 816 - 1) (2 ^ 1072 - 1))
     (rat (tiny 49) ⊗ rv 0 ⊕ rat (ivF 1) ⊖ (rat (tiny 49) ⊗ (rv 1 ⊗ rv 1) ⊕ rat (tiny 1073) ⊗ rv 1)) tt)
 
-pub hypot-close : (x y : Float) → T (fits binary64 x) → T (fits binary64 y) → T (finite x) → T (finite y) → T (finite (hypotOf x y)) → Abs (val x) (2 ^ 257) → Abs (val y) (2 ^ 257)
+pub hypot-close : (x y : Float) → T (fits binary64 x) → T (fits binary64 y) → T (finite x)
+    → T (finite y) → T (finite (hypotOf x y)) → Abs (val x) (2 ^ 257) → Abs (val y) (2 ^ 257)
     → Close (val (hypotOf x y) *q val (hypotOf x y)) (val x *q val x +q val y *q val y)
 unfolding sameQ den comb
 hypot-close x y f g p q t hx hy =
@@ -129,8 +140,10 @@ hypot-close x y f g p q t hx hy =
     let ρ = val x ∷ val y ∷ [] in
     let sum = rv 0 ⊗ rv 0 ⊕ rv 1 ⊗ rv 1 in
     let P : Float → Type 0 = λ a. 0≤ (s -q val a *q val a) × Abs (val a) (2 ^ 257) in
-    let at : (a : Float) → 0≤ (s -q val a *q val a) → Abs (val a) (2 ^ 257) → P (absOf a) = λ a u v. (subst (λ z. 0≤ (s -q z)) (sym (abs-square a)) u, abs-abs a (2 ^ 257) v) in
-    let m = max-keeps P (absOf x) (absOf y) (at x (by-nn ρ [] tt [] tt [] (sqr (rv 1)) (sum ⊖ rv 0 ⊗ rv 0) tt) hx) (at y (by-nn ρ [] tt [] tt [] (sqr (rv 0)) (sum ⊖ rv 1 ⊗ rv 1) tt) hy) in
+    let at : (a : Float) → 0≤ (s -q val a *q val a) → Abs (val a) (2 ^ 257) → P (absOf a) =
+    λ a u v. (subst (λ z. 0≤ (s -q z)) (sym (abs-square a)) u, abs-abs a (2 ^ 257) v) in
+    let m = max-keeps P (absOf x) (absOf y) (at x (by-nn ρ [] tt [] tt [] (sqr (rv 1)) (sum ⊖ rv 0 ⊗ rv 0) tt) hx)
+    (at y (by-nn ρ [] tt [] tt [] (sqr (rv 0)) (sum ⊖ rv 1 ⊗ rv 1) tt) hy) in
     let l = val (maxOf (absOf x) (absOf y)) in
     near-mono (hypotErr l) (mk (tiny 49) *q s +q iv 1) (val h *q val h) s (hypot-part s l (m .0) (m .1)) (hypot-near x y f g p q t)
 
@@ -143,7 +156,8 @@ pub record Fits3 (v : Vec3) : Type 0 where
   pub y-fine : T (finite (v .y))
   pub z-fine : T (finite (v .z))
 
-pub vec-length : (A B C K L : ℕ) → T (sides A A A K B) → T (sides B A B L C) → (v : Vec3) → Fits3 v → Abs (val (v .x)) A → Abs (val (v .y)) A → Abs (val (v .z)) A
+pub vec-length : (A B C K L : ℕ) → T (sides A A A K B) → T (sides B A B L C)
+    → (v : Vec3) → Fits3 v → Abs (val (v .x)) A → Abs (val (v .y)) A → Abs (val (v .z)) A
     → Long (lengthOf v) (val (v .x) *q val (v .x) +q val (v .y) *q val (v .y) +q val (v .z) *q val (v .z)) (L + (K + 0)) C
 vec-length A B C K L s t v F hx hy hz =
     let a = longer A A A K B 0 s (v .x) (v .y) (val (v .x) *q val (v .x)) (side (v .x) A (F .x-fits) (F .x-fine) hx) (F .y-fits) (F .y-fine) hy in

@@ -53,7 +53,9 @@ module _ (x y z w : Float) (fx : T (finite x)) (fy : T (finite y)) (fz : T (fini
   f-m = max-keeps (λ (a : Float). T (finite a)) xyz (absOf w) f-xyz (abs-finite w fw)
 
   m-nn : 0≤ (val m)
-  m-nn = max-keeps (λ (a : Float). 0≤ (val a)) xyz (absOf w) (max-keeps (λ (a : Float). 0≤ (val a)) xy (absOf z) (max-keeps (λ (a : Float). 0≤ (val a)) (absOf x) (absOf y) (abs-nn x) (abs-nn y)) (abs-nn z)) (abs-nn w)
+  m-nn =
+      max-keeps (λ (a : Float). 0≤ (val a)) xyz (absOf w) (max-keeps (λ (a : Float). 0≤ (val a)) xy (absOf z)
+      (max-keeps (λ (a : Float). 0≤ (val a)) (absOf x) (absOf y) (abs-nn x) (abs-nn y)) (abs-nn z)) (abs-nn w)
 
   xyz-le : val xyz ≤q val m
   xyz-le = max-first xyz (absOf w) f-xyz (abs-finite w fw)
@@ -82,7 +84,8 @@ module _ (x y z w : Float) (fx : T (finite x)) (fy : T (finite y)) (fz : T (fini
   big =
       let ρ = val x ∷ val y ∷ val z ∷ val w ∷ [] in
       let n = rv 0 ⊗ rv 0 ⊕ rv 1 ⊗ rv 1 ⊕ rv 2 ⊗ rv 2 ⊕ rv 3 ⊗ rv 3 in
-      let at : (a : Float) → 0≤ (norm (val x) (val y) (val z) (val w) -q val a *q val a) → Under (absOf a) = λ a h. subst (λ s. 0≤ (norm (val x) (val y) (val z) (val w) -q s)) (sym (abs-square a)) h in
+      let at : (a : Float) → 0≤ (norm (val x) (val y) (val z) (val w) -q val a *q val a) → Under (absOf a) =
+      λ a h. subst (λ s. 0≤ (norm (val x) (val y) (val z) (val w) -q s)) (sym (abs-square a)) h in
       max-keeps Under xyz (absOf w)
       (max-keeps Under xy (absOf z)
       (max-keeps Under (absOf x) (absOf y)
@@ -100,7 +103,8 @@ unfolding round
 zero-finite = tt
 
 -- ---- a component divided by m
-part : (q m : Float) → T (finite q) → T (finite m) → T (not (leq (val m) (qn 0))) → val (absOf q) ≤q val m → Is (div binary64 q m) (val q *q inv (val m)) (2 ^ 256) (rnd (2 ^ 256))
+part : (q m : Float) → T (finite q) → T (finite m) → T (not (leq (val m) (qn 0)))
+    → val (absOf q) ≤q val m → Is (div binary64 q m) (val q *q inv (val m)) (2 ^ 256) (rnd (2 ^ 256))
 unfolding U
 part q m fq fm pm h =
     let a = abs-under q (val m) h in
@@ -112,7 +116,8 @@ abbrev one⁺ : ℕ
 one⁺ = 2 ^ 256 + 2 ^ 206
 
 part-top : (s : Float) (x : ℚ) → Is s x (2 ^ 256) (rnd (2 ^ 256)) → Abs (val s) one⁺
-part-top s x h = abs-mono (val s) (2 ^ 256 + rnd (2 ^ 256)) one⁺ (leb→le (2 ^ 256 + rnd (2 ^ 256)) one⁺ tt) (own (val s) x (2 ^ 256) (rnd (2 ^ 256)) (h .1) (h .2))
+part-top s x h =
+    abs-mono (val s) (2 ^ 256 + rnd (2 ^ 256)) one⁺ (leb→le (2 ^ 256 + rnd (2 ^ 256)) one⁺ tt) (own (val s) x (2 ^ 256) (rnd (2 ^ 256)) (h .1) (h .2))
 
 -- ---- the length of that: at most 33 / 16, its square in proportion
 fits-xy : T (sides one⁺ one⁺ one⁺ (2 ^ 207) (91 * 2 ^ 250))
@@ -131,7 +136,8 @@ record LongQuat (s : Quat) : Type 0 where
   long : Long (quatLengthOf s) (norm (val (s .x)) (val (s .y)) (val (s .z)) (val (s .w))) (6 * 2 ^ 207) (33 * 2 ^ 252)
   near : Sums (val (quatLengthOf s) *q val (quatLengthOf s)) (norm (val (s .x)) (val (s .y)) (val (s .z)) (val (s .w)))
 
-quat-length : (s : Quat) → T (fits binary64 (s .x)) → T (fits binary64 (s .y)) → T (fits binary64 (s .z)) → T (fits binary64 (s .w)) → T (finite (s .x)) → T (finite (s .y)) → T (finite (s .z)) → T (finite (s .w))
+quat-length : (s : Quat) → T (fits binary64 (s .x)) → T (fits binary64 (s .y)) → T (fits binary64 (s .z))
+    → T (fits binary64 (s .w)) → T (finite (s .x)) → T (finite (s .y)) → T (finite (s .z)) → T (finite (s .w))
     → Abs (val (s .x)) one⁺ → Abs (val (s .y)) one⁺ → Abs (val (s .z)) one⁺ → Abs (val (s .w)) one⁺ → LongQuat s
 quat-length s tx ty tz tw fx fy fz fw hx hy hz hw =
     let h = hypotOf (s .x) (s .y) in
@@ -139,7 +145,8 @@ quat-length s tx ty tz tw fx fy fz fw hx hy hz hw =
     let a = longer one⁺ one⁺ one⁺ (2 ^ 207) (91 * 2 ^ 250) 0 fits-xy (s .x) (s .y) (val (s .x) *q val (s .x)) (side (s .x) one⁺ tx fx hx) ty fy hy in
     let b = longer (91 * 2 ^ 250) one⁺ (91 * 2 ^ 250) (2 ^ 208) (7 * 2 ^ 254) (2 ^ 207 + 0) fits-xyz h (s .z) _ (a .side) tz fz hz in
     let c = longer (7 * 2 ^ 254) one⁺ (7 * 2 ^ 254) (3 * 2 ^ 207) (33 * 2 ^ 252) (2 ^ 208 + (2 ^ 207 + 0)) fits-xyzw k (s .w) _ (b .side) tw fw hw in
-    let two : (f : Float) (B : ℕ) → T (leb B (2 ^ 257)) → Abs (val f) B → Abs (val f) (2 ^ 257) = λ f B t. abs-mono (val f) B (2 ^ 257) (leb→le B (2 ^ 257) t) in
+    let two : (f : Float) (B : ℕ) → T (leb B (2 ^ 257)) → Abs (val f) B → Abs (val f) (2 ^ 257) =
+    λ f B t. abs-mono (val f) B (2 ^ 257) (leb→le B (2 ^ 257) t) in
     record {
       long = c;
       near = lengths (val (s .x)) (val (s .y)) (val (s .z)) (val (s .w)) (val h) (val k) (val (quatLengthOf s))
@@ -158,7 +165,8 @@ unitE = fdiv lMin (fv 0) (fv 1)
 unitβ : List (ℕ × ℕ)
 unitβ = (2 ^ 256, rnd (2 ^ 256)) ∷ (33 * 2 ^ 252, 0) ∷ []
 
-unit : (s l : Float) (q k : ℚ) → Is s (q *q k) (2 ^ 256) (rnd (2 ^ 256)) → T (finite l) → Abs (val l) (33 * 2 ^ 252) → 0≤ (val l -q iv lMin) → Is (div binary64 s l) (k *q inv (val l) *q q) pMax uErr
+unit : (s l : Float) (q k : ℚ) → Is s (q *q k) (2 ^ 256) (rnd (2 ^ 256)) → T (finite l) → Abs (val l) (33 * 2 ^ 252)
+    → 0≤ (val l -q iv lMin) → Is (div binary64 s l) (k *q inv (val l) *q q) pMax uErr
 unfolding unitE unitβ chk sameQ
 unit s l q k h fl tl lo =
     let S = sound (s ∷ l ∷ []) (q *q k ∷ val l ∷ []) unitβ (h, (given l (33 * 2 ^ 252) (fl, tl), tt)) unitE (tt, tt, sub-≤q (iv lMin) (val l) lo) tt in
@@ -173,17 +181,27 @@ unit s l q k h fl tl lo =
 abbrev pub unitErr : ℕ
 unitErr = 76 * 2 ^ 203
 
-sized : (c x y z w X Y Z W : ℚ) → Abs (c *q c *q norm x y z w -q qn 1) cErr → Abs (c *q x) pMax → Abs (c *q y) pMax → Abs (c *q z) pMax → Abs (c *q w) pMax → Abs (X -q c *q x) uErr → Abs (Y -q c *q y) uErr → Abs (Z -q c *q z) uErr → Abs (W -q c *q w) uErr
+sized : (c x y z w X Y Z W : ℚ) → Abs (c *q c *q norm x y z w -q qn 1) cErr → Abs (c *q x) pMax → Abs (c *q y) pMax → Abs (c *q z) pMax
+    → Abs (c *q w) pMax → Abs (X -q c *q x) uErr → Abs (Y -q c *q y) uErr → Abs (Z -q c *q z) uErr → Abs (W -q c *q w) uErr
     → Abs (norm X Y Z W -q qn 1) unitErr
 unfolding sameQ bounds
 sized c x y z w X Y Z W n hx hy hz hw ex ey ez ew =
     let o : ℚ → ℚ → ℚ = λ e q. e *q (qn 2 *q q +q e) in
     let O : Rx → Rx → Rx = λ e q. e ⊗ (nat 2 ⊗ q ⊕ e) in
-    let p : Rx → Rx = λ q. rv 0 ⊗ q in
-    abs-eq ((c *q c *q norm x y z w -q qn 1) +q (o (X -q c *q x) (c *q x) +q o (Y -q c *q y) (c *q y) +q o (Z -q c *q z) (c *q z) +q o (W -q c *q w) (c *q w))) (norm X Y Z W -q qn 1) unitErr
-    (ringQ (c ∷ x ∷ y ∷ z ∷ w ∷ X ∷ Y ∷ Z ∷ W ∷ []) ((rv 0 ⊗ rv 0 ⊗ normR (rv 1) (rv 2) (rv 3) (rv 4) ⊖ nat 1) ⊕ (O (rv 5 ⊖ p (rv 1)) (p (rv 1)) ⊕ O (rv 6 ⊖ p (rv 2)) (p (rv 2)) ⊕ O (rv 7 ⊖ p (rv 3)) (p (rv 3)) ⊕ O (rv 8 ⊖ p (rv 4)) (p (rv 4)))) (normR (rv 5) (rv 6) (rv 7) (rv 8) ⊖ nat 1) tt)
-    (bound ((c *q c *q norm x y z w -q qn 1) ∷ (X -q c *q x) ∷ (Y -q c *q y) ∷ (Z -q c *q z) ∷ (W -q c *q w) ∷ c *q x ∷ c *q y ∷ c *q z ∷ c *q w ∷ []) (cErr ∷ uErr ∷ uErr ∷ uErr ∷ uErr ∷ pMax ∷ pMax ∷ pMax ∷ pMax ∷ [])
-    (n, (ex, (ey, (ez, (ew, (hx, (hy, (hz, (hw, tt))))))))) (rv 0 ⊕ (O (rv 1) (rv 5) ⊕ O (rv 2) (rv 6) ⊕ O (rv 3) (rv 7) ⊕ O (rv 4) (rv 8))) unitErr tt)
+    let d : Rx → Rx → Rx = λ Q q. O (Q ⊖ rv 0 ⊗ q) (rv 0 ⊗ q) in
+    let one = c *q c *q norm x y z w -q qn 1 in
+    let oneR = rv 0 ⊗ rv 0 ⊗ normR (rv 1) (rv 2) (rv 3) (rv 4) ⊖ nat 1 in
+    let dx = X -q c *q x in
+    let dy = Y -q c *q y in
+    let dz = Z -q c *q z in
+    let dw = W -q c *q w in
+    abs-eq (one +q (o dx (c *q x) +q o dy (c *q y) +q o dz (c *q z) +q o dw (c *q w))) (norm X Y Z W -q qn 1) unitErr
+    (ringQ (c ∷ x ∷ y ∷ z ∷ w ∷ X ∷ Y ∷ Z ∷ W ∷ [])
+    (oneR ⊕ (d (rv 5) (rv 1) ⊕ d (rv 6) (rv 2) ⊕ d (rv 7) (rv 3) ⊕ d (rv 8) (rv 4))) (normR (rv 5) (rv 6) (rv 7) (rv 8) ⊖ nat 1) tt)
+    (bound (one ∷ dx ∷ dy ∷ dz ∷ dw ∷ c *q x ∷ c *q y ∷ c *q z ∷ c *q w ∷ [])
+    (cErr ∷ uErr ∷ uErr ∷ uErr ∷ uErr ∷ pMax ∷ pMax ∷ pMax ∷ pMax ∷ [])
+    (n, (ex, (ey, (ez, (ew, (hx, (hy, (hz, (hw, tt)))))))))
+    (rv 0 ⊕ (O (rv 1) (rv 5) ⊕ O (rv 2) (rv 6) ⊕ O (rv 3) (rv 7) ⊕ O (rv 4) (rv 8))) unitErr tt)
 
 pub record Normal (f u : Quat) : Type 0 where
   pub c : ℚ
@@ -216,10 +234,12 @@ normal f u e =
     let Y = part (f .y) M fy fm pm (y-le (f .x) (f .y) (f .z) (f .w) fx fy fz fw) in
     let Z = part (f .z) M fz fm pm (z-le (f .x) (f .y) (f .z) (f .w) fx fy fz fw) in
     let W = part (f .w) M fw fm pm (w-le (f .x) (f .y) (f .z) (f .w) fx fy fz fw) in
-    let L = quat-length s (div-fits binary64 (f .x) M) (div-fits binary64 (f .y) M) (div-fits binary64 (f .z) M) (div-fits binary64 (f .w) M) (X .0) (Y .0) (Z .0) (W .0)
+    let L = quat-length s (div-fits binary64 (f .x) M) (div-fits binary64 (f .y) M)
+    (div-fits binary64 (f .z) M) (div-fits binary64 (f .w) M) (X .0) (Y .0) (Z .0) (W .0)
     (part-top (s .x) (val (f .x) *q k) X) (part-top (s .y) (val (f .y) *q k) Y) (part-top (s .z) (val (f .z) *q k) Z) (part-top (s .w) (val (f .w) *q k) W) in
     let n1 = norm-one (val M) k (val (f .x)) (val (f .y)) (val (f .z)) (val (f .w)) (inv-ok (val M) pm) (big (f .x) (f .y) (f .z) (f .w) fx fy fz fw) in
-    let d = norms (val l) (val (s .x)) (val (s .y)) (val (s .z)) (val (s .w)) (val (f .x) *q k) (val (f .y) *q k) (val (f .z) *q k) (val (f .w) *q k) (X .1) (Y .1) (Z .1) (W .1) (X .2) (Y .2) (Z .2) (W .2) (L .near) n1 in
+    let d = norms (val l) (val (s .x)) (val (s .y)) (val (s .z)) (val (s .w)) (val (f .x) *q k) (val (f .y) *q k)
+    (val (f .z) *q k) (val (f .w) *q k) (X .1) (Y .1) (Z .1) (W .1) (X .2) (Y .2) (Z .2) (W .2) (L .near) n1 in
     let lo = length-low (val l) (norm (val (f .x) *q k) (val (f .y) *q k) (val (f .z) *q k) (val (f .w) *q k)) (L .long .not-neg) d n1 in
     let lp = low-pos (val l) lo in
     let fl = L .long .side .fine in
@@ -238,5 +258,6 @@ normal f u e =
       y = uy;
       z = uz;
       w = uw;
-      size = sized c (val (f .x)) (val (f .y)) (val (f .z)) (val (f .w)) (val (div binary64 (s .x) l)) (val (div binary64 (s .y) l)) (val (div binary64 (s .z) l)) (val (div binary64 (s .w) l)) one (ux .1) (uy .1) (uz .1) (uw .1) (ux .2) (uy .2) (uz .2) (uw .2);
+      size = sized c (val (f .x)) (val (f .y)) (val (f .z)) (val (f .w)) (val (div binary64 (s .x) l)) (val (div binary64 (s .y) l))
+          (val (div binary64 (s .z) l)) (val (div binary64 (s .w) l)) one (ux .1) (uy .1) (uz .1) (uw .1) (ux .2) (uy .2) (uz .2) (uw .2);
     })

@@ -60,7 +60,8 @@ normalized q u e =
     let m = quatLargestOf q in
     let s = quatDivOf q m in
     let l = quatLengthOf s in
-    let a = past (not (quatFiniteOf q)) None (cond (eq m (ratio 0 1)) None (cond (not (isFinite l) || eq l (ratio 0 1)) None (Some (quatDivOf s l)))) (Some u) (no-quat u) e in
+    let a = past (not (quatFiniteOf q)) None (cond (eq m (ratio 0 1)) None (cond (not (isFinite l) || eq l (ratio 0 1)) None (Some (quatDivOf s l))))
+    (Some u) (no-quat u) e in
     let b = past (eq m (ratio 0 1)) None (cond (not (isFinite l) || eq l (ratio 0 1)) None (Some (quatDivOf s l))) (Some u) (no-quat u) (a .1) in
     let c = past (not (isFinite l) || eq l (ratio 0 1)) None (Some (quatDivOf s l)) (Some u) (no-quat u) (b .1) in
     let d = neither (not (isFinite l)) (eq l (ratio 0 1)) (c .0) in

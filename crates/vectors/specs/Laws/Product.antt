@@ -1,4 +1,4 @@
--- A rotation that passes document 01's test, and the product of two, in doubles: near the exact ones, whose squares sum to nearly 1.
+-- A rotation that passes refusal 6's test, and the product of two, in doubles: near the exact ones, whose squares sum to nearly 1.
 use mathlib.Core.Path.{_≡_, sym, _∙_, subst}
 use mathlib.Core.List.{List, [], _∷_}
 use Prim.Native.Nat.{ℕ, _^_}
@@ -32,17 +32,20 @@ abbrev pub timesW : ℚ → ℚ → ℚ → ℚ → ℚ → ℚ → ℚ → ℚ 
 timesW x y z w a b c d = w *q d -q x *q a -q y *q b -q z *q c
 
 -- the sum of its squares is the product of the two sums
-norm-times : (x y z w a b c d : ℚ) → norm (timesX x y z w a b c d) (timesY x y z w a b c d) (timesZ x y z w a b c d) (timesW x y z w a b c d) ≡ norm x y z w *q norm a b c d
+norm-times : (x y z w a b c d : ℚ)
+    → norm (timesX x y z w a b c d) (timesY x y z w a b c d) (timesZ x y z w a b c d) (timesW x y z w a b c d) ≡ norm x y z w *q norm a b c d
 unfolding sameQ
 norm-times x y z w a b c d =
     let X = rv 0 in let Y = rv 1 in let Z = rv 2 in let W = rv 3 in let A = rv 4 in let B = rv 5 in let C = rv 6 in let D = rv 7 in
     ringQ (x ∷ y ∷ z ∷ w ∷ a ∷ b ∷ c ∷ d ∷ [])
-    (normR (W ⊗ A ⊕ X ⊗ D ⊕ Y ⊗ C ⊖ Z ⊗ B) (W ⊗ B ⊖ X ⊗ C ⊕ Y ⊗ D ⊕ Z ⊗ A) (W ⊗ C ⊕ X ⊗ B ⊖ Y ⊗ A ⊕ Z ⊗ D) (W ⊗ D ⊖ X ⊗ A ⊖ Y ⊗ B ⊖ Z ⊗ C)) (normR X Y Z W ⊗ normR A B C D) tt
+    (normR (W ⊗ A ⊕ X ⊗ D ⊕ Y ⊗ C ⊖ Z ⊗ B) (W ⊗ B ⊖ X ⊗ C ⊕ Y ⊗ D ⊕ Z ⊗ A) (W ⊗ C ⊕ X ⊗ B ⊖ Y ⊗ A ⊕ Z ⊗ D) (W ⊗ D ⊖ X ⊗ A ⊖ Y ⊗ B ⊖ Z ⊗ C))
+    (normR X Y Z W ⊗ normR A B C D) tt
 
 one-times : (n k : ℚ) → Abs (n -q qn 1) (2 ^ 214) → Abs (k -q qn 1) (2 ^ 214) → Abs (n *q k -q qn 1) nErr
 unfolding sameQ bounds
 one-times n k h j =
-    abs-eq ((n -q qn 1) *q (k -q qn 1) +q (n -q qn 1) +q (k -q qn 1)) (n *q k -q qn 1) nErr (ringQ (n ∷ k ∷ []) ((rv 0 ⊖ nat 1) ⊗ (rv 1 ⊖ nat 1) ⊕ (rv 0 ⊖ nat 1) ⊕ (rv 1 ⊖ nat 1)) (rv 0 ⊗ rv 1 ⊖ nat 1) tt)
+    abs-eq ((n -q qn 1) *q (k -q qn 1) +q (n -q qn 1) +q (k -q qn 1)) (n *q k -q qn 1) nErr
+    (ringQ (n ∷ k ∷ []) ((rv 0 ⊖ nat 1) ⊗ (rv 1 ⊖ nat 1) ⊕ (rv 0 ⊖ nat 1) ⊕ (rv 1 ⊖ nat 1)) (rv 0 ⊗ rv 1 ⊖ nat 1) tt)
     (bound ((n -q qn 1) ∷ (k -q qn 1) ∷ []) (2 ^ 214 ∷ 2 ^ 214 ∷ []) (h, (j, tt)) (rv 0 ⊗ rv 1 ⊕ rv 0 ⊕ rv 1) nErr tt)
 
 -- ---- one rotation: its components are at most 1 + 2 ^ -40, and it stands for itself
@@ -103,8 +106,10 @@ wE : Fx
 wE = fv 3 *f fv 7 -f fv 0 *f fv 4 -f fv 1 *f fv 5 -f fv 2 *f fv 6
 
 pub product-near : (q p : Quat) → UnitQuat q → UnitQuat p
-    → NearUnit (productOf q p) (timesX (val (q .x)) (val (q .y)) (val (q .z)) (val (q .w)) (val (p .x)) (val (p .y)) (val (p .z)) (val (p .w))) (timesY (val (q .x)) (val (q .y)) (val (q .z)) (val (q .w)) (val (p .x)) (val (p .y)) (val (p .z)) (val (p .w)))
-    (timesZ (val (q .x)) (val (q .y)) (val (q .z)) (val (q .w)) (val (p .x)) (val (p .y)) (val (p .z)) (val (p .w))) (timesW (val (q .x)) (val (q .y)) (val (q .z)) (val (q .w)) (val (p .x)) (val (p .y)) (val (p .z)) (val (p .w)))
+    → NearUnit (productOf q p) (timesX (val (q .x)) (val (q .y)) (val (q .z)) (val (q .w)) (val (p .x)) (val (p .y)) (val (p .z)) (val (p .w)))
+    (timesY (val (q .x)) (val (q .y)) (val (q .z)) (val (q .w)) (val (p .x)) (val (p .y)) (val (p .z)) (val (p .w)))
+    (timesZ (val (q .x)) (val (q .y)) (val (q .z)) (val (q .w)) (val (p .x)) (val (p .y)) (val (p .z)) (val (p .w)))
+    (timesW (val (q .x)) (val (q .y)) (val (q .z)) (val (q .w)) (val (p .x)) (val (p .y)) (val (p .z)) (val (p .w)))
 unfolding productβ xE yE zE wE chk free U
 product-near q p Q P =
     let C = components q Q in
@@ -128,11 +133,15 @@ product-near q p Q P =
       ),
     ) in
     let near : (e : Fx) → T (free e) → T (ok (chk productβ e)) → T (leb (err (chk productβ e)) fErr) → Abs (val (run ρ e) -q exact σ e) fErr =
-    λ e f o l. abs-mono (val (run ρ e) -q exact σ e) (err (chk productβ e)) fErr (leb→le (err (chk productβ e)) fErr l) (sound ρ σ productβ g e (known σ e f) o .2) in
+    λ e f o l. abs-mono (val (run ρ e) -q exact σ e) (err (chk productβ e)) fErr
+    (leb→le (err (chk productβ e)) fErr l) (sound ρ σ productβ g e (known σ e f) o .2) in
     record {
       x-near = near xE tt tt tt;
       y-near = near yE tt tt tt;
       z-near = near zE tt tt tt;
       w-near = near wE tt tt tt;
-      size = subst (λ n. Abs (n -q qn 1) nErr) (sym (norm-times (val (q .x)) (val (q .y)) (val (q .z)) (val (q .w)) (val (p .x)) (val (p .y)) (val (p .z)) (val (p .w)))) (one-times (norm (val (q .x)) (val (q .y)) (val (q .z)) (val (q .w))) (norm (val (p .x)) (val (p .y)) (val (p .z)) (val (p .w))) (Q .size) (P .size));
+      size = subst (λ n. Abs (n -q qn 1) nErr)
+          (sym (norm-times (val (q .x)) (val (q .y)) (val (q .z)) (val (q .w)) (val (p .x)) (val (p .y)) (val (p .z)) (val (p .w))))
+          (one-times (norm (val (q .x)) (val (q .y)) (val (q .z)) (val (q .w)))
+          (norm (val (p .x)) (val (p .y)) (val (p .z)) (val (p .w))) (Q .size) (P .size));
     }

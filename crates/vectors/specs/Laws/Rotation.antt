@@ -38,7 +38,8 @@ finite-parts v t =
     let b = both (isFinite (v .x)) (isFinite (v .y)) (a .0) in
     (finite-of (v .x) (b .0), finite-of (v .y) (b .1), finite-of (v .z) (a .1))
 
-pub rotated : (M N E : ℕ) → T (turns M N E) → (f : Quat) (v r : Vec3) (x y z w : ℚ) → rotateVectorOf f v ≡ Some r → NearUnit f x y z w → Below M v → Turned (inv (norm x y z w)) x y z w v r (M + M) E
+pub rotated : (M N E : ℕ) → T (turns M N E) → (f : Quat) (v r : Vec3) (x y z w : ℚ) → rotateVectorOf f v ≡ Some r
+    → NearUnit f x y z w → Below M v → Turned (inv (norm x y z w)) x y z w v r (M + M) E
 unfolding turnE
 rotated M N E t f v r x y z w e G B =
     let R = rotates f v r e in

@@ -45,14 +45,25 @@ top low [] = low
 top low (g ∷ gs) = top g gs
 
 module _ (m E : ℕ) (f : Quat) (v r : Vec3) (x y z w : ℚ) (e : rotateVectorOf f v ≡ Some r) (G : NearUnit f x y z w) (B : Below m v) (h : m ≤ E * 2 ^ 44) where
-  at-size : (low g : ℕ) → T (turns (bound g) (lost g) (err g)) → T (leb (err g) (low * 2 ^ 196)) → bound low < m → m ≤ bound g → Within (inv (norm x y z w)) x y z w v r E
+  at-size : (low g : ℕ) → T (turns (bound g) (lost g) (err g)) → T (leb (err g) (low * 2 ^ 196))
+      → bound low < m → m ≤ bound g → Within (inv (norm x y z w)) x y z w v r E
   at-size low g t l a b =
-      let R = rotated (bound g) (lost g) (err g) t f v r x y z w e G (record { x-below = abs-mono _ m (bound g) b (B .x-below); y-below = abs-mono _ m (bound g) b (B .y-below); z-below = abs-mono _ m (bound g) b (B .z-below) }) in
+      let R = rotated (bound g) (lost g) (err g) t f v r x y z w e G (record {
+        x-below = abs-mono _ m (bound g) b (B .x-below);
+        y-below = abs-mono _ m (bound g) b (B .y-below);
+        z-below = abs-mono _ m (bound g) b (B .z-below);
+      }) in
       let q : err g ≤ E = small low (err g) (leb→le (err g) (low * 2 ^ 196) l) a in
-      record { along-x = abs-mono _ (err g) E q (R .along-x .2); along-y = abs-mono _ (err g) E q (R .along-y .2); along-z = abs-mono _ (err g) E q (R .along-z .2) }
+      record {
+        along-x = abs-mono _ (err g) E q (R .along-x .2);
+        along-y = abs-mono _ (err g) E q (R .along-y .2);
+        along-z = abs-mono _ (err g) E q (R .along-z .2);
+      }
     where
       small : (low n : ℕ) → n ≤ low * 2 ^ 196 → bound low < m → n ≤ E
-      small low n p q = le-trans p (le-of-mul-le-mul-right (subst (λ (k : ℕ). k ≤ E * 2 ^ 44) (sym (mul-assoc low (2 ^ 196) (2 ^ 44))) (le-trans (le-of-lt q) h)) (lit< tt))
+      small low n p q =
+          le-trans p
+          (le-of-mul-le-mul-right (subst (λ (k : ℕ). k ≤ E * 2 ^ 44) (sym (mul-assoc low (2 ^ 196) (2 ^ 44))) (le-trans (le-of-lt q) h)) (lit< tt))
 
   climb : (low : ℕ) (gs : List ℕ) → T (climbs low gs) → bound low < m → m ≤ bound (top low gs) → Within (inv (norm x y z w)) x y z w v r E
   unfolding climbs top
@@ -62,7 +73,8 @@ module _ (m E : ℕ) (f : Quat) (v r : Vec3) (x y z w : ℚ) (e : rotateVectorOf
       let q = both (leb (err g) (low * 2 ^ 196)) (climbs g gs) (p .1) in
       pick (decLe m (bound g)) (p .0) (q .0) (λ k. climb g gs (q .1) k b)
     where
-      pick : Dec (m ≤ bound g) → T (turns (bound g) (lost g) (err g)) → T (leb (err g) (low * 2 ^ 196)) → (bound g < m → Within (inv (norm x y z w)) x y z w v r E) → Within (inv (norm x y z w)) x y z w v r E
+      pick : Dec (m ≤ bound g) → T (turns (bound g) (lost g) (err g)) → T (leb (err g) (low * 2 ^ 196))
+          → (bound g < m → Within (inv (norm x y z w)) x y z w v r E) → Within (inv (norm x y z w)) x y z w v r E
       pick (yes d) t₁ t₂ up = at-size low g t₁ t₂ a d
       pick (no d) t₁ t₂ up = up (lt-of-not-le d)
 
@@ -85,6 +97,7 @@ unfolding top
 sizes-top = refl
 
 -- m bounds the coordinates, in units of 2 ^ -256, and E is at least 2 ^ -44 of it
-pub rotated-within : (m E : ℕ) → 2 ^ 256 ≤ m → m ≤ 129 * 2 ^ 256 → m ≤ E * 2 ^ 44 → (f : Quat) (v r : Vec3) (x y z w : ℚ) → rotateVectorOf f v ≡ Some r → NearUnit f x y z w → Below m v → Within (inv (norm x y z w)) x y z w v r E
+pub rotated-within : (m E : ℕ) → 2 ^ 256 ≤ m → m ≤ 129 * 2 ^ 256 → m ≤ E * 2 ^ 44 → (f : Quat) (v r : Vec3) (x y z w : ℚ)
+    → rotateVectorOf f v ≡ Some r → NearUnit f x y z w → Below m v → Within (inv (norm x y z w)) x y z w v r E
 rotated-within m E a b h f v r x y z w e G B =
     climb m E f v r x y z w e G B h 61440 sizes sizes-climb (lt-of-lt-of-le (lit< tt) a) (subst (λ (k : ℕ). m ≤ k * 2 ^ 240) (sym sizes-top) b)

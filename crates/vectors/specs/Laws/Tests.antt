@@ -47,11 +47,20 @@ eq-val (fin s m e) nan p t = absurd t
 eq-val (fin s m e) (inf r) p t = absurd t
 eq-val (fin s m e) (fin r n d) p t = (tt, go s r (m * up e * down d) (n * up d * down e) refl refl t)
   where
-    go : (s r : Bool) (a b : ℕ) → a ≡ m * up e * down d → b ≡ n * up d * down e → T (lib.Ieee.level s a r b) → sg s (m * up e) (down e) (down-pos e) ≡ sg r (n * up d) (down d) (down-pos d)
-    go false false a b p q t = level-val false false (m * up e) (down e) (n * up d) (down d) (down-pos e) (down-pos d) (sym p ∙ eqb→eq a b (and-l (eqb a b) true t) ∙ q) (inl tt)
-    go true true a b p q t = level-val true true (m * up e) (down e) (n * up d) (down d) (down-pos e) (down-pos d) (sym p ∙ eqb→eq a b (and-l (eqb a b) true t) ∙ q) (inl tt)
-    go false true a b p q t = level-val false true (m * up e) (down e) (n * up d) (down d) (down-pos e) (down-pos d) (sym p ∙ eqb→eq a b (and-l (eqb a b) (eqb a 0) t) ∙ q) (inr (sym p ∙ eqb→eq a 0 (and-r (eqb a b) (eqb a 0) t)))
-    go true false a b p q t = level-val true false (m * up e) (down e) (n * up d) (down d) (down-pos e) (down-pos d) (sym p ∙ eqb→eq a b (and-l (eqb a b) (eqb a 0) t) ∙ q) (inr (sym p ∙ eqb→eq a 0 (and-r (eqb a b) (eqb a 0) t)))
+    go : (s r : Bool) (a b : ℕ) → a ≡ m * up e * down d → b ≡ n * up d * down e → T (lib.Ieee.level s a r b)
+        → sg s (m * up e) (down e) (down-pos e) ≡ sg r (n * up d) (down d) (down-pos d)
+    go false false a b p q t =
+        level-val false false (m * up e) (down e) (n * up d) (down d) (down-pos e)
+        (down-pos d) (sym p ∙ eqb→eq a b (and-l (eqb a b) true t) ∙ q) (inl tt)
+    go true true a b p q t =
+        level-val true true (m * up e) (down e) (n * up d) (down d) (down-pos e)
+        (down-pos d) (sym p ∙ eqb→eq a b (and-l (eqb a b) true t) ∙ q) (inl tt)
+    go false true a b p q t =
+        level-val false true (m * up e) (down e) (n * up d) (down d) (down-pos e) (down-pos d)
+        (sym p ∙ eqb→eq a b (and-l (eqb a b) (eqb a 0) t) ∙ q) (inr (sym p ∙ eqb→eq a 0 (and-r (eqb a b) (eqb a 0) t)))
+    go true false a b p q t =
+        level-val true false (m * up e) (down e) (n * up d) (down d) (down-pos e) (down-pos d)
+        (sym p ∙ eqb→eq a b (and-l (eqb a b) (eqb a 0) t) ∙ q) (inr (sym p ∙ eqb→eq a 0 (and-r (eqb a b) (eqb a 0) t)))
 
 -- a value that is not below 0, and does not compare equal to z = 0, is above 0
 pub above-zero : (x z : Float) → val z ≡ qn 0 → T (finite x) → T (finite z) → 0≤ (val x) → T (not (eq x z)) → T (not (leq (val x) (qn 0)))

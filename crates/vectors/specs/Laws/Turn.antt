@@ -57,18 +57,21 @@ unfolding sameQ comb
 level i x y z w a b c e =
     let N = normR (rv 0) (rv 1) (rv 2) (rv 3) in
     let D = twistR (rv 0) (rv 1) (rv 2) (rv 3) (rv 4) (rv 5) (rv 6) in
-    by-eqs (x ∷ y ∷ z ∷ w ∷ a ∷ b ∷ c ∷ turnBy i x y z w a b c ∷ i ∷ []) ((N ⊗ rv 8, nat 1) ∷ (rv 7, rv 4 ⊕ D ⊗ rv 8) ∷ []) (e, (refl, tt)) ((nat 0 ⊖ D) ∷ (nat 0 ⊖ N) ∷ []) (alongR (rv 0) (rv 1) (rv 2) (rv 3)) (nat 0) tt
+    by-eqs (x ∷ y ∷ z ∷ w ∷ a ∷ b ∷ c ∷ turnBy i x y z w a b c ∷ i ∷ []) ((N ⊗ rv 8, nat 1) ∷ (rv 7, rv 4 ⊕ D ⊗ rv 8) ∷ [])
+    (e, (refl, tt)) ((nat 0 ⊖ D) ∷ (nat 0 ⊖ N) ∷ []) (alongR (rv 0) (rv 1) (rv 2) (rv 3)) (nat 0) tt
 
 -- how far the turn by (X, Y, Z, W), not divided by the sum of its squares, is from r
 apart : (x y z w a b c r s X Y Z W : ℚ) → Level x y z w a b c r
     → let e = X -q s *q x in let f = Y -q s *q y in let g = Z -q s *q z in let h = W -q s *q w in
-    (a +q twist X Y Z W a b c) -q r ≡ qn 2 *q s *q evR (x ∷ y ∷ z ∷ w ∷ a ∷ b ∷ c ∷ r ∷ e ∷ f ∷ g ∷ h ∷ []) (alongR (rv 8) (rv 9) (rv 10) (rv 11)) +q twist e f g h a b c +q ((norm X Y Z W -q qn 1) -q norm e f g h) *q (r -q a)
+    (a +q twist X Y Z W a b c) -q r ≡ qn 2 *q s *q evR (x ∷ y ∷ z ∷ w ∷ a ∷ b ∷ c ∷ r ∷ e ∷ f ∷ g ∷ h ∷ []) (alongR (rv 8) (rv 9) (rv 10) (rv 11))
+    +q twist e f g h a b c +q ((norm X Y Z W -q qn 1) -q norm e f g h) *q (r -q a)
 unfolding sameQ comb
 apart x y z w a b c r s X Y Z W l =
     let A = rv 4 in let B = rv 5 in let C = rv 6 in let R = rv 7 in let S = rv 8 in
     let e = rv 9 ⊖ S ⊗ rv 0 in let f = rv 10 ⊖ S ⊗ rv 1 in let g = rv 11 ⊖ S ⊗ rv 2 in let h = rv 12 ⊖ S ⊗ rv 3 in
     by-eqs (x ∷ y ∷ z ∷ w ∷ a ∷ b ∷ c ∷ r ∷ s ∷ X ∷ Y ∷ Z ∷ W ∷ []) ((alongR (rv 0) (rv 1) (rv 2) (rv 3), nat 0) ∷ []) (l, tt) (S ⊗ S ∷ [])
-    ((A ⊕ twistR (rv 9) (rv 10) (rv 11) (rv 12) A B C) ⊖ R) (nat 2 ⊗ S ⊗ alongR e f g h ⊕ twistR e f g h A B C ⊕ ((normR (rv 9) (rv 10) (rv 11) (rv 12) ⊖ nat 1) ⊖ normR e f g h) ⊗ (R ⊖ A)) tt
+    ((A ⊕ twistR (rv 9) (rv 10) (rv 11) (rv 12) A B C) ⊖ R)
+    (nat 2 ⊗ S ⊗ alongR e f g h ⊕ twistR e f g h A B C ⊕ ((normR (rv 9) (rv 10) (rv 11) (rv 12) ⊖ nat 1) ⊖ normR e f g h) ⊗ (R ⊖ A)) tt
 
 -- ---- a quaternion of doubles near an exact one, whose squares sum to nearly 1
 abbrev pub fErr : ℕ
@@ -92,7 +95,8 @@ pub component : (x y z w : ℚ) → Abs (norm x y z w -q qn 1) nErr → Abs x gM
 unfolding sameQ den comb iv U
 component x y z w h =
     root-abs x gMax tt
-    (by-nn (x ∷ y ∷ z ∷ w ∷ []) [] tt ((rat (ivF nErr) ⊖ (normR (rv 0) (rv 1) (rv 2) (rv 3) ⊖ nat 1)) ∷ []) (h .0, tt) [] (hyp 0 ⊞ sqr (rv 1) ⊞ sqr (rv 2) ⊞ sqr (rv 3) ⊞ num 1099511627777 1208925819614629174706175) (rat (ivF gMax) ⊗ rat (ivF gMax) ⊖ rv 0 ⊗ rv 0) tt)
+    (by-nn (x ∷ y ∷ z ∷ w ∷ []) [] tt ((rat (ivF nErr) ⊖ (normR (rv 0) (rv 1) (rv 2) (rv 3) ⊖ nat 1)) ∷ []) (h .0, tt) []
+    (hyp 0 ⊞ sqr (rv 1) ⊞ sqr (rv 2) ⊞ sqr (rv 3) ⊞ num 1099511627777 1208925819614629174706175) (rat (ivF gMax) ⊗ rat (ivF gMax) ⊖ rv 0 ⊗ rv 0) tt)
 
 pub round-names : (x y z w : ℚ) → norm x y z w ≡ norm y z x w
 unfolding sameQ
@@ -108,7 +112,9 @@ iMax = 2 ^ 256 + 2 ^ 218
 
 pub norm-pos : (n : ℚ) → Abs (n -q qn 1) nErr → T (not (leq n (qn 0)))
 unfolding sameQ den comb iv U
-norm-pos n h = positive n (2 ^ 255) (lit< tt) (sub-≤q (iv (2 ^ 255)) n (by-nn (n ∷ []) [] tt ((rat (ivF nErr) ⊕ (rv 0 ⊖ nat 1)) ∷ []) (h .1, tt) [] (hyp 0 ⊞ num 549755813887 1099511627775) (rv 0 ⊖ rat (ivF (2 ^ 255))) tt))
+norm-pos n h =
+    positive n (2 ^ 255) (lit< tt) (sub-≤q (iv (2 ^ 255)) n (by-nn (n ∷ []) [] tt ((rat (ivF nErr) ⊕ (rv 0 ⊖ nat 1)) ∷ [])
+    (h .1, tt) [] (hyp 0 ⊞ num 549755813887 1099511627775) (rv 0 ⊖ rat (ivF (2 ^ 255))) tt))
 
 pub inv-norm : (n : ℚ) → Abs (n -q qn 1) nErr → Abs (inv n) iMax
 unfolding sameQ den comb iv U
@@ -118,8 +124,10 @@ inv-norm n h =
     let ρ : List ℚ = n ∷ inv n ∷ [] in
     let e : Eqs ρ E = (inv-ok n p, tt) in
     let H : List Rx = (rat (ivF nErr) ⊕ (rv 0 ⊖ nat 1)) ∷ [] in (
-      cancel-nn n (iv iMax -q inv n) p (by-nn ρ E e H (h .1, tt) ((nat 0 ⊖ nat 1) ∷ []) (num 274877906945 274877906943 ⊠ hyp 0 ⊞ num 824633720831 302231454903657293676543) (rv 0 ⊗ (rat (ivF iMax) ⊖ rv 1)) tt),
-      cancel-nn n (iv iMax +q inv n) p (by-nn ρ E e H (h .1, tt) (nat 1 ∷ []) (num 274877906945 274877906943 ⊠ hyp 0 ⊞ num 604462909808139221073919 302231454903657293676543) (rv 0 ⊗ (rat (ivF iMax) ⊕ rv 1)) tt),
+      cancel-nn n (iv iMax -q inv n) p (by-nn ρ E e H (h .1, tt) ((nat 0 ⊖ nat 1) ∷ [])
+          (num 274877906945 274877906943 ⊠ hyp 0 ⊞ num 824633720831 302231454903657293676543) (rv 0 ⊗ (rat (ivF iMax) ⊖ rv 1)) tt),
+      cancel-nn n (iv iMax +q inv n) p (by-nn ρ E e H (h .1, tt) (nat 1 ∷ [])
+          (num 274877906945 274877906943 ⊠ hyp 0 ⊞ num 604462909808139221073919 302231454903657293676543) (rv 0 ⊗ (rat (ivF iMax) ⊕ rv 1)) tt),
     )
 
 -- ---- the sum of the doubles' squares
@@ -140,10 +148,12 @@ pErr = 19 * 2 ^ 203
 scale-top : (s n : ℚ) → 0≤ s → Abs (s *q s *q n -q qn 1) cErr → Abs (n -q qn 1) (2 ^ 217) → Abs s sMax
 unfolding sameQ den comb iv U
 scale-top s n p h k =
-    let np : T (not (leq n (qn 0))) = positive n (2 ^ 255) (lit< tt) (sub-≤q (iv (2 ^ 255)) n (by-nn (n ∷ []) [] tt ((rat (ivF (2 ^ 217)) ⊕ (rv 0 ⊖ nat 1)) ∷ []) (k .1, tt) [] (hyp 0 ⊞ num 274877906943 549755813887) (rv 0 ⊖ rat (ivF (2 ^ 255))) tt)) in
+    let np : T (not (leq n (qn 0))) = positive n (2 ^ 255) (lit< tt) (sub-≤q (iv (2 ^ 255)) n (by-nn (n ∷ []) [] tt
+    ((rat (ivF (2 ^ 217)) ⊕ (rv 0 ⊖ nat 1)) ∷ []) (k .1, tt) [] (hyp 0 ⊞ num 274877906943 549755813887) (rv 0 ⊖ rat (ivF (2 ^ 255))) tt)) in
     let H : List Rx = (rat (ivF cErr) ⊖ (rv 0 ⊗ rv 0 ⊗ rv 1 ⊖ nat 1)) ∷ (rat (ivF (2 ^ 217)) ⊕ (rv 1 ⊖ nat 1)) ∷ [] in
     root-le s sMax tt p (cancel-nn n (iv sMax *q iv sMax -q s *q s) np
-    (by-nn (s ∷ n ∷ []) [] tt H (h .0, (k .1, tt)) [] (hyp 0 ⊞ num 1089 1023 ⊠ hyp 1 ⊞ num 571746046426039 9007199254740991) (rv 1 ⊗ (rat (ivF sMax) ⊗ rat (ivF sMax) ⊖ rv 0 ⊗ rv 0)) tt))
+    (by-nn (s ∷ n ∷ []) [] tt H (h .0, (k .1, tt)) [] (hyp 0 ⊞ num 1089 1023 ⊠ hyp 1 ⊞ num 571746046426039 9007199254740991)
+    (rv 1 ⊗ (rat (ivF sMax) ⊗ rat (ivF sMax) ⊖ rv 0 ⊗ rv 0)) tt))
 
 module _ (f u : Quat) (x y z w : ℚ) (G : NearUnit f x y z w) (N : Normal f u) where
   x-top : Abs x gMax
@@ -180,14 +190,17 @@ module _ (f u : Quat) (x y z w : ℚ) (G : NearUnit f x y z w) (N : Normal f u) 
   unfolding sameQ off offR
   norm-off =
       let X = rv 0 in let Y = rv 1 in let Z = rv 2 in let W = rv 3 in
-      ringQ (x ∷ y ∷ z ∷ w ∷ val (f .x) ∷ val (f .y) ∷ val (f .z) ∷ val (f .w) ∷ []) (normR (rv 4) (rv 5) (rv 6) (rv 7)) (normR X Y Z W ⊕ offR X Y Z W (rv 4 ⊖ X) (rv 5 ⊖ Y) (rv 6 ⊖ Z) (rv 7 ⊖ W)) tt
+      ringQ (x ∷ y ∷ z ∷ w ∷ val (f .x) ∷ val (f .y) ∷ val (f .z) ∷ val (f .w) ∷ []) (normR (rv 4) (rv 5) (rv 6) (rv 7))
+      (normR X Y Z W ⊕ offR X Y Z W (rv 4 ⊖ X) (rv 5 ⊖ Y) (rv 6 ⊖ Z) (rv 7 ⊖ W)) tt
 
   norm-near : Abs (nf -q qn 1) (2 ^ 217)
   unfolding sameQ bounds off offR
   norm-near =
-      abs-eq ((ng -q qn 1) +q off x y z w dx dy dz dw) (nf -q qn 1) (2 ^ 217) (ringQ (ng ∷ off x y z w dx dy dz dw ∷ []) ((rv 0 ⊖ nat 1) ⊕ rv 1) (rv 0 ⊕ rv 1 ⊖ nat 1) tt ∙ ap (λ n. n -q qn 1) (sym norm-off))
+      abs-eq ((ng -q qn 1) +q off x y z w dx dy dz dw) (nf -q qn 1) (2 ^ 217)
+      (ringQ (ng ∷ off x y z w dx dy dz dw ∷ []) ((rv 0 ⊖ nat 1) ⊕ rv 1) (rv 0 ⊕ rv 1 ⊖ nat 1) tt ∙ ap (λ n. n -q qn 1) (sym norm-off))
       (bound ((ng -q qn 1) ∷ x ∷ y ∷ z ∷ w ∷ dx ∷ dy ∷ dz ∷ dw ∷ []) (nErr ∷ gMax ∷ gMax ∷ gMax ∷ gMax ∷ fErr ∷ fErr ∷ fErr ∷ fErr ∷ [])
-      (G .size, (x-top, (y-top, (z-top, (w-top, (G .x-near, (G .y-near, (G .z-near, (G .w-near, tt))))))))) (rv 0 ⊕ offR (rv 1) (rv 2) (rv 3) (rv 4) (rv 5) (rv 6) (rv 7) (rv 8)) (2 ^ 217) tt)
+      (G .size, (x-top, (y-top, (z-top, (w-top, (G .x-near, (G .y-near, (G .z-near, (G .w-near, tt)))))))))
+      (rv 0 ⊕ offR (rv 1) (rv 2) (rv 3) (rv 4) (rv 5) (rv 6) (rv 7) (rv 8)) (2 ^ 217) tt)
 
   abbrev s : ℚ
   s = N .c
@@ -202,9 +215,12 @@ module _ (f u : Quat) (x y z w : ℚ) (G : NearUnit f x y z w) (N : Normal f u) 
       let m = abs-mul s (val q -q g) sMax fErr s-top k in (
         h .0,
         abs-mono (s *q g) (pMax + mulUp sMax fErr) sMax (leb→le (pMax + mulUp sMax fErr) sMax tt)
-            (abs-eq (s *q val q -q s *q (val q -q g)) (s *q g) (pMax + mulUp sMax fErr) (ringQ (s ∷ val q ∷ g ∷ []) (rv 0 ⊗ rv 1 ⊖ rv 0 ⊗ (rv 1 ⊖ rv 2)) (rv 0 ⊗ rv 2) tt) (abs-sub (s *q val q) (s *q (val q -q g)) pMax (mulUp sMax fErr) (h .1) m)),
+            (abs-eq (s *q val q -q s *q (val q -q g)) (s *q g) (pMax + mulUp sMax fErr) (ringQ (s ∷ val q ∷ g ∷ [])
+            (rv 0 ⊗ rv 1 ⊖ rv 0 ⊗ (rv 1 ⊖ rv 2)) (rv 0 ⊗ rv 2) tt) (abs-sub (s *q val q) (s *q (val q -q g)) pMax (mulUp sMax fErr) (h .1) m)),
         abs-mono (val p -q s *q g) (uErr + mulUp sMax fErr) pErr (leb→le (uErr + mulUp sMax fErr) pErr tt)
-            (abs-eq ((val p -q s *q val q) +q s *q (val q -q g)) (val p -q s *q g) (uErr + mulUp sMax fErr) (ringQ (s ∷ val q ∷ g ∷ val p ∷ []) ((rv 3 ⊖ rv 0 ⊗ rv 1) ⊕ rv 0 ⊗ (rv 1 ⊖ rv 2)) (rv 3 ⊖ rv 0 ⊗ rv 2) tt) (abs-add (val p -q s *q val q) (s *q (val q -q g)) uErr (mulUp sMax fErr) (h .2) m)),
+            (abs-eq ((val p -q s *q val q) +q s *q (val q -q g)) (val p -q s *q g) (uErr + mulUp sMax fErr)
+            (ringQ (s ∷ val q ∷ g ∷ val p ∷ []) ((rv 3 ⊖ rv 0 ⊗ rv 1) ⊕ rv 0 ⊗ (rv 1 ⊖ rv 2)) (rv 3 ⊖ rv 0 ⊗ rv 2) tt)
+            (abs-add (val p -q s *q val q) (s *q (val q -q g)) uErr (mulUp sMax fErr) (h .2) m)),
       )
 
 -- ---- the doubles: v + (u × v) (2 w) + (u × (u × v)) 2, first component
@@ -217,10 +233,13 @@ turnE =
 
 turn-exact : (x y z w a b c : ℚ) → exact (x ∷ y ∷ z ∷ w ∷ a ∷ b ∷ c ∷ []) turnE ≡ a +q twist x y z w a b c
 unfolding turnE sameQ toR plain
-turn-exact x y z w a b c = sym (toR-ok (x ∷ y ∷ z ∷ w ∷ a ∷ b ∷ c ∷ []) turnE tt) ∙ ringQ (x ∷ y ∷ z ∷ w ∷ a ∷ b ∷ c ∷ []) (toR turnE) (rv 4 ⊕ twistR (rv 0) (rv 1) (rv 2) (rv 3) (rv 4) (rv 5) (rv 6)) tt
+turn-exact x y z w a b c =
+    sym (toR-ok (x ∷ y ∷ z ∷ w ∷ a ∷ b ∷ c ∷ []) turnE tt)
+    ∙ ringQ (x ∷ y ∷ z ∷ w ∷ a ∷ b ∷ c ∷ []) (toR turnE) (rv 4 ⊕ twistR (rv 0) (rv 1) (rv 2) (rv 3) (rv 4) (rv 5) (rv 6)) tt
 
 -- ---- the slope is short: the squares of its parts sum to at most 4 m², for a, b, c of at most m, and r is at most 2 m
-module _ (x y z w a b c r m : ℚ) (l : Level x y z w a b c r) (size : Abs (norm x y z w -q qn 1) nErr) (ha : 0≤ (m -q a) × 0≤ (m +q a)) (hb : 0≤ (m -q b) × 0≤ (m +q b)) (hc : 0≤ (m -q c) × 0≤ (m +q c)) where
+module _ (x y z w a b c r m : ℚ) (l : Level x y z w a b c r) (size : Abs (norm x y z w -q qn 1) nErr)
+    (ha : 0≤ (m -q a) × 0≤ (m +q a)) (hb : 0≤ (m -q b) × 0≤ (m +q b)) (hc : 0≤ (m -q c) × 0≤ (m +q c)) where
   abbrev ρ : List ℚ
   ρ = x ∷ y ∷ z ∷ w ∷ a ∷ b ∷ c ∷ r ∷ m ∷ []
 
@@ -228,7 +247,9 @@ module _ (x y z w a b c r m : ℚ) (l : Level x y z w a b c r) (size : Abs (norm
   E = (alongR (rv 0) (rv 1) (rv 2) (rv 3), nat 0) ∷ []
 
   abbrev H : List Rx
-  H = (rv 8 ⊖ rv 4) ∷ (rv 8 ⊕ rv 4) ∷ (rv 8 ⊖ rv 5) ∷ (rv 8 ⊕ rv 5) ∷ (rv 8 ⊖ rv 6) ∷ (rv 8 ⊕ rv 6) ∷ (rat (ivF nErr) ⊖ (normR (rv 0) (rv 1) (rv 2) (rv 3) ⊖ nat 1)) ∷ []
+  H =
+      (rv 8 ⊖ rv 4) ∷ (rv 8 ⊕ rv 4) ∷ (rv 8 ⊖ rv 5) ∷ (rv 8 ⊕ rv 5) ∷ (rv 8 ⊖ rv 6)
+      ∷ (rv 8 ⊕ rv 6) ∷ (rat (ivF nErr) ⊖ (normR (rv 0) (rv 1) (rv 2) (rv 3) ⊖ nat 1)) ∷ []
 
   inside : Nns ρ H
   unfolding iv
@@ -255,17 +276,20 @@ module _ (x y z w a b c r m : ℚ) (l : Level x y z w a b c r) (size : Abs (norm
       (normR (rv 0) (rv 1) (rv 2) (rv 3) ⊗ ((rv 8 ⊕ rv 8) ⊗ (rv 8 ⊕ rv 8) ⊖ rv 7 ⊗ rv 7)) tt)
 
 -- Cauchy's inequality: the squares of k, l, m, n sum to at most 4 b², and e, f, g, h are at most d
-cauchy : (k l m n e f g h b d : ℚ) (K : ℕ) → T (leb 1 K) → 0≤ (iv K *q iv K -q qn 16 *q (b *q b) *q (d *q d)) → 0≤ (qn 4 *q (b *q b) -q norm k l m n) → 0≤ (d -q e) × 0≤ (d +q e) → 0≤ (d -q f) × 0≤ (d +q f) → 0≤ (d -q g) × 0≤ (d +q g) → 0≤ (d -q h) × 0≤ (d +q h)
+cauchy : (k l m n e f g h b d : ℚ) (K : ℕ) → T (leb 1 K) → 0≤ (iv K *q iv K -q qn 16 *q (b *q b) *q (d *q d)) → 0≤ (qn 4 *q (b *q b) -q norm k l m n)
+    → 0≤ (d -q e) × 0≤ (d +q e) → 0≤ (d -q f) × 0≤ (d +q f) → 0≤ (d -q g) × 0≤ (d +q g) → 0≤ (d -q h) × 0≤ (d +q h)
     → Abs (k *q e +q l *q f +q m *q g +q n *q h) K
 unfolding sameQ den comb
 cauchy k l m n e f g h b d K t u v he hf hg hh =
     let D = rv 9 in
-    let H : List Rx = (rv 10 ⊗ rv 10 ⊖ nat 16 ⊗ (rv 8 ⊗ rv 8) ⊗ (D ⊗ D)) ∷ (nat 4 ⊗ (rv 8 ⊗ rv 8) ⊖ normR (rv 0) (rv 1) (rv 2) (rv 3)) ∷ (D ⊖ rv 4) ∷ (D ⊕ rv 4) ∷ (D ⊖ rv 5) ∷ (D ⊕ rv 5) ∷ (D ⊖ rv 6) ∷ (D ⊕ rv 6) ∷ (D ⊖ rv 7) ∷ (D ⊕ rv 7) ∷ [] in
+    let H : List Rx = (rv 10 ⊗ rv 10 ⊖ nat 16 ⊗ (rv 8 ⊗ rv 8) ⊗ (D ⊗ D)) ∷ (nat 4 ⊗ (rv 8 ⊗ rv 8) ⊖ normR (rv 0) (rv 1) (rv 2) (rv 3))
+    ∷ (D ⊖ rv 4) ∷ (D ⊕ rv 4) ∷ (D ⊖ rv 5) ∷ (D ⊕ rv 5) ∷ (D ⊖ rv 6) ∷ (D ⊕ rv 6) ∷ (D ⊖ rv 7) ∷ (D ⊕ rv 7) ∷ [] in
     let s : Rx = rv 0 ⊗ rv 4 ⊕ rv 1 ⊗ rv 5 ⊕ rv 2 ⊗ rv 6 ⊕ rv 3 ⊗ rv 7 in
     let x : ℕ → ℕ → ℕ → ℕ → Ct = λ i j p q. sqr (rv i ⊗ rv q ⊖ rv j ⊗ rv p) in
     root-abs (k *q e +q l *q f +q m *q g +q n *q h) K t
     (by-nn (k ∷ l ∷ m ∷ n ∷ e ∷ f ∷ g ∷ h ∷ b ∷ d ∷ iv K ∷ []) [] tt H (u, (v, (he .0, (he .1, (hf .0, (hf .1, (hg .0, (hg .1, (hh .0, (hh .1, tt)))))))))) []
-    (hyp 0 ⊞ num 4 0 ⊠ sqr D ⊠ hyp 1 ⊞ (sqr (rv 0) ⊞ sqr (rv 1) ⊞ sqr (rv 2) ⊞ sqr (rv 3)) ⊠ (hyp 2 ⊠ hyp 3 ⊞ hyp 4 ⊠ hyp 5 ⊞ hyp 6 ⊠ hyp 7 ⊞ hyp 8 ⊠ hyp 9) ⊞ x 0 1 4 5 ⊞ x 0 2 4 6 ⊞ x 0 3 4 7 ⊞ x 1 2 5 6 ⊞ x 1 3 5 7 ⊞ x 2 3 6 7)
+    (hyp 0 ⊞ num 4 0 ⊠ sqr D ⊠ hyp 1 ⊞ (sqr (rv 0) ⊞ sqr (rv 1) ⊞ sqr (rv 2) ⊞ sqr (rv 3))
+    ⊠ (hyp 2 ⊠ hyp 3 ⊞ hyp 4 ⊠ hyp 5 ⊞ hyp 6 ⊠ hyp 7 ⊞ hyp 8 ⊠ hyp 9) ⊞ x 0 1 4 5 ⊞ x 0 2 4 6 ⊞ x 0 3 4 7 ⊞ x 1 2 5 6 ⊞ x 1 3 5 7 ⊞ x 2 3 6 7)
     (rv 10 ⊗ rv 10 ⊖ s ⊗ s) tt)
 
 -- ---- the test for v of at most M: the doubles are within E of the turned vector, N of that apart from their rounding
@@ -295,8 +319,10 @@ unfolding turnβ turnE slopes slopeTop lostE lostβ chk round bounds
 turns M N E = ok (chk (turnβ M) turnE) && (slopes M && (bounds (lostβ M) lostE N && leb (err (chk (turnβ M) turnE) + N) E))
 
 -- one component: i = 1 / N
-pub turn-near : (M N E : ℕ) → T (turns M N E) → (i x y z w s : ℚ) (ux uy uz uw a b c : Float) → norm x y z w *q i ≡ qn 1 → Abs (norm x y z w -q qn 1) nErr → Abs s sMax
-    → Is ux (s *q x) sMax pErr → Is uy (s *q y) sMax pErr → Is uz (s *q z) sMax pErr → Is uw (s *q w) sMax pErr → Abs (norm (val ux) (val uy) (val uz) (val uw) -q qn 1) unitErr → Input a M → Input b M → Input c M
+pub turn-near : (M N E : ℕ) → T (turns M N E) → (i x y z w s : ℚ) (ux uy uz uw a b c : Float)
+    → norm x y z w *q i ≡ qn 1 → Abs (norm x y z w -q qn 1) nErr → Abs s sMax
+    → Is ux (s *q x) sMax pErr → Is uy (s *q y) sMax pErr → Is uz (s *q z) sMax pErr → Is uw (s *q w) sMax pErr
+    → Abs (norm (val ux) (val uy) (val uz) (val uw) -q qn 1) unitErr → Input a M → Input b M → Input c M
     → Is (run (ux ∷ uy ∷ uz ∷ uw ∷ a ∷ b ∷ c ∷ []) turnE) (turnBy i x y z w (val a) (val b) (val c)) (M + M) E
 unfolding turns slopes sameQ lostE lostβ turnβ
 turn-near M N E t i x y z w s ux uy uz uw a b c hi hn hs hx hy hz hw hu ha hb hc =
@@ -308,22 +334,35 @@ turn-near M N E t i x y z w s ux uy uz uw a b c hi hn hs hx hy hz hw hu ha hb hc
     let t₃ = both (bounds (lostβ M) lostE N) (leb (err (chk β turnE) + N) E) (t₂ .1) in
     let t₄ = both (leb 1 (M + M)) (leb 1 K && leq (qn 0) far) (t₂ .0) in
     let t₅ = both (leb 1 K) (leq (qn 0) far) (t₄ .1) in
-    let in-top : (f : Float) (v : ℚ) → Is f v sMax pErr → T (finite f) × Abs (val f) uMax × Abs (val f -q val f) 0 = λ f v h. given f uMax (h .0, own (val f) v sMax pErr (h .1) (h .2)) in
+    let in-top : (f : Float) (v : ℚ) → Is f v sMax pErr → T (finite f) × Abs (val f) uMax × Abs (val f -q val f) 0 =
+    λ f v h. given f uMax (h .0, own (val f) v sMax pErr (h .1) (h .2)) in
     let σ = val ux ∷ val uy ∷ val uz ∷ val uw ∷ val a ∷ val b ∷ val c ∷ [] in
-    let R = sound (ux ∷ uy ∷ uz ∷ uw ∷ a ∷ b ∷ c ∷ []) σ β (in-top ux (s *q x) hx, (in-top uy (s *q y) hy, (in-top uz (s *q z) hz, (in-top uw (s *q w) hw, (given a M ha, (given b M hb, (given c M hc, tt))))))) turnE (known σ turnE (unfold turnE free in tt)) (t₁ .0) in
+    let R = sound (ux ∷ uy ∷ uz ∷ uw ∷ a ∷ b ∷ c ∷ []) σ β (
+      in-top ux (s *q x) hx,
+      (in-top uy (s *q y) hy, (in-top uz (s *q z) hz, (in-top uw (s *q w) hw, (given a M ha, (given b M hb, (given c M hc, tt)))))),
+    ) turnE
+    (known σ turnE (unfold turnE free in tt)) (t₁ .0) in
     let v = val (run (ux ∷ uy ∷ uz ∷ uw ∷ a ∷ b ∷ c ∷ []) turnE) in
     let r = turnBy i x y z w (val a) (val b) (val c) in
     let S = val a +q twist (val ux) (val uy) (val uz) (val uw) (val a) (val b) (val c) in
     let near = subst (λ q. Abs (v -q q) (err (chk β turnE))) (turn-exact (val ux) (val uy) (val uz) (val uw) (val a) (val b) (val c)) (R .2) in
     let l = level i x y z w (val a) (val b) (val c) hi in
-    let top : Abs r (M + M) = root-abs r (M + M) (t₄ .0) (subst (λ q. 0≤ (q *q q -q r *q r)) (sym (iv-add M M)) (turned-top x y z w (val a) (val b) (val c) r (iv M) l hn (ha .1) (hb .1) (hc .1))) in
+    let top : Abs r (M + M) = root-abs r (M + M) (t₄ .0)
+    (subst (λ q. 0≤ (q *q q -q r *q r)) (sym (iv-add M M)) (turned-top x y z w (val a) (val b) (val c) r (iv M) l hn (ha .1) (hb .1) (hc .1))) in
     let ρ = x ∷ y ∷ z ∷ w ∷ val a ∷ val b ∷ val c ∷ r ∷ [] in
-    let e = val ux -q s *q x in let f = val uy -q s *q y in let g = val uz -q s *q z in let h = val uw -q s *q w in
-    let steep = cauchy (evR ρ slopeX) (evR ρ slopeY) (evR ρ slopeZ) (evR ρ slopeW) e f g h (iv M) (iv pErr) K (t₅ .0) (t₅ .1) (short x y z w (val a) (val b) (val c) r (iv M) l hn (ha .1) (hb .1) (hc .1)) (hx .2) (hy .2) (hz .2) (hw .2) in
+    let e = val ux -q s *q x in
+    let f = val uy -q s *q y in
+    let g = val uz -q s *q z in
+    let h = val uw -q s *q w in
+    let steep = cauchy (evR ρ slopeX) (evR ρ slopeY) (evR ρ slopeZ) (evR ρ slopeW) e f g h (iv M) (iv pErr) K (t₅ .0) (t₅ .1)
+    (short x y z w (val a) (val b) (val c) r (iv M) l hn (ha .1) (hb .1) (hc .1)) (hx .2) (hy .2) (hz .2) (hw .2) in
     let lost = abs-eq _ (S -q r) N (sym (apart x y z w (val a) (val b) (val c) r s (val ux) (val uy) (val uz) (val uw) l))
-    (bound ((evR ρ slopeX *q e +q evR ρ slopeY *q f +q evR ρ slopeZ *q g +q evR ρ slopeW *q h) ∷ s ∷ e ∷ f ∷ g ∷ h ∷ val a ∷ val b ∷ val c ∷ r ∷ (norm (val ux) (val uy) (val uz) (val uw) -q qn 1) ∷ []) (lostβ M)
+    (bound ((evR ρ slopeX *q e +q evR ρ slopeY *q f +q evR ρ slopeZ *q g +q evR ρ slopeW *q h) ∷ s ∷ e ∷ f ∷ g ∷ h
+    ∷ val a ∷ val b ∷ val c ∷ r ∷ (norm (val ux) (val uy) (val uz) (val uw) -q qn 1) ∷ []) (lostβ M)
     (steep, (hs, (hx .2, (hy .2, (hz .2, (hw .2, (ha .1, (hb .1, (hc .1, (top, (hu, tt))))))))))) lostE N (t₃ .0)) in (
       R .0,
       top,
-      abs-mono (v -q r) (err (chk β turnE) + N) E (leb→le (err (chk β turnE) + N) E (t₃ .1)) (abs-eq ((v -q S) +q (S -q r)) (v -q r) (err (chk β turnE) + N) (ringQ (v ∷ S ∷ r ∷ []) ((rv 0 ⊖ rv 1) ⊕ (rv 1 ⊖ rv 2)) (rv 0 ⊖ rv 2) tt) (abs-add (v -q S) (S -q r) (err (chk β turnE)) N near lost)),
+      abs-mono (v -q r) (err (chk β turnE) + N) E (leb→le (err (chk β turnE) + N) E (t₃ .1))
+          (abs-eq ((v -q S) +q (S -q r)) (v -q r) (err (chk β turnE) + N) (ringQ (v ∷ S ∷ r ∷ []) ((rv 0 ⊖ rv 1) ⊕ (rv 1 ⊖ rv 2)) (rv 0 ⊖ rv 2) tt)
+          (abs-add (v -q S) (S -q r) (err (chk β turnE)) N near lost)),
     )

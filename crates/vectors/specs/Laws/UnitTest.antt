@@ -1,10 +1,9 @@
--- Document 01's test of a rotation: where `isNormalizedOf q` says yes, the exact sum N of the squares is within 2 ^ -42 of 1, whatever doubles q holds.
+-- Refusal 6's test of a rotation: where `isNormalizedOf q` says yes, the exact sum N of the squares is within 2 ^ -42 of 1, whatever doubles q holds.
 use mathlib.Core.Path.{_≡_, refl, sym, subst}
 use mathlib.Core.List.{List, [], _∷_}
 use mathlib.Core.Bool.{Bool, true, false, not, cond, _&&_, Bool·beq}
 use mathlib.Core.Quot.{Quot·sound}
 use Prim.Native.Nat.{ℕ, _+_, _*_, _^_}
-use native.Mathlib.Nat.{mul-pos}
 use lib.Dec.{T, leb, leb→le}
 use lib.Ieee.{Float, nan, inf, fin, binary64, up, down, round, neg, add, sub, mul, le}
 use lib.Ieee.Exact.{HasValue}
@@ -14,8 +13,8 @@ use lib.Ieee.Scale.{finite, grid}
 use Rattle.exact.specs.Rat.{ℚ, qn, leq, _+q_, _-q_, _*q_, negq}
 use Rattle.exact.specs.Abs.{U, iv, 0≤, Abs, abs-eq, abs-mono, abs-add, abs-sub}
 use Rattle.exact.specs.RingQ.{Rx, rv, _⊕_, _⊖_, _⊗_, sameQ, ringQ}
-use Rattle.exact.specs.Cert.{nat, Nns, comb, den, by-nn, hyp, num, _⊞_}
-use Rattle.exact.specs.Val.{val, round-has, times}
+use Rattle.exact.specs.Cert.{nat, Nns, comb, den, by-nn, hyp, _⊞_}
+use Rattle.exact.specs.Val.{val, round-has, add-rounds, mul-rounds}
 use Rattle.exact.specs.Sign.{sg-nn}
 use Rattle.exact.specs.Relative.{unsigned}
 use Rattle.exact.specs.Check.{Fx, fv, _+f_, _*f_, err, chk, sound}
@@ -24,7 +23,7 @@ use Rattle.arith.specs.Real.{isFinite, absOf, ratio}
 use Rattle.vectors.specs.declared.quaternion.Quat.{Quat}
 use Rattle.vectors.specs.Quaternion.{quatFiniteOf, isNormalizedOf}
 use Rattle.vectors.specs.Laws.Tests.{finite-of, both, abs-within}
-use Rattle.vectors.specs.Laws.Back.{under, add-rounds, rounds-back, sub-back}
+use Rattle.vectors.specs.Laws.Back.{under, rounds-back, sub-back}
 use Rattle.vectors.specs.Laws.Length.{root-abs}
 use Rattle.vectors.specs.Laws.Fractions.{norm}
 
@@ -54,7 +53,9 @@ plus-sign (inf s) a c h = absurd h
 plus-sign (fin s m e) a c h = subst (λ b. T (not b)) (sym (h .0)) tt
 
 round-unsigned : (a c : ℕ) → T (finite (round binary64 false a c)) → T (unsigned (round binary64 false a c))
-round-unsigned a c t = plus-sign (round binary64 false a c) (grid binary64 a c) (2 ^ 1074) (round-has false a c (under false (kept 53 (a * 2 ^ 1074) c) (drop 53 (a * 2 ^ 1074) c) (subst (λ (z : Float). T (finite z)) (round-is binary64 false a c) t)))
+round-unsigned a c t =
+    plus-sign (round binary64 false a c) (grid binary64 a c) (2 ^ 1074) (round-has false a c
+    (under false (kept 53 (a * 2 ^ 1074) c) (drop 53 (a * 2 ^ 1074) c) (subst (λ (z : Float). T (finite z)) (round-is binary64 false a c) t)))
 
 square-unsigned : (x : Float) → T (finite x) → T (finite (mul binary64 x x)) → T (unsigned (mul binary64 x x))
 unfolding mul
@@ -81,11 +82,7 @@ unsigned-nn (fin true m e) p = absurd p
 
 -- ---- from a rounded sum of squares back to the squares
 square-back : (x : Float) (M : ℕ) → T (finite x) → T (finite (mul binary64 x x)) → Abs (val (mul binary64 x x)) M → Abs (val x *q val x) (2 * M + 1)
-unfolding mul
-square-back nan M p t h = absurd p
-square-back (inf s) M p t h = absurd p
-square-back (fin s m e) M p t h = rounds-back (mul binary64 (fin s m e) (fin s m e)) (val (fin s m e) *q val (fin s m e))
-    (record { sign = lib.Ieee.unlike s s; num = m * up e * (m * up e); den = down e * down e; den-pos = mul-pos (down-pos e) (down-pos e); is = refl; value = times s s (m * up e) (m * up e) (down e) (down e) (down-pos e) (down-pos e) }) M t h
+square-back x M p t h = rounds-back (mul binary64 x x) (val x *q val x) (mul-rounds x x p p) M t h
 
 shares : (a b : ℚ) (M : ℕ) → 0≤ a → 0≤ b → Abs (a +q b) M → Abs a M × Abs b M
 unfolding sameQ den comb
@@ -97,10 +94,12 @@ shares a b M p q h =
       (by-nn ρ [] tt H k [] (hyp 0 ⊞ hyp 2) (rv 2 ⊖ rv 1) tt, by-nn ρ [] tt H k [] (hyp 0 ⊞ hyp 1 ⊞ hyp 1 ⊞ hyp 2) (rv 2 ⊕ rv 1) tt),
     )
 
-sum-back : (x y : Float) (M : ℕ) → T (unsigned x) → T (unsigned y) → T (finite (add binary64 x y)) → Abs (val (add binary64 x y)) M → Abs (val x) (2 * M + 1) × Abs (val y) (2 * M + 1)
+sum-back : (x y : Float) (M : ℕ) → T (unsigned x) → T (unsigned y) → T (finite (add binary64 x y))
+    → Abs (val (add binary64 x y)) M → Abs (val x) (2 * M + 1) × Abs (val y) (2 * M + 1)
 sum-back x y M p q t h =
     let f = add-finite x y t in
-    shares (val x) (val y) (2 * M + 1) (unsigned-nn x p) (unsigned-nn y q) (rounds-back (add binary64 x y) (val x +q val y) (add-rounds x y (f .0) (f .1)) M t h)
+    shares (val x) (val y) (2 * M + 1) (unsigned-nn x p) (unsigned-nn y q)
+    (rounds-back (add binary64 x y) (val x +q val y) (add-rounds x y (f .0) (f .1)) M t h)
 
 -- ---- the four squares, one after the other
 abbrev B₀ : ℕ
@@ -118,7 +117,9 @@ B₃ = 2 * B₂ + 1
 -- x² ≤ M and M ≤ 25: |x| ≤ 5
 five : (x : ℚ) (M : ℕ) → T (leq (qn 0) (iv (5 * 2 ^ 256) *q iv (5 * 2 ^ 256) -q iv M)) → Abs (x *q x) M → Abs x (5 * 2 ^ 256)
 unfolding sameQ den comb
-five x M t h = root-abs x (5 * 2 ^ 256) tt (by-nn (x ∷ iv M ∷ iv (5 * 2 ^ 256) ∷ []) [] tt ((rv 2 ⊗ rv 2 ⊖ rv 1) ∷ (rv 1 ⊖ rv 0 ⊗ rv 0) ∷ []) (t, (h .0, tt)) [] (hyp 0 ⊞ hyp 1) (rv 2 ⊗ rv 2 ⊖ rv 0 ⊗ rv 0) tt)
+five x M t h =
+    root-abs x (5 * 2 ^ 256) tt (by-nn (x ∷ iv M ∷ iv (5 * 2 ^ 256) ∷ []) [] tt ((rv 2 ⊗ rv 2 ⊖ rv 1) ∷ (rv 1 ⊖ rv 0 ⊗ rv 0) ∷ [])
+    (t, (h .0, tt)) [] (hyp 0 ⊞ hyp 1) (rv 2 ⊗ rv 2 ⊖ rv 0 ⊗ rv 0) tt)
 
 one-val : val (ratio 1 1) ≡ qn 1
 unfolding round
@@ -151,13 +152,16 @@ pub record UnitQuat (q : Quat) : Type 0 where
 
 around : (s n : ℚ) (a b c : ℕ) → Abs (s -q qn 1) a → Abs (s -q n) b → T (leb (a + b) c) → Abs (n -q qn 1) c
 unfolding sameQ
-around s n a b c h k t = abs-mono (n -q qn 1) (a + b) c (leb→le (a + b) c t) (abs-eq ((s -q qn 1) -q (s -q n)) (n -q qn 1) (a + b) (ringQ (s ∷ n ∷ []) ((rv 0 ⊖ nat 1) ⊖ (rv 0 ⊖ rv 1)) (rv 1 ⊖ nat 1) tt) (abs-sub (s -q qn 1) (s -q n) a b h k))
+around s n a b c h k t =
+    abs-mono (n -q qn 1) (a + b) c (leb→le (a + b) c t) (abs-eq ((s -q qn 1) -q (s -q n)) (n -q qn 1) (a + b)
+    (ringQ (s ∷ n ∷ []) ((rv 0 ⊖ nat 1) ⊖ (rv 0 ⊖ rv 1)) (rv 1 ⊖ nat 1) tt) (abs-sub (s -q qn 1) (s -q n) a b h k))
 
 near-one : (s : ℚ) (a : ℕ) → Abs (s -q qn 1) a → T (leb (a + 2 ^ 256) B₀) → Abs s B₀
 unfolding sameQ U iv leq _+q_ negq
 near-one s a h t =
     let o : Abs (qn 1) (2 ^ 256) = (tt, tt) in
-    abs-mono s (a + 2 ^ 256) B₀ (leb→le (a + 2 ^ 256) B₀ t) (abs-eq ((s -q qn 1) +q qn 1) s (a + 2 ^ 256) (ringQ (s ∷ []) ((rv 0 ⊖ nat 1) ⊕ nat 1) (rv 0) tt) (abs-add (s -q qn 1) (qn 1) a (2 ^ 256) h o))
+    abs-mono s (a + 2 ^ 256) B₀ (leb→le (a + 2 ^ 256) B₀ t)
+    (abs-eq ((s -q qn 1) +q qn 1) s (a + 2 ^ 256) (ringQ (s ∷ []) ((rv 0 ⊖ nat 1) ⊕ nat 1) (rv 0) tt) (abs-add (s -q qn 1) (qn 1) a (2 ^ 256) h o))
 
 pub unit-quat : (q : Quat) → T (isNormalizedOf q) → UnitQuat q
 unfolding isNormalizedOf squaresE squaresβ chk leq _+q_ _*q_ iv U negq
@@ -181,7 +185,8 @@ unit-quat q t =
     let fw = finite-of w (g .1) in
     let d = abs-within D (ratio 1 (2 ^ 44)) (2 ^ 212) limit-finite limit-val (a .1) in
     let f₄ = sub-finite S₄ (ratio 1 1) (d .0) in
-    let near : Abs (val S₄ -q qn 1) (2 * 2 ^ 212 + 1) = subst (λ v. Abs (val S₄ -q v) (2 * 2 ^ 212 + 1)) one-val (sub-back S₄ (ratio 1 1) (2 ^ 212) f₄ one-finite (d .0) (d .1)) in
+    let near : Abs (val S₄ -q qn 1) (2 * 2 ^ 212 + 1) =
+    subst (λ v. Abs (val S₄ -q v) (2 * 2 ^ 212 + 1)) one-val (sub-back S₄ (ratio 1 1) (2 ^ 212) f₄ one-finite (d .0) (d .1)) in
     let f₃ = add-finite S₃ (mul binary64 w w) f₄ in
     let f₂ = add-finite S₂ (mul binary64 z z) (f₃ .0) in
     let f₁ = add-finite S₁ (mul binary64 y y) (f₂ .0) in
@@ -196,5 +201,14 @@ unit-quat q t =
     let ty = five (val y) (2 * B₃ + 1) tt (square-back y B₃ fy (f₁ .1) (b₁ .1)) in
     let tx = five (val x) (2 * B₃ + 1) tt (square-back x B₃ fx (f₁ .0) (b₁ .0)) in
     let M = 5 * 2 ^ 256 in
-    let R = sound (x ∷ y ∷ z ∷ w ∷ []) (val x ∷ val y ∷ val z ∷ val w ∷ []) squaresβ (given x M (fx, tx), (given y M (fy, ty), (given z M (fz, tz), (given w M (fw, tw), tt)))) squaresE ((((tt, tt), (tt, tt)), (tt, tt)), (tt, tt)) tt in
-    record { fine-x = fx; fine-y = fy; fine-z = fz; fine-w = fw; size = around (val S₄) (norm (val x) (val y) (val z) (val w)) (2 * 2 ^ 212 + 1) (err (chk squaresβ squaresE)) (2 ^ 214) near (R .2) tt }
+    let R = sound (x ∷ y ∷ z ∷ w ∷ []) (val x ∷ val y ∷ val z ∷ val w ∷ []) squaresβ (
+      given x M (fx, tx),
+      (given y M (fy, ty), (given z M (fz, tz), (given w M (fw, tw), tt))),
+    ) squaresE ((((tt, tt), (tt, tt)), (tt, tt)), (tt, tt)) tt in
+    record {
+      fine-x = fx;
+      fine-y = fy;
+      fine-z = fz;
+      fine-w = fw;
+      size = around (val S₄) (norm (val x) (val y) (val z) (val w)) (2 * 2 ^ 212 + 1) (err (chk squaresβ squaresE)) (2 ^ 214) near (R .2) tt;
+    }

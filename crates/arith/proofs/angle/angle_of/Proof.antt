@@ -1,4 +1,4 @@
--- `angle::angle_of` meets its contract.
+-- `angle::angle_of` meets its contract: one law of `Ways` for each return.
 use Rattle.arith.proofs.Ways.{angle-below, angle-above}
 use borrow.Author.Needs.{needs}
 use Rattle.arith.proofs.angle.angle_of.Statement.{statement}
@@ -17,10 +17,16 @@ facing-requires : tie.Need-facing-requires
 facing-requires c κs = search needs
 
 returns : tie.Need-returns
-returns c = angle-below _ _ (c .before .before .before .before .abs .ensures) (c .before .before .before .abs2 .ensures) (c .before .before .quadrant .ensures) (c .before .facing .ensures) (c .if1 .taken)
+returns c =
+    let at-abs2 = c .before .before .before in
+    angle-below _ _ (at-abs2 .before .abs .ensures) (at-abs2 .abs2 .ensures)
+    (c .before .before .quadrant .ensures) (c .before .facing .ensures) (c .if1 .taken)
 
 returns-2 : tie.Need-returns-2
-returns-2 c = angle-above _ _ (c .before .before .before .before .abs .ensures) (c .before .before .before .abs2 .ensures) (c .before .before .quadrant .ensures) (c .before .facing .ensures) (c .if1 .left)
+returns-2 c =
+    let at-abs2 = c .before .before .before in
+    angle-above _ _ (at-abs2 .before .abs .ensures) (at-abs2 .abs2 .ensures)
+    (c .before .before .quadrant .ensures) (c .before .facing .ensures) (c .if1 .left)
 
 pub angle-of-spec : {M : Type 1} → statement M
 angle-of-spec =

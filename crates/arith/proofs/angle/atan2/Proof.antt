@@ -1,4 +1,4 @@
--- `angle::atan2` meets its contract.
+-- `angle::atan2` meets its contract: one law of `Ways` for each return.
 use Rattle.arith.proofs.Ways.{atan-first, atan-second, atan-zero, atan-axis, atan-else, atan-answered}
 use borrow.Author.Needs.{needs}
 use Rattle.arith.proofs.angle.atan2.Statement.{statement}

@@ -1,4 +1,4 @@
--- `angle::doubled` meets its contract.
+-- `angle::doubled` meets its contract: its literals are the definition's fractions, rounded.
 use mathlib.Core.Path.{refl}
 use lib.Ieee.{ofBits, round}
 use Rattle.arith.specs.Angle.{doubled}

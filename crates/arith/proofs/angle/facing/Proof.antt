@@ -1,4 +1,4 @@
--- `angle::facing` meets its contract.
+-- `angle::facing` meets its contract: one law of `Ways` for each return.
 use Rattle.arith.proofs.Ways.{facing-left, facing-right}
 use Rattle.arith.proofs.angle.facing.Statement.{statement}
 use Rattle.arith.proofs.angle.facing.Tie as tie

@@ -1,4 +1,4 @@
--- `angle::half_tangent` meets its contract.
+-- `angle::half_tangent` meets its contract: its literal and its callee are the definition's, by `Ways`.
 use Rattle.arith.proofs.Ways.{half-tangent-is}
 use borrow.Author.Needs.{needs}
 use Rattle.arith.proofs.angle.half_tangent.Statement.{statement}

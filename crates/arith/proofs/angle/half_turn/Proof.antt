@@ -1,4 +1,4 @@
--- `angle::half_turn` meets its contract.
+-- `angle::half_turn` meets its contract: its two sums are the definition's, by `Ways`.
 use Rattle.arith.proofs.Ways.{half-turn-is}
 use borrow.Author.Needs.{needs}
 use Rattle.arith.proofs.angle.half_turn.Statement.{statement}

@@ -1,4 +1,4 @@
--- `angle::octant` meets its contract.
+-- `angle::octant` meets its contract: its callees are the definition's, by `Ways`.
 use Rattle.arith.proofs.Ways.{octant-is}
 use borrow.Author.Needs.{needs}
 use Rattle.arith.proofs.angle.octant.Statement.{statement}

@@ -1,4 +1,4 @@
--- `angle::quadrant` meets its contract.
+-- `angle::quadrant` meets its contract: one law of `Ways` for each return.
 use Rattle.arith.proofs.Ways.{quadrant-steep, quadrant-flat}
 use borrow.Author.Needs.{needs}
 use Rattle.arith.proofs.angle.quadrant.Statement.{statement}

@@ -1,4 +1,4 @@
--- `angle::rem_tau` meets its contract.
+-- `angle::rem_tau` meets its contract: one law of `Ways` for each return.
 use Rattle.arith.proofs.Ways.{rem-below, rem-above}
 use borrow.Author.Needs.{needs}
 use Rattle.arith.proofs.angle.rem_tau.Statement.{statement}

@@ -1,4 +1,4 @@
--- `angle::sin_cos` meets its contract.
+-- `angle::sin_cos` meets its contract: one law of `Ways` for each return.
 use Rattle.arith.proofs.Ways.{sines-low, sines-in, sines-high, sines-answered}
 use borrow.Author.Needs.{needs}
 use Rattle.arith.proofs.angle.sin_cos.Statement.{statement}
@@ -7,14 +7,14 @@ use Rattle.arith.proofs.angle.sin_cos.Tie as tie
 returns : tie.Need-returns
 returns c = sines-answered _ (sines-low _ (c .if1 .taken))
 
-turn-to-four-requires : tie.Need-turn-to-four-requires
-turn-to-four-requires c κs = search needs
+halved-requires : tie.Need-halved-requires
+halved-requires c κs = search needs
 
 returns-2 : tie.Need-returns-2
-returns-2 c = sines-answered _ (sines-in _ (c .before .before .if1 .left) (c .before .if2 .taken) (c .turn-to-four .ensures))
+returns-2 c = sines-answered _ (sines-in _ (c .before .before .if1 .left) (c .before .if2 .taken) (c .halved .ensures))
 
 returns-3 : tie.Need-returns-3
 returns-3 c = sines-answered _ (sines-high _ (c .before .if1 .left) (c .if2 .left))
 
 pub sin-cos-spec : {M : Type 1} → statement M
-sin-cos-spec = tie.close (tie.spec returns turn-to-four-requires returns-2 returns-3)
+sin-cos-spec = tie.close (tie.spec returns halved-requires returns-2 returns-3)

@@ -1,4 +1,4 @@
--- `number::abs` meets its contract.
+-- `number::abs` meets its contract: one law of `Ways` for each return.
 use mathlib.Core.Path.{sym, subst}
 use lib.Dec.{T}
 use Rattle.arith.proofs.Ways.{abs-below, abs-above}

@@ -1,4 +1,4 @@
--- `number::infinity` meets its contract.
+-- `number::infinity` meets its contract: its bits are those of +infinity.
 use mathlib.Core.Path.{refl}
 use lib.Ieee.{nanBits, ofBits}
 use Rattle.arith.proofs.number.infinity.Statement.{statement}

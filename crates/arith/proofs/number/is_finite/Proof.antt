@@ -1,4 +1,4 @@
--- `number::is_finite` meets its contract.
+-- `number::is_finite` meets its contract: one law of `Ways` for each return.
 use Rattle.arith.proofs.Ways.{finite-yes, finite-no}
 use borrow.Author.Needs.{needs}
 use Rattle.arith.proofs.number.is_finite.Statement.{statement}

@@ -1,4 +1,4 @@
--- `number::max` meets its contract.
+-- `number::max` meets its contract: the definition's test is the code's.
 use Rattle.arith.specs.FlowLaws.{cond-yes, cond-no}
 use Rattle.arith.proofs.number.max.Statement.{statement}
 use Rattle.arith.proofs.number.max.Tie as tie

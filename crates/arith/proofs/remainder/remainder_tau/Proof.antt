@@ -1,4 +1,4 @@
--- `remainder_tau` meets its contract: below 0 it is the remainder of -x, with the other sign. Assumes nothing.
+-- `remainder_tau` meets its contract: below 0 it is the remainder of -x, with the other sign.
 use Rattle.arith.proofs.RemainderCases.{turned, minus-remainder}
 use borrow.Author.Needs.{needs}
 use Rattle.arith.proofs.remainder.remainder_tau.Statement.{statement}

@@ -1,4 +1,4 @@
--- `remainder::unsigned_remainder` meets its contract, by proofs/RemainderCases.antt. Assumes nothing.
+-- `remainder::unsigned_remainder` meets its contract, by proofs/RemainderCases.antt.
 use mathlib.Core.Path.{sym, subst}
 use Prim.Native.Nat.{ℕ, _/_, _%_}
 use lib.Dec.{T}

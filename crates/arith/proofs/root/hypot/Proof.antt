@@ -1,4 +1,4 @@
--- `root::hypot` meets its contract.
+-- `root::hypot` meets its contract: one law of `Ways` for each return.
 use mathlib.Core.Path.{_∙_}
 use Rattle.arith.proofs.Ways.{hypot-first, hypot-second, hypot-less, hypot-more}
 use borrow.Author.Needs.{needs}
@@ -21,7 +21,10 @@ infinity-requires-2 : tie.Need-infinity-requires-2
 infinity-requires-2 c κs = search needs
 
 returns-2 : tie.Need-returns-2
-returns-2 c = c .infinity2 .ensures ∙ hypot-second _ _ (c .before .before .before .before .is-finite .ensures) (c .before .before .before .if1 .left) (c .before .before .is-finite2 .ensures) (c .before .if2 .taken)
+returns-2 c =
+    let at-if1 = c .before .before .before in
+    c .infinity2 .ensures ∙ hypot-second _ _ (at-if1 .before .is-finite .ensures)
+    (at-if1 .if1 .left) (c .before .before .is-finite2 .ensures) (c .before .if2 .taken)
 
 abs-requires : tie.Need-abs-requires
 abs-requires c κs = search needs
@@ -36,10 +39,20 @@ scaled-root-requires-2 : tie.Need-scaled-root-requires-2
 scaled-root-requires-2 c κs = search needs
 
 returns-3 : tie.Need-returns-3
-returns-3 c = hypot-less _ _ (c .before .before .before .before .before .before .before .is-finite .ensures) (c .before .before .before .before .before .before .if1 .left) (c .before .before .before .before .before .is-finite2 .ensures) (c .before .before .before .before .if2 .left) (c .before .before .before .abs .ensures) (c .before .before .abs2 .ensures) (c .before .if3 .taken) (c .scaled-root .ensures)
+returns-3 c =
+    let at-abs = c .before .before .before in
+    let at-if1 = at-abs .before .before .before in
+    hypot-less _ _ (at-if1 .before .is-finite .ensures) (at-if1 .if1 .left) (at-abs .before .before .is-finite2 .ensures)
+    (at-abs .before .if2 .left) (at-abs .abs .ensures) (c .before .before .abs2 .ensures) (c .before .if3 .taken)
+    (c .scaled-root .ensures)
 
 returns-4 : tie.Need-returns-4
-returns-4 c = hypot-more _ _ (c .before .before .before .before .before .before .before .is-finite .ensures) (c .before .before .before .before .before .before .if1 .left) (c .before .before .before .before .before .is-finite2 .ensures) (c .before .before .before .before .if2 .left) (c .before .before .before .abs .ensures) (c .before .before .abs2 .ensures) (c .before .if3 .left) (c .scaled-root2 .ensures)
+returns-4 c =
+    let at-abs = c .before .before .before in
+    let at-if1 = at-abs .before .before .before in
+    hypot-more _ _ (at-if1 .before .is-finite .ensures) (at-if1 .if1 .left) (at-abs .before .before .is-finite2 .ensures)
+    (at-abs .before .if2 .left) (at-abs .abs .ensures) (c .before .before .abs2 .ensures) (c .before .if3 .left)
+    (c .scaled-root2 .ensures)
 
 pub hypot-spec : {M : Type 1} → statement M
 hypot-spec =

@@ -1,4 +1,4 @@
--- `root::root_bits` meets its contract, by `Bits.antt`. Assumes nothing.
+-- `root::root_bits` meets its contract, by the laws of `RootBits`.
 use mathlib.Core.Path.{_≡_, sym, ap, _∙_}
 use Prim.Native.Nat.{ℕ, _-_, _/_, _%_, _≤_, _<_}
 use native.Mathlib.Nat.{lt-of-lt-of-le, le-trans, mod-lt}
@@ -13,7 +13,9 @@ use Rattle.arith.proofs.root.root_bits.Statement.{statement}
 use Rattle.arith.proofs.root.root_bits.Tie as tie
 
 up : (c : tie.Then1) → Shifted (c .before .args .b % 4503599627370496) (leadingZeros 64 (c .before .args .b % 4503599627370496))
-up c = shifted (c .before .args .b % 4503599627370496) (digits-pos (c .before .args .b) (c .before .pre .0) (c .if1 .taken)) (mod-lt (c .before .args .b) (lit< tt))
+up c =
+    shifted (c .before .args .b % 4503599627370496) (digits-pos (c .before .args .b) (c .before .pre .0) (c .if1 .taken))
+    (mod-lt (c .before .args .b) (lit< tt))
   where
     digits-pos : (b : ℕ) → 0 < b → b / 4503599627370496 ≡ 0 → 0 < b % 4503599627370496
     digits-pos b p e = omega arith
@@ -54,8 +56,11 @@ join-requires-2 c κs = search needs
 returns : tie.Need-returns
 returns c =
     let at-start = c .before .before in
-    let b = at-start .args .b in
-    (c .join .ensures .0, c .join .ensures .1 ∙ ap (λ (x : ℕ). roundRoot binary64 x) (up (c .before) .same) ∙ sym (sqrt-low b (at-start .pre .0) (at-start .pre .1) (c .before .if1 .taken)))
+    let b = at-start .args .b in (
+      c .join .ensures .0,
+      c .join .ensures .1 ∙ ap (λ (x : ℕ). roundRoot binary64 x) (up (c .before) .same)
+          ∙ sym (sqrt-low b (at-start .pre .0) (at-start .pre .1) (c .before .if1 .taken)),
+    )
 
 returns-2 : tie.Need-returns-2
 returns-2 c =

@@ -1,4 +1,4 @@
--- `root::scaled_root` meets its contract.
+-- `root::scaled_root` meets its contract: one law of `Ways` for each return.
 use Rattle.arith.proofs.Ways.{scaled-zero, scaled-else}
 use borrow.Author.Needs.{needs}
 use Rattle.arith.proofs.root.scaled_root.Statement.{statement}

@@ -1,4 +1,4 @@
--- `root::sqrt` meets its contract, by proofs/RootCases.antt. Assumes nothing.
+-- `root::sqrt` meets its contract, by proofs/RootCases.antt.
 use mathlib.Core.Path.{sym, ap, subst, _∙_}
 use lib.Dec.{T}
 use lib.Ieee.{Float, binary64, fits}

@@ -1,5 +1,4 @@
 -- `root::whole_root` meets its contract. The loop's invariant: m is below the square of r + 1, and r is at most the first guess. The measure is r.
--- Assumes nothing.
 use Prim.Native.Nat.{_+_, _*_, _≤_, _<_}
 use native.Mathlib.Nat.{mul-le-mul, div-le-self, zero-lt-suc}
 use native.Mathlib.Omega.{arith}

@@ -38,7 +38,8 @@ returns-4 c =
     let at-marked = at-if3 .before in
     let at-if2 = at-marked .before in
     let at-if1 = at-if2 .before in
-    head-body _ _ _ _ (at-if1 .if1 .left) (at-if2 .if2 .left) (at-marked .marked .ensures) (at-if3 .if3 .left) (at-marked2 .marked2 .ensures) (at-if4 .if4 .taken) (c .body-head .ensures)
+    head-body _ _ _ _ (at-if1 .if1 .left) (at-if2 .if2 .left) (at-marked .marked .ensures) (at-if3 .if3 .left) (at-marked2 .marked2 .ensures)
+    (at-if4 .if4 .taken) (c .body-head .ensures)
 
 marked-requires-3 : tie.Need-marked-requires-3
 marked-requires-3 c κs = search needs
@@ -56,7 +57,8 @@ returns-5 c =
     let at-marked = at-if3 .before in
     let at-if2 = at-marked .before in
     let at-if1 = at-if2 .before in
-    head-joint _ _ _ _ (at-if1 .if1 .left) (at-if2 .if2 .left) (at-marked .marked .ensures) (at-if3 .if3 .left) (at-marked2 .marked2 .ensures) (at-if4 .if4 .left) (at-marked3 .marked3 .ensures) (at-if5 .if5 .taken) (c .joint-head .ensures)
+    head-joint _ _ _ _ (at-if1 .if1 .left) (at-if2 .if2 .left) (at-marked .marked .ensures) (at-if3 .if3 .left) (at-marked2 .marked2 .ensures)
+    (at-if4 .if4 .left) (at-marked3 .marked3 .ensures) (at-if5 .if5 .taken) (c .joint-head .ensures)
 
 returns-6 : tie.Need-returns-6
 returns-6 c =
@@ -67,7 +69,8 @@ returns-6 c =
     let at-marked = at-if3 .before in
     let at-if2 = at-marked .before in
     let at-if1 = at-if2 .before in
-    head-unknown _ _ _ _ (at-if1 .if1 .left) (at-if2 .if2 .left) (at-marked .marked .ensures) (at-if3 .if3 .left) (at-marked2 .marked2 .ensures) (at-if4 .if4 .left) (at-marked3 .marked3 .ensures) (c .if5 .left)
+    head-unknown _ _ _ _ (at-if1 .if1 .left) (at-if2 .if2 .left) (at-marked .marked .ensures) (at-if3 .if3 .left) (at-marked2 .marked2 .ensures)
+    (at-if4 .if4 .left) (at-marked3 .marked3 .ensures) (c .if5 .left)
 
 pub head-spec : {M : Type 1} → statement M
 head-spec =

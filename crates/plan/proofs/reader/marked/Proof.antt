@@ -1,6 +1,5 @@
 -- `marked`: both bytes are compared.
 use denote.Ref.{now}
-use native.Mathlib.Omega.{arith}
 use Rattle.plan.proofs.Heads.{marked-second, marked-not}
 use borrow.Author.Needs.{needs}
 use Rattle.plan.proofs.reader.marked.Statement.{statement}

@@ -1,4 +1,4 @@
--- `body::finite` meets its contract.
+-- `body::finite` meets its contract: one law of `BodyLaws` for each return.
 use Rattle.rows.proofs.BodyLaws.{finite-no, finite-yes}
 use borrow.Author.Needs.{needs}
 use Rattle.rows.proofs.body.finite.Statement.{statement}

@@ -1,4 +1,4 @@
--- `body::same_transform` meets its contract.
+-- `body::same_transform` meets its contract: both tests.
 use Rattle.rows.proofs.BodyLaws.{both-no, both-yes}
 use borrow.Author.Needs.{needs}
 use mathlib.Core.Path.{_∙_, sym}

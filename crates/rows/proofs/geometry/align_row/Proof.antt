@@ -1,13 +1,12 @@
--- `geometry::align_row` meets its contract.
-use Rattle.rows.proofs.RowLaws.{align-1, align-2, align-3, single, single-stop}
-use Rattle.rows.specs.AnswerLaws.{none-stop, some-go, vector-go, vector-stop}
-use Rattle.rows.specs.Fault.{arithmeticOverflow}
+-- `geometry::align_row` meets its contract: one law of `RowLaws` for each return.
+use Rattle.rows.proofs.RowLaws.{align-no-axis, align-no-gradient, align-is, single, single-stop, turned-go, turned-stop}
+use Rattle.rows.specs.AnswerLaws.{vector-go, vector-stop}
 use borrow.Author.Needs.{needs}
 use Rattle.rows.proofs.geometry.align_row.Statement.{statement}
 use Rattle.rows.proofs.geometry.align_row.Tie as tie
 
-rotate-vector-requires : tie.Need-rotate-vector-requires
-rotate-vector-requires c κs = search needs
+rotate-as-unit-requires : tie.Need-rotate-as-unit-requires
+rotate-as-unit-requires c κs = search needs
 
 enum-known-axis : tie.Need-enum-known-axis
 enum-known-axis c = search needs
@@ -16,7 +15,7 @@ enum-told : tie.Need-enum-told
 enum-told c = search needs
 
 returns : tie.Need-returns
-returns c = single-stop _ (align-1 _ _ _ _ (none-stop arithmeticOverflow (c .before .before .rotate-vector .ensures) (c .enum-told .given .1)))
+returns c = λ q u. single-stop _ (align-no-axis _ q _ _ (turned-stop u _ (c .before .before .rotate-as-unit .ensures) (c .enum-told .given .1)))
 
 cross-requires : tie.Need-cross-requires
 cross-requires c κs = search needs
@@ -32,9 +31,13 @@ enum-told-2 c = search needs
 
 returns-2 : tie.Need-returns-2
 returns-2 c =
-    let c₆ = c .before .before .before .before .before .before in
+    let at-cross = c .before .before .before in
+    let at-axis = at-cross .before .before in
+    λ q u.
     single-stop _
-    (align-2 _ _ _ _ (some-go arithmeticOverflow (c₆ .before .rotate-vector .ensures) (c .before .before .before .before .before .axis .given .1)) (c .before .before .before .cross .ensures) (vector-stop (c .before .before .finite .ensures) (c .enum-told2 .given .1)))
+    (align-no-gradient _ q _ _
+    (turned-go u _ (at-axis .before .before .rotate-as-unit .ensures) (at-axis .axis .given .1))
+    (at-cross .cross .ensures) (vector-stop (c .before .before .finite .ensures) (c .enum-told2 .given .1)))
 
 neg-requires : tie.Need-neg-requires
 neg-requires c κs = search needs
@@ -47,15 +50,21 @@ turning-requires c κs = search needs
 
 returns-3 : tie.Need-returns-3
 returns-3 c =
-    let c₆ = c .before .before .before .before .before .before in
+    let at-gradient = c .before .before .before .before in
+    let at-cross = at-gradient .before .before .before in
+    let at-axis = at-cross .before .before in
+    λ q u.
     single _
-    (align-3 _ _ _ _ (some-go arithmeticOverflow (c₆ .before .before .before .before .before .rotate-vector .ensures) (c₆ .before .before .before .axis .given .1)) (c₆ .before .cross .ensures) (vector-go (c .before .before .before .before .before .before .finite .ensures) (c .before .before .before .before .gradient .given .1)) (c .before .before .neg .ensures) (c .before .dot .ensures) (c .turning .ensures))
+    (align-is _ q _ _
+    (turned-go u _ (at-axis .before .before .rotate-as-unit .ensures) (at-axis .axis .given .1))
+    (at-cross .cross .ensures) (vector-go (at-gradient .before .before .finite .ensures) (at-gradient .gradient .given .1))
+    (c .before .before .neg .ensures) (c .before .dot .ensures) (c .turning .ensures))
 
 pub align-row-spec : {M : Type 1} → statement M
 align-row-spec =
     tie.close
     (tie.spec
-    rotate-vector-requires
+    rotate-as-unit-requires
     enum-known-axis
     enum-told
     returns

@@ -1,5 +1,5 @@
--- `geometry::aligned` meets its contract.
-use Rattle.rows.proofs.RowLaws.{aligned-1, aligned-2, aligned-3, aligned-4, axis-turned}
+-- `geometry::aligned` meets its contract: one law of `RowLaws` for each return.
+use Rattle.rows.proofs.RowLaws.{aligned-no-b, aligned-no-a, aligned-apart, aligned-is, axis-turned, turned-go, turned-stop}
 use Rattle.rows.specs.AnswerLaws.{none-stop, some-go}
 use Rattle.rows.specs.Fault.{arithmeticOverflow}
 use borrow.Author.Needs.{needs}
@@ -16,10 +16,10 @@ enum-told : tie.Need-enum-told
 enum-told c = search needs
 
 returns : tie.Need-returns
-returns c = aligned-1 _ _ (axis-turned _ (none-stop arithmeticOverflow (c .before .before .rotate-vector .ensures) (c .enum-told .given .1)))
+returns c = λ q u. aligned-no-b q _ (axis-turned _ (none-stop arithmeticOverflow (c .before .before .rotate-vector .ensures) (c .enum-told .given .1)))
 
-rotate-vector-requires-2 : tie.Need-rotate-vector-requires-2
-rotate-vector-requires-2 c κs = search needs
+rotate-as-unit-requires : tie.Need-rotate-as-unit-requires
+rotate-as-unit-requires c κs = search needs
 
 enum-known-za : tie.Need-enum-known-za
 enum-known-za c = search needs
@@ -29,27 +29,34 @@ enum-told-2 c = search needs
 
 returns-2 : tie.Need-returns-2
 returns-2 c =
-    aligned-2 _ _
-    (axis-turned _ (some-go arithmeticOverflow (c .before .before .before .before .before .before .rotate-vector .ensures) (c .before .before .before .before .z .given .1)))
-    (axis-turned _ (none-stop arithmeticOverflow (c .before .before .rotate-vector2 .ensures) (c .enum-told2 .given .1)))
+    let at-turn = c .before .before in
+    let at-z = at-turn .before .before in
+    λ q u.
+    aligned-no-a q _
+    (axis-turned _ (some-go arithmeticOverflow (at-z .before .before .rotate-vector .ensures) (at-z .z .given .1)))
+    (axis-turned q (turned-stop u _ (at-turn .rotate-as-unit .ensures) (c .enum-told2 .given .1)))
 
 dot-requires : tie.Need-dot-requires
 dot-requires c κs = search needs
 
 returns-3 : tie.Need-returns-3
 returns-3 c =
-    let c₆ = c .before .before .before .before .before .before in
-    aligned-3 _ _
-    (axis-turned _ (some-go arithmeticOverflow (c₆ .before .before .before .rotate-vector .ensures) (c₆ .before .z .given .1)))
-    (axis-turned _ (some-go arithmeticOverflow (c .before .before .before .before .before .rotate-vector2 .ensures) (c .before .before .before .za .given .1)))
+    let at-za = c .before .before .before in
+    let at-z = at-za .before .before .before .before in
+    λ q u.
+    aligned-apart q _
+    (axis-turned _ (some-go arithmeticOverflow (at-z .before .before .rotate-vector .ensures) (at-z .z .given .1)))
+    (axis-turned q (turned-go u _ (at-za .before .before .rotate-as-unit .ensures) (at-za .za .given .1)))
     (c .before .dot .ensures) (c .if1 .taken)
 
 returns-4 : tie.Need-returns-4
 returns-4 c =
-    let c₆ = c .before .before .before .before .before .before in
-    aligned-4 _ _
-    (axis-turned _ (some-go arithmeticOverflow (c₆ .before .before .before .rotate-vector .ensures) (c₆ .before .z .given .1)))
-    (axis-turned _ (some-go arithmeticOverflow (c .before .before .before .before .before .rotate-vector2 .ensures) (c .before .before .before .za .given .1)))
+    let at-za = c .before .before .before in
+    let at-z = at-za .before .before .before .before in
+    λ q u.
+    aligned-is q _
+    (axis-turned _ (some-go arithmeticOverflow (at-z .before .before .rotate-vector .ensures) (at-z .z .given .1)))
+    (axis-turned q (turned-go u _ (at-za .before .before .rotate-as-unit .ensures) (at-za .za .given .1)))
     (c .before .dot .ensures) (c .if1 .left)
 
 pub aligned-spec : {M : Type 1} → statement M
@@ -60,7 +67,7 @@ aligned-spec =
     enum-known-z
     enum-told
     returns
-    rotate-vector-requires-2
+    rotate-as-unit-requires
     enum-known-za
     enum-told-2
     returns-2

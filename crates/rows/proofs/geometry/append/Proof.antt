@@ -1,4 +1,4 @@
--- `geometry::append` meets its contract.
+-- `geometry::append` meets its contract: the first failure stands.
 use Rattle.rows.proofs.AppendLaws.{append-nonconvergent, append-overflow, append-rows, count-rows}
 use borrow.Author.Needs.{needs}
 use native.Mathlib.Omega.{arith}
@@ -9,7 +9,9 @@ enum-known-written : tie.Need-enum-known-written
 enum-known-written c = search needs
 
 append-row-requires : tie.Need-append-row-requires
-append-row-requires c κs = omega (arith, c .before .before .before .before .before .pre, count-rows (c .before .before .written .given .1))
+append-row-requires c κs =
+    let at-written = c .before .before in
+    omega (arith, at-written .before .before .before .pre, count-rows (at-written .written .given .1))
 
 enum-told : tie.Need-enum-told
 enum-told c = search needs
@@ -21,7 +23,9 @@ same-length : tie.Need-same-length
 same-length c = search needs
 
 returns : tie.Need-returns
-returns c = append-rows (c .before .before .before .before .before .written .given .1) (c .before .before .append-row .ensures)
+returns c =
+    let at-row = c .before .before in
+    append-rows (at-row .before .before .before .written .given .1) (at-row .append-row .ensures)
 
 returns-2 : tie.Need-returns-2
 returns-2 c = append-nonconvergent (c .enum-told .given .1)

@@ -1,4 +1,4 @@
--- `geometry::append_row` meets its contract.
+-- `geometry::append_row` meets its contract, answer by answer.
 use Rattle.rows.proofs.AppendLaws.{append-none, append-value}
 use Rattle.rows.specs.Append.{There}
 use borrow.Author.Needs.{needs}
@@ -35,7 +35,9 @@ same-length : tie.Need-same-length
 same-length c = search needs
 
 returns : tie.Need-returns
-returns c = append-value (c .before .before .before .before .before .answer .given .1) (c .before .before .store .ensures)
+returns c =
+    let at-store = c .before .before in
+    append-value (at-store .before .before .before .answer .given .1) (at-store .store .ensures)
 
 returns-2 : tie.Need-returns-2
 unfolding There

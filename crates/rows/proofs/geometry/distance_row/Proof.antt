@@ -1,5 +1,6 @@
--- `geometry::distance_row` meets its contract.
-use Rattle.rows.proofs.RowLaws.{distance-1, distance-2, distance-3, distance-4, single, single-stop, tolerance-go, tolerance-stop}
+-- `geometry::distance_row` meets its contract: one law of `RowLaws` for each return.
+use Rattle.rows.proofs.RowLaws.{distance-is, distance-no-axis, distance-no-length, distance-no-tolerance}
+use Rattle.rows.proofs.RowLaws.{single, single-stop, tolerance-go, tolerance-stop}
 use Rattle.rows.specs.AnswerLaws.{none-stop, number-go, number-stop, some-go}
 use Rattle.rows.specs.Fault.{arithmeticOverflow, nonConvergent}
 use borrow.Author.Needs.{needs}
@@ -16,7 +17,7 @@ enum-told : tie.Need-enum-told
 enum-told c = search needs
 
 returns : tie.Need-returns
-returns c = single-stop _ (distance-1 _ _ _ (number-stop arithmeticOverflow (c .before .before .checked-length .ensures) (c .enum-told .given .1)))
+returns c = single-stop _ (distance-no-length _ _ _ (number-stop arithmeticOverflow (c .before .before .checked-length .ensures) (c .enum-told .given .1)))
 
 try-normalize-requires : tie.Need-try-normalize-requires
 try-normalize-requires c κs = search needs
@@ -29,8 +30,11 @@ enum-told-2 c = search needs
 
 returns-2 : tie.Need-returns-2
 returns-2 c =
+    let at-distance = c .before .before .before .before in
     single-stop _
-    (distance-2 _ _ _ (number-go arithmeticOverflow (c .before .before .before .before .before .before .checked-length .ensures) (c .before .before .before .before .distance .given .1)) (none-stop nonConvergent (c .before .before .try-normalize .ensures) (c .enum-told2 .given .1)))
+    (distance-no-axis _ _ _
+    (number-go arithmeticOverflow (at-distance .before .before .checked-length .ensures) (at-distance .distance .given .1))
+    (none-stop nonConvergent (c .before .before .try-normalize .ensures) (c .enum-told2 .given .1)))
 
 tolerance-requires : tie.Need-tolerance-requires
 tolerance-requires c κs = search needs
@@ -43,9 +47,13 @@ enum-told-3 c = search needs
 
 returns-3 : tie.Need-returns-3
 returns-3 c =
-    let c₆ = c .before .before .before .before .before .before in
+    let at-axis = c .before .before .before .before in
+    let at-distance = at-axis .before .before .before .before in
     single-stop _
-    (distance-3 _ _ _ (number-go arithmeticOverflow (c₆ .before .before .before .before .checked-length .ensures) (c₆ .before .before .distance .given .1)) (some-go nonConvergent (c .before .before .before .before .before .before .try-normalize .ensures) (c .before .before .before .before .axis .given .1)) (tolerance-stop (c .before .before .tolerance .ensures) (c .enum-told3 .given .1)))
+    (distance-no-tolerance _ _ _
+    (number-go arithmeticOverflow (at-distance .before .before .checked-length .ensures) (at-distance .distance .given .1))
+    (some-go nonConvergent (at-axis .before .before .try-normalize .ensures) (at-axis .axis .given .1))
+    (tolerance-stop (c .before .before .tolerance .ensures) (c .enum-told3 .given .1)))
 
 neg-requires : tie.Need-neg-requires
 neg-requires c κs = search needs
@@ -61,10 +69,15 @@ cross-requires-2 c κs = search needs
 
 returns-4 : tie.Need-returns-4
 returns-4 c =
-    let c₆ = c .before .before .before .before .before .before in
-    let c₁₂ = c₆ .before .before .before .before .before .before in
+    let at-tolerance = c .before .before .before .before .before in
+    let at-axis = at-tolerance .before .before .before .before in
+    let at-distance = at-axis .before .before .before .before in
     single _
-    (distance-4 _ _ _ (number-go arithmeticOverflow (c₁₂ .before .before .before .checked-length .ensures) (c₁₂ .before .distance .given .1)) (some-go nonConvergent (c₆ .before .before .before .before .before .try-normalize .ensures) (c₆ .before .before .before .axis .given .1)) (tolerance-go (c₆ .before .tolerance .ensures) (c .before .before .before .before .before .tolerance2 .given .1)) (c .before .before .before .neg .ensures) (c .before .before .cross .ensures) (c .before .neg2 .ensures) (c .cross2 .ensures))
+    (distance-is _ _ _
+    (number-go arithmeticOverflow (at-distance .before .before .checked-length .ensures) (at-distance .distance .given .1))
+    (some-go nonConvergent (at-axis .before .before .try-normalize .ensures) (at-axis .axis .given .1))
+    (tolerance-go (at-tolerance .before .before .tolerance .ensures) (at-tolerance .tolerance2 .given .1))
+    (c .before .before .before .neg .ensures) (c .before .before .cross .ensures) (c .before .neg2 .ensures) (c .cross2 .ensures))
 
 pub distance-row-spec : {M : Type 1} → statement M
 distance-row-spec =

@@ -1,5 +1,5 @@
--- `geometry::ends_of` meets its contract.
-use Rattle.rows.proofs.RowLaws.{ends-1, ends-2, ends-3, ends-4}
+-- `geometry::ends_of` meets its contract: one law of `RowLaws` for each return.
+use Rattle.rows.proofs.RowLaws.{ends-no-a, ends-no-b, ends-no-delta, ends-are}
 use Rattle.rows.specs.AnswerLaws.{vector-go, vector-stop}
 use borrow.Author.Needs.{needs}
 use Rattle.rows.proofs.geometry.ends_of.Statement.{statement}
@@ -15,7 +15,7 @@ enum-told : tie.Need-enum-told
 enum-told c = search needs
 
 returns : tie.Need-returns
-returns c = ends-1 _ _ _ (vector-stop (c .before .before .anchor .ensures) (c .enum-told .given .1))
+returns c = ends-no-a _ _ _ (vector-stop (c .before .before .anchor .ensures) (c .enum-told .given .1))
 
 anchor-requires-2 : tie.Need-anchor-requires-2
 anchor-requires-2 c κs = search needs
@@ -28,8 +28,9 @@ enum-told-2 c = search needs
 
 returns-2 : tie.Need-returns-2
 returns-2 c =
-    ends-2 _ _ _
-    (vector-go (c .before .before .before .before .before .before .anchor .ensures) (c .before .before .before .before .pa .given .1))
+    let at-pa = c .before .before .before .before in
+    ends-no-b _ _ _
+    (vector-go (at-pa .before .before .anchor .ensures) (at-pa .pa .given .1))
     (vector-stop (c .before .before .anchor2 .ensures) (c .enum-told2 .given .1))
 
 sub-requires : tie.Need-sub-requires
@@ -46,10 +47,11 @@ enum-told-3 c = search needs
 
 returns-3 : tie.Need-returns-3
 returns-3 c =
-    let c₆ = c .before .before .before .before .before .before in
-    ends-3 _ _ _
-    (vector-go (c₆ .before .before .before .before .before .anchor .ensures) (c₆ .before .before .before .pa .given .1))
-    (vector-go (c₆ .before .anchor2 .ensures) (c .before .before .before .before .before .pb .given .1)) (c .before .before .before .sub .ensures)
+    let at-pb = c .before .before .before .before .before in
+    let at-pa = at-pb .before .before .before .before in
+    ends-no-delta _ _ _
+    (vector-go (at-pa .before .before .anchor .ensures) (at-pa .pa .given .1))
+    (vector-go (at-pb .before .before .anchor2 .ensures) (at-pb .pb .given .1)) (c .before .before .before .sub .ensures)
     (vector-stop (c .before .before .finite .ensures) (c .enum-told3 .given .1))
 
 sub-requires-2 : tie.Need-sub-requires-2
@@ -66,12 +68,13 @@ product-requires-2 c κs = search needs
 
 returns-4 : tie.Need-returns-4
 returns-4 c =
-    let c₆ = c .before .before .before .before .before .before in
-    let c₁₂ = c₆ .before .before .before .before .before .before in
-    ends-4 _ _ _
-    (vector-go (c₁₂ .before .before .before .before .anchor .ensures) (c₁₂ .before .before .pa .given .1))
-    (vector-go (c₆ .before .before .before .before .before .before .anchor2 .ensures) (c₆ .before .before .before .before .pb .given .1))
-    (c₆ .before .before .sub .ensures) (vector-go (c₆ .before .finite .ensures) (c .before .before .before .before .before .delta .given .1))
+    let at-delta = c .before .before .before .before .before in
+    let at-pb = at-delta .before .before .before .before .before in
+    let at-pa = at-pb .before .before .before .before in
+    ends-are _ _ _
+    (vector-go (at-pa .before .before .anchor .ensures) (at-pa .pa .given .1))
+    (vector-go (at-pb .before .before .anchor2 .ensures) (at-pb .pb .given .1))
+    (at-delta .before .before .before .sub .ensures) (vector-go (at-delta .before .before .finite .ensures) (at-delta .delta .given .1))
     (c .before .before .before .sub2 .ensures) (c .before .before .sub3 .ensures) (c .before .product .ensures) (c .product2 .ensures)
 
 pub ends-of-spec : {M : Type 1} → statement M

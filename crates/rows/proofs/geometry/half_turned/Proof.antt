@@ -1,5 +1,5 @@
--- `geometry::half_turned` meets its contract.
-use Rattle.rows.proofs.RowLaws.{half-1, half-2}
+-- `geometry::half_turned` meets its contract: one law of `RowLaws` for each return.
+use Rattle.rows.proofs.RowLaws.{half-yes, half-no}
 use borrow.Author.Needs.{needs}
 use Rattle.rows.proofs.geometry.half_turned.Statement.{statement}
 use Rattle.rows.proofs.geometry.half_turned.Tie as tie
@@ -8,10 +8,10 @@ any-locked-requires : tie.Need-any-locked-requires
 any-locked-requires c κs = search needs
 
 returns : tie.Need-returns
-returns c = half-1 _ _ (c .any-locked .ensures) (c .before .if1 .taken)
+returns c = half-yes _ _ (c .any-locked .ensures) (c .before .if1 .taken)
 
 returns-2 : tie.Need-returns-2
-returns-2 c = half-2 _ _ (c .if1 .left)
+returns-2 c = half-no _ _ (c .if1 .left)
 
 pub half-turned-spec : {M : Type 1} → statement M
 half-turned-spec = tie.close (tie.spec any-locked-requires returns returns-2)

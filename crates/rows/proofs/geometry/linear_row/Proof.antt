@@ -1,13 +1,12 @@
--- `geometry::linear_row` meets its contract.
-use Rattle.rows.proofs.RowLaws.{linear-1, linear-2, linear-3, linear-4, single, single-stop}
-use Rattle.rows.specs.AnswerLaws.{none-stop, some-go, vector-go, vector-stop}
-use Rattle.rows.specs.Fault.{arithmeticOverflow}
+-- `geometry::linear_row` meets its contract: one law of `RowLaws` for each return.
+use Rattle.rows.proofs.RowLaws.{linear-no-axis, linear-no-angular-a, linear-no-angular-b, linear-is, single, single-stop, turned-go, turned-stop}
+use Rattle.rows.specs.AnswerLaws.{vector-go, vector-stop}
 use borrow.Author.Needs.{needs}
 use Rattle.rows.proofs.geometry.linear_row.Statement.{statement}
 use Rattle.rows.proofs.geometry.linear_row.Tie as tie
 
-rotate-vector-requires : tie.Need-rotate-vector-requires
-rotate-vector-requires c κs = search needs
+rotate-as-unit-requires : tie.Need-rotate-as-unit-requires
+rotate-as-unit-requires c κs = search needs
 
 enum-known-axis : tie.Need-enum-known-axis
 enum-known-axis c = search needs
@@ -16,7 +15,9 @@ enum-told : tie.Need-enum-told
 enum-told c = search needs
 
 returns : tie.Need-returns
-returns c = single-stop _ (linear-1 _ _ _ (none-stop arithmeticOverflow (c .before .before .rotate-vector .ensures) (c .enum-told .given .1)))
+returns c =
+    let at-turn = c .before .before in
+    single-stop _ (linear-no-axis _ _ _ (turned-stop (at-turn .before .pre .0) _ (at-turn .rotate-as-unit .ensures) (c .enum-told .given .1)))
 
 cross-requires : tie.Need-cross-requires
 cross-requires c κs = search needs
@@ -38,9 +39,14 @@ enum-told-2 c = search needs
 
 returns-2 : tie.Need-returns-2
 returns-2 c =
-    let c₆ = c .before .before .before .before .before .before in
+    let at-sub = c .before .before .before in
+    let at-axis = at-sub .before .before .before .before in
+    let at-turn = at-axis .before .before in
     single-stop _
-    (linear-2 _ _ _ (some-go arithmeticOverflow (c₆ .before .before .before .rotate-vector .ensures) (c₆ .before .axis .given .1)) (c .before .before .before .before .before .cross .ensures) (c .before .before .before .before .cross2 .ensures) (c .before .before .before .sub .ensures) (vector-stop (c .before .before .finite .ensures) (c .enum-told2 .given .1)))
+    (linear-no-angular-a _ _ _
+    (turned-go (at-turn .before .pre .0) _ (at-turn .rotate-as-unit .ensures) (at-axis .axis .given .1))
+    (at-sub .before .before .cross .ensures) (at-sub .before .cross2 .ensures) (at-sub .sub .ensures)
+    (vector-stop (c .before .before .finite .ensures) (c .enum-told2 .given .1)))
 
 cross-requires-3 : tie.Need-cross-requires-3
 cross-requires-3 c κs = search needs
@@ -56,10 +62,16 @@ enum-told-3 c = search needs
 
 returns-3 : tie.Need-returns-3
 returns-3 c =
-    let c₆ = c .before .before .before .before .before .before in
-    let c₁₂ = c₆ .before .before .before .before .before .before in
+    let at-a = c .before .before .before .before .before in
+    let at-sub = at-a .before .before .before in
+    let at-axis = at-sub .before .before .before .before in
+    let at-turn = at-axis .before .before in
     single-stop _
-    (linear-3 _ _ _ (some-go arithmeticOverflow (c₁₂ .before .before .rotate-vector .ensures) (c₆ .before .before .before .before .before .before .axis .given .1)) (c₆ .before .before .before .before .cross .ensures) (c₆ .before .before .before .cross2 .ensures) (c₆ .before .before .sub .ensures) (vector-go (c₆ .before .finite .ensures) (c .before .before .before .before .before .angular-a .given .1)) (c .before .before .before .cross3 .ensures) (vector-stop (c .before .before .finite2 .ensures) (c .enum-told3 .given .1)))
+    (linear-no-angular-b _ _ _
+    (turned-go (at-turn .before .pre .0) _ (at-turn .rotate-as-unit .ensures) (at-axis .axis .given .1))
+    (at-sub .before .before .cross .ensures) (at-sub .before .cross2 .ensures) (at-sub .sub .ensures)
+    (vector-go (at-a .before .before .finite .ensures) (at-a .angular-a .given .1))
+    (c .before .before .before .cross3 .ensures) (vector-stop (c .before .before .finite2 .ensures) (c .enum-told3 .given .1)))
 
 neg-requires : tie.Need-neg-requires
 neg-requires c κs = search needs
@@ -69,16 +81,24 @@ dot-requires c κs = search needs
 
 returns-4 : tie.Need-returns-4
 returns-4 c =
-    let c₆ = c .before .before .before .before .before .before in
-    let c₁₂ = c₆ .before .before .before .before .before .before in
+    let at-b = c .before .before .before in
+    let at-a = at-b .before .before .before .before .before in
+    let at-sub = at-a .before .before .before in
+    let at-axis = at-sub .before .before .before .before in
+    let at-turn = at-axis .before .before in
     single _
-    (linear-4 _ _ _ (some-go arithmeticOverflow (c₁₂ .before .before .before .before .before .rotate-vector .ensures) (c₁₂ .before .before .before .axis .given .1)) (c₁₂ .before .cross .ensures) (c₆ .before .before .before .before .before .before .cross2 .ensures) (c₆ .before .before .before .before .before .sub .ensures) (vector-go (c₆ .before .before .before .before .finite .ensures) (c₆ .before .before .angular-a .given .1)) (c .before .before .before .before .before .before .cross3 .ensures) (vector-go (c .before .before .before .before .before .finite2 .ensures) (c .before .before .before .angular-b .given .1)) (c₁₂ .before .before .before .before .before .before .pre) (c .before .neg .ensures) (c .dot .ensures))
+    (linear-is _ _ _
+    (turned-go (at-turn .before .pre .0) _ (at-turn .rotate-as-unit .ensures) (at-axis .axis .given .1))
+    (at-sub .before .before .cross .ensures) (at-sub .before .cross2 .ensures) (at-sub .sub .ensures)
+    (vector-go (at-a .before .before .finite .ensures) (at-a .angular-a .given .1))
+    (at-b .before .before .before .cross3 .ensures) (vector-go (at-b .before .before .finite2 .ensures) (at-b .angular-b .given .1))
+    (at-turn .before .pre .1) (c .before .neg .ensures) (c .dot .ensures))
 
 pub linear-row-spec : {M : Type 1} → statement M
 linear-row-spec =
     tie.close
     (tie.spec
-    rotate-vector-requires
+    rotate-as-unit-requires
     enum-known-axis
     enum-told
     returns

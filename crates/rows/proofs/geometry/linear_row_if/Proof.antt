@@ -1,6 +1,5 @@
--- `geometry::linear_row_if` meets its contract.
+-- `geometry::linear_row_if` meets its contract: a row where it is locked, else none.
 use Rattle.rows.proofs.RowLaws.{row-free, row-locked}
-use borrow.Author.Needs.{needs}
 use Rattle.rows.proofs.geometry.linear_row_if.Statement.{statement}
 use Rattle.rows.proofs.geometry.linear_row_if.Tie as tie
 

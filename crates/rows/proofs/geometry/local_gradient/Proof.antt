@@ -1,4 +1,4 @@
--- `geometry::local_gradient` meets its contract.
+-- `geometry::local_gradient` meets its contract, by `local-is`.
 use Rattle.rows.proofs.RowLaws.{local-is}
 use borrow.Author.Needs.{needs}
 use Rattle.rows.proofs.geometry.local_gradient.Statement.{statement}
@@ -27,10 +27,10 @@ scale-requires-3 c κs = search needs
 
 returns : tie.Need-returns
 returns c =
+    let at-add = c .before .before .before in
     local-is _ _ _
-    (c .before .before .before .before .before .before .new .ensures) (c .before .before .before .before .before .scale .ensures)
-    (c .before .before .before .before .cross .ensures) (c .before .before .before .add .ensures) (c .before .before .scale2 .ensures)
-    (c .before .sub .ensures) (c .scale3 .ensures)
+    (at-add .before .before .before .new .ensures) (at-add .before .before .scale .ensures) (at-add .before .cross .ensures) (at-add .add .ensures)
+    (c .before .before .scale2 .ensures) (c .before .sub .ensures) (c .scale3 .ensures)
 
 pub local-gradient-spec : {M : Type 1} → statement M
 local-gradient-spec =

@@ -1,13 +1,14 @@
--- `geometry::one_if_equal` meets its contract.
-use Rattle.rows.proofs.AppendLaws.{one-no, one-yes}
+-- `geometry::one_if_equal` meets its contract, by both ways of its test.
+use Rattle.rows.proofs.CountLaws.{one-no, one-yes}
+use native.Mathlib.Omega.{arith}
 use Rattle.rows.proofs.geometry.one_if_equal.Statement.{statement}
 use Rattle.rows.proofs.geometry.one_if_equal.Tie as tie
 
 returns : tie.Need-returns
-returns c = one-yes (c .if1 .taken)
+returns c = (one-yes (c .if1 .taken), omega arith)
 
 returns-2 : tie.Need-returns-2
-returns-2 c = one-no (c .if1 .left)
+returns-2 c = (one-no (c .if1 .left), omega arith)
 
 pub one-if-equal-spec : {M : Type 1} → statement M
 one-if-equal-spec = tie.close (tie.spec returns returns-2)

@@ -1,5 +1,5 @@
--- `geometry::relative_of` meets its contract.
-use Rattle.rows.proofs.RowLaws.{relative-1, relative-2, relative-3}
+-- `geometry::relative_of` meets its contract: one law of `RowLaws` for each return.
+use Rattle.rows.proofs.RowLaws.{relative-no-unit, relative-half-turn, relative-is}
 use Rattle.rows.specs.AnswerLaws.{quat-go, quat-stop}
 use Rattle.rows.specs.Fault.{arithmeticOverflow}
 use borrow.Author.Needs.{needs}
@@ -23,7 +23,7 @@ enum-told c = search needs
 
 returns : tie.Need-returns
 returns c =
-    relative-1 _ _ _
+    relative-no-unit _ _ _
     (c .before .before .before .before .conjugate .ensures) (c .before .before .before .product .ensures)
     (quat-stop arithmeticOverflow (c .before .before .try-normalize .ensures) (c .enum-told .given .1))
 
@@ -32,22 +32,24 @@ half-turned-requires c κs = search needs
 
 returns-2 : tie.Need-returns-2
 returns-2 c =
-    let c₆ = c .before .before .before .before .before .before in
-    relative-2 _ _ _
-    (c₆ .before .before .before .conjugate .ensures) (c₆ .before .before .product .ensures)
-    (quat-go arithmeticOverflow (c₆ .before .try-normalize .ensures) (c .before .before .before .before .before .q .given .1))
-    (c .before .half-turned .ensures) (c .if1 .taken)
+    let at-q = c .before .before .before .before .before in
+    let at-normal = at-q .before .before in
+    relative-half-turn _ _ _
+    (at-normal .before .before .conjugate .ensures) (at-normal .before .product .ensures)
+    (quat-go arithmeticOverflow (at-normal .try-normalize .ensures) (at-q .q .given .1)) (c .before .half-turned .ensures) (c .if1 .taken)
 
 sqrt-requires : tie.Need-sqrt-requires
 sqrt-requires c κs = search needs
 
 returns-3 : tie.Need-returns-3
 returns-3 c =
-    let c₆ = c .before .before .before .before .before .before in
-    relative-3 _ _ _
-    (c₆ .before .before .before .before .conjugate .ensures) (c₆ .before .before .before .product .ensures)
-    (quat-go arithmeticOverflow (c₆ .before .before .try-normalize .ensures) (c .before .before .before .before .before .before .q .given .1))
-    (c .before .before .half-turned .ensures) (c .before .if1 .left) (c .sqrt .ensures .is)
+    let at-test = c .before in
+    let at-q = at-test .before .before .before .before .before in
+    let at-normal = at-q .before .before in
+    relative-is _ _ _
+    (at-normal .before .before .conjugate .ensures) (at-normal .before .product .ensures)
+    (quat-go arithmeticOverflow (at-normal .try-normalize .ensures) (at-q .q .given .1))
+    (at-test .before .half-turned .ensures) (at-test .if1 .left) (c .sqrt .ensures .is)
 
 pub relative-of-spec : {M : Type 1} → statement M
 relative-of-spec =

@@ -1,4 +1,4 @@
--- `geometry::store2` meets its contract.
+-- `geometry::store2` meets its contract: two writes side by side.
 use Rattle.rows.proofs.PlaceLaws.{stored2}
 use borrow.Author.Needs.{needs}
 use lib.ListN.{length-set}

@@ -1,4 +1,4 @@
--- `geometry::store3` meets its contract.
+-- `geometry::store3` meets its contract: three writes side by side.
 use Rattle.rows.proofs.PlaceLaws.{stored3}
 use borrow.Author.Needs.{needs}
 use lib.ListN.{length-set}

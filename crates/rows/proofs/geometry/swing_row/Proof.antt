@@ -1,4 +1,4 @@
--- `geometry::swing_row` meets its contract.
+-- `geometry::swing_row` meets its contract, by `swing-is`.
 use Rattle.rows.proofs.RowLaws.{swing-is}
 use borrow.Author.Needs.{needs}
 use Rattle.rows.proofs.geometry.swing_row.Statement.{statement}
@@ -18,10 +18,10 @@ gradient-row-requires c κs = search needs
 
 returns : tie.Need-returns
 returns c =
-    let c₆ = c .before .before .before .before .before .before in
-    swing-is _ _ _ _
-    (c₆ .before .before .before .scale .ensures) (c .before .before .before .before .before .before .scale2 .ensures)
-    (c .before .before .before .before .before .sub .ensures) (c .gradient-row .ensures)
+    let at-sub = c .before .before .before .before .before in
+    λ q u.
+    swing-is _ q _ _
+    (at-sub .before .before .before .before .scale .ensures) (at-sub .before .scale2 .ensures) (at-sub .sub .ensures) (c .gradient-row .ensures q u)
 
 pub swing-row-spec : {M : Type 1} → statement M
 swing-row-spec =

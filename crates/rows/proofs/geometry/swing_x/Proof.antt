@@ -1,4 +1,4 @@
--- `geometry::swing_x` meets its contract.
+-- `geometry::swing_x` meets its contract, by `swing-x-is`.
 use Rattle.rows.proofs.RowLaws.{swing-x-is}
 use borrow.Author.Needs.{needs}
 use Rattle.rows.proofs.geometry.swing_x.Statement.{statement}

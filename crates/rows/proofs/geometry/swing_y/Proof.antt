@@ -1,4 +1,4 @@
--- `geometry::swing_y` meets its contract.
+-- `geometry::swing_y` meets its contract, by `swing-y-is`.
 use Rattle.rows.proofs.RowLaws.{swing-y-is}
 use borrow.Author.Needs.{needs}
 use Rattle.rows.proofs.geometry.swing_y.Statement.{statement}

@@ -1,5 +1,5 @@
--- `geometry::tolerance` meets its contract.
-use Rattle.rows.proofs.RowLaws.{tolerance-1, tolerance-2, tolerance-3}
+-- `geometry::tolerance` meets its contract: one law of `RowLaws` for each return.
+use Rattle.rows.proofs.RowLaws.{tolerance-no-a, tolerance-no-b, tolerance-is}
 use Rattle.rows.specs.AnswerLaws.{number-go, number-stop}
 use Rattle.rows.specs.Fault.{arithmeticOverflow}
 use borrow.Author.Needs.{needs}
@@ -16,7 +16,7 @@ enum-told : tie.Need-enum-told
 enum-told c = search needs
 
 returns : tie.Need-returns
-returns c = tolerance-1 _ _ (number-stop arithmeticOverflow (c .before .before .checked-length .ensures) (c .enum-told .given .1))
+returns c = tolerance-no-a _ _ (number-stop arithmeticOverflow (c .before .before .checked-length .ensures) (c .enum-told .given .1))
 
 checked-length-requires-2 : tie.Need-checked-length-requires-2
 checked-length-requires-2 c κs = search needs
@@ -29,8 +29,9 @@ enum-told-2 c = search needs
 
 returns-2 : tie.Need-returns-2
 returns-2 c =
-    tolerance-2 _ _
-    (number-go arithmeticOverflow (c .before .before .before .before .before .before .checked-length .ensures) (c .before .before .before .before .la .given .1))
+    let at-la = c .before .before .before .before in
+    tolerance-no-b _ _
+    (number-go arithmeticOverflow (at-la .before .before .checked-length .ensures) (at-la .la .given .1))
     (number-stop arithmeticOverflow (c .before .before .checked-length2 .ensures) (c .enum-told2 .given .1))
 
 max-requires : tie.Need-max-requires
@@ -38,10 +39,11 @@ max-requires c κs = search needs
 
 returns-3 : tie.Need-returns-3
 returns-3 c =
-    let c₆ = c .before .before .before .before .before .before in
-    tolerance-3 _ _
-    (number-go arithmeticOverflow (c₆ .before .before .checked-length .ensures) (c .before .before .before .before .before .before .la .given .1))
-    (number-go arithmeticOverflow (c .before .before .before .before .checked-length2 .ensures) (c .before .before .lb .given .1)) (c .max .ensures)
+    let at-lb = c .before .before in
+    let at-la = at-lb .before .before .before .before in
+    tolerance-is _ _
+    (number-go arithmeticOverflow (at-la .before .before .checked-length .ensures) (at-la .la .given .1))
+    (number-go arithmeticOverflow (at-lb .before .before .checked-length2 .ensures) (at-lb .lb .given .1)) (c .max .ensures)
 
 pub tolerance-spec : {M : Type 1} → statement M
 tolerance-spec =

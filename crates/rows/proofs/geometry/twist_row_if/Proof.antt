@@ -1,4 +1,4 @@
--- `geometry::twist_row_if` meets its contract.
+-- `geometry::twist_row_if` meets its contract: a row where it is locked, else none.
 use Rattle.rows.proofs.RowLaws.{row-free, row-locked}
 use borrow.Author.Needs.{needs}
 use Rattle.rows.proofs.geometry.twist_row_if.Statement.{statement}
@@ -8,10 +8,10 @@ twist-row-requires : tie.Need-twist-row-requires
 twist-row-requires c κs = search needs
 
 returns : tie.Need-returns
-returns c = row-locked _ (c .before .if1 .taken) (c .twist-row .ensures)
+returns c = λ q u. row-locked _ (c .before .if1 .taken) (c .twist-row .ensures q u)
 
 returns-2 : tie.Need-returns-2
-returns-2 c = row-free _ (c .if1 .left)
+returns-2 c = λ q u. row-free _ (c .if1 .left)
 
 pub twist-row-if-spec : {M : Type 1} → statement M
 twist-row-if-spec = tie.close (tie.spec twist-row-requires returns returns-2)

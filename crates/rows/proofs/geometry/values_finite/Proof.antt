@@ -1,6 +1,6 @@
--- `geometry::values_finite` meets its contract.
+-- `geometry::values_finite` meets its contract: the values so far are finite, turn by turn.
 use Prim.Native.Nat.{_-_, _≤_, ℕ}
-use Rattle.rows.proofs.WriteLaws.{finite-all, finite-more, finite-none, finite-stop}
+use Rattle.rows.proofs.FiniteLaws.{finite-all, finite-more, finite-none, finite-stop}
 use Rattle.rows.specs.Geometry.{finiteValues}
 use Rattle.rows.specs.View.{rowsAt}
 use denote.Ref.{now}
@@ -39,9 +39,9 @@ is-finite-requires c κs = omega arith
 
 returns : tie.Need-returns Inv-loop μ-loop
 returns c =
-    finite-stop
-    (now (c .before .before .before .before .before .before .args .s)) (c .before .before .before .before .before .before .args .at) _ _
-    (c .before .before .before .loop-test .taken) (c .before .is-finite .ensures) (c .if1 .taken)
+    let at-test = c .before .before .before in
+    let at-start = at-test .before .before .before in
+    finite-stop (now (at-start .args .s)) (at-start .args .at) _ _ (at-test .loop-test .taken) (c .before .is-finite .ensures) (c .if1 .taken)
 
 add-k : tie.Need-add-k Inv-loop μ-loop
 add-k c = omega arith
@@ -51,13 +51,17 @@ loop-less c = omega arith
 
 loop-again : tie.Need-loop-again Inv-loop μ-loop
 loop-again c =
-    (omega arith, finite-more (now (c .before .before .before .before .before .before .args .s)) (c .before .before .before .before .before .before .args .at) (c .before .before .before .before .loop .k) (c .before .before .before .before .loop .inv .1) (c .before .is-finite .ensures) (c .if1 .left))
+    let at-loop = c .before .before .before .before in
+    let at-start = at-loop .before .before in (
+      omega arith,
+      finite-more (now (at-start .args .s)) (at-start .args .at) (at-loop .loop .k) (at-loop .loop .inv .1) (c .before .is-finite .ensures) (c .if1 .left),
+    )
 
 returns-2 : tie.Need-returns-2 Inv-loop μ-loop
 returns-2 c =
-    finite-all
-    (now (c .before .before .before .args .s)) (c .before .before .before .args .at) (c .before .loop .inv .0) (c .loop-test .left)
-    (c .before .loop .inv .1)
+    let at-loop = c .before in
+    let at-start = at-loop .before .before in
+    finite-all (now (at-start .args .s)) (at-start .args .at) (at-loop .loop .inv .0) (c .loop-test .left) (at-loop .loop .inv .1)
 
 pub values-finite-spec : {M : Type 1} → statement M
 values-finite-spec =

@@ -1,8 +1,10 @@
--- `geometry::write_align` meets its contract.
-use Rattle.rows.proofs.AppendLaws.{appends-most}
+-- `geometry::write_align` meets its contract: both rows across, or the failure before them, behind the rows written.
+use Rattle.rows.proofs.AppendLaws.{room-after, room-here}
 use Rattle.rows.proofs.RowLaws.{axis-as}
-use Rattle.rows.proofs.WriteLaws.{align-adds, align-nonconvergent, align-overflow}
+use Rattle.rows.proofs.WriteLaws.{align-adds, align-lost}
+use Rattle.rows.specs.Fault.{arithmeticOverflow, nonConvergent}
 use borrow.Author.Needs.{needs}
+use mathlib.Core.Path.{refl}
 use native.Mathlib.Omega.{arith}
 use Rattle.rows.proofs.geometry.write_align.Statement.{statement}
 use Rattle.rows.proofs.geometry.write_align.Tie as tie
@@ -18,62 +20,68 @@ align-row-requires c κs = search needs
 
 append-requires : tie.Need-append-requires
 append-requires c κs =
-    let c₆ = c .before .before .before .before .before .before in
-    omega (arith, c₆ .before .pre .0, c₆ .before .pre .1)
+    let at-z = c .before .before .before in
+    room-here (at-z .before .before .before .before .pre .0) (omega arith)
 
 align-row-requires-2 : tie.Need-align-row-requires-2
 align-row-requires-2 c κs = search needs
 
 append-requires-2 : tie.Need-append-requires-2
 append-requires-2 c κs =
-    let c₆ = c .before .before .before .before .before .before in
-    omega (arith, c₆ .before .before .before .before .before .before .pre .0, c₆ .before .before .before .before .before .before .pre .1, appends-most (c .before .before .before .before .append .ensures), c .before .before .before .before .append .ensures .kept .size)
+    let at-one = c .before .before .before .before in
+    let at-z = at-one .before .before .before .before in
+    room-here (room-after (at-z .before .before .before .before .pre .0) (at-one .append .ensures)) (omega arith)
 
 enum-told : tie.Need-enum-told
 enum-told c = search needs
 
 append-requires-3 : tie.Need-append-requires-3
-append-requires-3 c κs = omega (arith, c .before .before .before .before .before .pre .0, c .before .before .before .before .before .pre .1)
+append-requires-3 c κs =
+    let at-told = c .before in
+    room-here (at-told .before .before .before .before .pre .0) (omega arith)
 
 enum-told-2 : tie.Need-enum-told-2
 enum-told-2 c = search needs
 
 append-requires-4 : tie.Need-append-requires-4
-append-requires-4 c κs = omega (arith, c .before .before .before .before .before .pre .0, c .before .before .before .before .before .pre .1)
+append-requires-4 c κs =
+    let at-told = c .before in
+    room-here (at-told .before .before .before .before .pre .0) (omega arith)
 
 same-length : tie.Need-same-length
 same-length c = search needs
 
 returns : tie.Need-returns
 returns c =
-    let c₆ = c .before .before .before .before .before .before in
-    let c₁₂ = c₆ .before .before .before .before .before .before in
+    let at-two = c .before .before in
+    let at-one = at-two .before .before .before .before .before in
+    let at-z = at-one .before .before .before .before in
+    let at-start = at-z .before .before .before .before in
+    let u = at-start .pre .1 in
     align-adds
-    (c₁₂ .before .before .before .args .joint) (c₁₂ .before .before .before .args .e)
-    (axis-as (c₁₂ .before .aligned .ensures) (c₆ .before .before .before .before .before .z .given .1)) (c₆ .before .append .ensures)
-    (c₆ .before .before .before .align-row .ensures) (c .before .before .append2 .ensures) (c .before .before .before .before .align-row2 .ensures)
+    (at-start .args .joint) (at-start .args .e) (axis-as (at-z .before .before .aligned .ensures _ u) (at-z .z .given .1))
+    (at-one .append .ensures) (at-one .before .before .align-row .ensures _ u)
+    (at-two .append2 .ensures) (at-two .before .before .align-row2 .ensures _ u)
 
 same-length-2 : tie.Need-same-length-2
 same-length-2 c = search needs
 
 returns-2 : tie.Need-returns-2
 returns-2 c =
-    let c₆ = c .before .before .before .before .before .before in
-    align-nonconvergent
-    (c₆ .before .before .args .joint) (c₆ .before .before .args .e)
-    (axis-as (c .before .before .before .before .before .before .aligned .ensures) (c .before .before .before .before .enum-told .given .1))
-    (c .before .before .append3 .ensures)
+    let at-told = c .before .before .before .before in
+    let at-start = at-told .before .before .before .before in
+    align-lost (at-start .args .joint) (at-start .args .e) nonConvergent refl
+    (axis-as (at-told .before .before .aligned .ensures _ (at-start .pre .1)) (at-told .enum-told .given .1)) (c .before .before .append3 .ensures)
 
 same-length-3 : tie.Need-same-length-3
 same-length-3 c = search needs
 
 returns-3 : tie.Need-returns-3
 returns-3 c =
-    let c₆ = c .before .before .before .before .before .before in
-    align-overflow
-    (c₆ .before .before .args .joint) (c₆ .before .before .args .e)
-    (axis-as (c .before .before .before .before .before .before .aligned .ensures) (c .before .before .before .before .enum-told2 .given .1))
-    (c .before .before .append4 .ensures)
+    let at-told = c .before .before .before .before in
+    let at-start = at-told .before .before .before .before in
+    align-lost (at-start .args .joint) (at-start .args .e) arithmeticOverflow refl
+    (axis-as (at-told .before .before .aligned .ensures _ (at-start .pre .1)) (at-told .enum-told2 .given .1)) (c .before .before .append4 .ensures)
 
 pub write-align-spec : {M : Type 1} → statement M
 write-align-spec =

@@ -1,4 +1,4 @@
--- `geometry::write_equality_rows` meets its contract.
+-- `geometry::write_equality_rows` meets its contract: the rows stand, or a failed write is cleared.
 use Rattle.rows.proofs.WriteLaws.{writes-nonconvergent, writes-overflow, writes-rows}
 use borrow.Author.Needs.{needs}
 use Rattle.rows.proofs.geometry.write_equality_rows.Statement.{statement}

@@ -1,10 +1,11 @@
--- `geometry::write_frames` meets its contract.
+-- `geometry::write_frames` meets its contract: the failure of what is taken once is the first row's, and all rows are the definition's list.
 use Rattle.rows.proofs.AppendLaws.{count-rows}
+use Rattle.rows.proofs.UnitLaws.{unit-of}
 use Rattle.rows.proofs.RowLaws.{tolerance-go, tolerance-stop}
-use Rattle.rows.proofs.WriteLaws.{frames-finite, frames-long, frames-lost, frames-overflow}
+use Rattle.rows.proofs.WriteLaws.{frames-early, frames-finite, frames-lost, frames-overflow, long-row, unturned-row}
 use Rattle.rows.specs.Fault.{arithmeticOverflow, nonConvergent}
 use borrow.Author.Needs.{needs}
-use mathlib.Core.Path.{refl}
+use mathlib.Core.Path.{_∙_, refl, sym}
 use native.Mathlib.Omega.{arith}
 use Rattle.rows.specs.declared.geometry.Written.the-variants as Written
 use Rattle.rows.proofs.geometry.write_frames.Statement.{statement}
@@ -21,81 +22,124 @@ enum-told c = search needs
 
 returns : tie.Need-returns
 returns c =
-    frames-long
-    (c .before .before .before .before .args .joint) (c .before .before .before .before .args .e)
-    (tolerance-stop (c .before .before .tolerance .ensures) (c .enum-told .given .1)) _
+    let at-start = c .before .before .before .before in
+    frames-early (at-start .args .joint) (at-start .args .e)
+    (long-row _ _ (tolerance-stop (c .before .before .tolerance .ensures) (c .enum-told .given .1)))
+    (at-start .args .linear) (at-start .args .turning) _
+
+try-normalize-requires : tie.Need-try-normalize-requires
+try-normalize-requires c κs = search needs
+
+enum-known-unit : tie.Need-enum-known-unit
+enum-known-unit c = search needs
+
+enum-told-2 : tie.Need-enum-told-2
+enum-told-2 c = search needs
+
+returns-2 : tie.Need-returns-2
+returns-2 c =
+    let at-tolerance = c .before .before .before .before in
+    let at-start = at-tolerance .before .before .before .before in
+    frames-early (at-start .args .joint) (at-start .args .e)
+    (unturned-row _ _ (sym (c .before .before .try-normalize .ensures) ∙ c .enum-told2 .given .1))
+    (at-start .args .linear) (at-start .args .turning) _
 
 write-linear-requires : tie.Need-write-linear-requires
 write-linear-requires c κs =
-    (c .before .before .before .before .before .before .pre, tolerance-go (c .before .before .before .before .tolerance .ensures) (c .before .before .tolerance2 .given .1))
+    let at-unit = c .before .before in
+    let at-tolerance = at-unit .before .before .before .before in (
+      at-tolerance .before .before .before .before .pre,
+      unit-of (at-unit .before .before .try-normalize .ensures) (at-unit .unit .given .1),
+      tolerance-go (at-tolerance .before .before .tolerance .ensures) (at-tolerance .tolerance2 .given .1),
+    )
 
-write-angular-requires : tie.Need-write-angular-requires
-write-angular-requires c κs =
-    let c₆ = c .before .before .before .before .before .before in
-    (omega (arith, c₆ .before .before .before .before .pre, c .before .before .before .write-linear .ensures .kept .size), c .before .before .before .write-linear .ensures .within)
+write-turning-requires : tie.Need-write-turning-requires
+write-turning-requires c κs =
+    let at-linear = c .before .before .before in
+    let at-unit = at-linear .before .before .before in
+    let at-tolerance = at-unit .before .before .before .before in
+    let linear = at-linear .write-linear .ensures in
+    let six = at-tolerance .before .before .before .before .pre in (
+      record { six = omega (arith, linear .kept .size); few = linear .within },
+      unit-of (at-unit .before .before .try-normalize .ensures) (at-unit .unit .given .1),
+    )
 
 enum-known-written : tie.Need-enum-known-written
 enum-known-written c = search needs
 
 values-finite-requires : tie.Need-values-finite-requires
 values-finite-requires c κs =
-    let c₆ = c .before .before .before .before .before .before in
-    let c₁₂ = c₆ .before .before .before .before .before .before in
-    omega (arith, c₁₂ .before .before .before .before .before .pre, (c .before .before .before .before .before .before .write-angular .ensures _ _ (c₆ .before .before .before .before .write-linear .ensures)) .kept .size, (c .before .before .before .before .before .before .write-angular .ensures _ _ (c₆ .before .before .before .before .write-linear .ensures)) .within, count-rows (c .before .before .written .given .1))
+    let at-turning = c .before .before .before .before .before .before in
+    let at-linear = at-turning .before .before .before .before in
+    let at-unit = at-linear .before .before .before in
+    let at-tolerance = at-unit .before .before .before .before in
+    let all = at-turning .write-turning .ensures _ _ (at-linear .write-linear .ensures) in
+    let six = at-tolerance .before .before .before .before .pre in
+    omega (arith, all .kept .size, all .within, count-rows (c .before .before .written .given .1))
 
 same-length : tie.Need-same-length
 same-length c = search needs
 
-returns-2 : tie.Need-returns-2
-returns-2 c =
-    let c₆ = c .before .before .before .before .before .before in
-    let c₁₂ = c₆ .before .before .before .before .before .before in
-    let c₁₈ = c₁₂ .before .before .before .before .before .before in
-    frames-finite (c₁₈ .before .args .joint) (c₁₈ .before .args .e)
-    (c₆ .before .before .write-angular .ensures _ _ (c₆ .before .before .before .before .before .before .write-linear .ensures))
-    (c .before .before .before .before .written .given .1) (c .before .values-finite .ensures _ _) (c .if1 .taken)
-
-enum-told-2 : tie.Need-enum-told-2
-enum-told-2 c = search needs
+returns-3 : tie.Need-returns-3
+returns-3 c =
+    let at-written = c .before .before .before .before in
+    let at-turning = at-written .before .before .before .before in
+    let at-linear = at-turning .before .before .before .before in
+    let at-unit = at-linear .before .before .before in
+    let at-tolerance = at-unit .before .before .before .before in
+    let at-start = at-tolerance .before .before .before .before in
+    frames-finite (at-start .args .linear) (at-start .args .turning) (at-start .args .joint) (at-start .args .e)
+    (at-turning .write-turning .ensures _ _ (at-linear .write-linear .ensures))
+    (at-written .written .given .1) (c .before .values-finite .ensures _ _) (c .if1 .taken)
 
 enum-told-3 : tie.Need-enum-told-3
 enum-told-3 c = search needs
 
+enum-told-4 : tie.Need-enum-told-4
+enum-told-4 c = search needs
+
 same-length-2 : tie.Need-same-length-2
 same-length-2 c = search needs
 
-returns-3 : tie.Need-returns-3
-returns-3 c =
-    let c₆ = c .before .before .before .before .before .before in
-    let c₁₂ = c₆ .before .before .before .before .before .before in
-    let c₁₈ = c₁₂ .before .before .before .before .before .before in
-    frames-overflow (c₁₈ .before .args .joint) (c₁₈ .before .args .e)
-    (c₆ .before .before .write-angular .ensures _ _ (c₆ .before .before .before .before .before .before .write-linear .ensures))
-    (c .before .before .before .before .written .given .1) (c .before .values-finite .ensures _ _) (c .if1 .left)
+returns-4 : tie.Need-returns-4
+returns-4 c =
+    let at-written = c .before .before .before .before in
+    let at-turning = at-written .before .before .before .before in
+    let at-linear = at-turning .before .before .before .before in
+    let at-unit = at-linear .before .before .before in
+    let at-tolerance = at-unit .before .before .before .before in
+    let at-start = at-tolerance .before .before .before .before in
+    frames-overflow (at-start .args .linear) (at-start .args .turning) (at-start .args .joint) (at-start .args .e)
+    (at-turning .write-turning .ensures _ _ (at-linear .write-linear .ensures))
+    (at-written .written .given .1) (c .before .values-finite .ensures _ _) (c .if1 .left)
 
 same-length-3 : tie.Need-same-length-3
 same-length-3 c = search needs
 
-returns-4 : tie.Need-returns-4
-returns-4 c =
-    let c₆ = c .before .before .before .before .before .before in
-    let c₁₂ = c₆ .before .before .before .before .before .before in
-    frames-lost
-    (c₁₂ .before .before .before .args .joint) (c₁₂ .before .before .before .args .e)
-    (c .before .before .before .before .write-angular .ensures _ _ (c₆ .before .before .write-linear .ensures)) Written.NonConvergent nonConvergent refl
-    refl (c .enum-told2 .given .1)
+returns-5 : tie.Need-returns-5
+returns-5 c =
+    let at-turning = c .before .before .before .before in
+    let at-linear = at-turning .before .before .before .before in
+    let at-unit = at-linear .before .before .before in
+    let at-tolerance = at-unit .before .before .before .before in
+    let at-start = at-tolerance .before .before .before .before in
+    frames-lost (at-start .args .linear) (at-start .args .turning) (at-start .args .joint) (at-start .args .e)
+    (at-turning .write-turning .ensures _ _ (at-linear .write-linear .ensures))
+    Written.NonConvergent nonConvergent refl refl (c .enum-told3 .given .1)
 
 same-length-4 : tie.Need-same-length-4
 same-length-4 c = search needs
 
-returns-5 : tie.Need-returns-5
-returns-5 c =
-    let c₆ = c .before .before .before .before .before .before in
-    let c₁₂ = c₆ .before .before .before .before .before .before in
-    frames-lost
-    (c₁₂ .before .before .before .args .joint) (c₁₂ .before .before .before .args .e)
-    (c .before .before .before .before .write-angular .ensures _ _ (c₆ .before .before .write-linear .ensures)) Written.ArithmeticOverflow
-    arithmeticOverflow refl refl (c .enum-told3 .given .1)
+returns-6 : tie.Need-returns-6
+returns-6 c =
+    let at-turning = c .before .before .before .before in
+    let at-linear = at-turning .before .before .before .before in
+    let at-unit = at-linear .before .before .before in
+    let at-tolerance = at-unit .before .before .before .before in
+    let at-start = at-tolerance .before .before .before .before in
+    frames-lost (at-start .args .linear) (at-start .args .turning) (at-start .args .joint) (at-start .args .e)
+    (at-turning .write-turning .ensures _ _ (at-linear .write-linear .ensures))
+    Written.ArithmeticOverflow arithmeticOverflow refl refl (c .enum-told4 .given .1)
 
 pub write-frames-spec : {M : Type 1} → statement M
 write-frames-spec =
@@ -105,17 +149,21 @@ write-frames-spec =
     enum-known-tolerance
     enum-told
     returns
+    try-normalize-requires
+    enum-known-unit
+    enum-told-2
+    returns-2
     write-linear-requires
-    write-angular-requires
+    write-turning-requires
     enum-known-written
     values-finite-requires
     same-length
-    returns-2
-    enum-told-2
-    enum-told-3
-    same-length-2
     returns-3
-    same-length-3
+    enum-told-3
+    enum-told-4
+    same-length-2
     returns-4
+    same-length-3
+    returns-5
     same-length-4
-    returns-5)
+    returns-6)

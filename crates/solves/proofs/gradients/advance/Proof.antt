@@ -13,9 +13,12 @@ use Rattle.solves.proofs.gradients.advance.Tie as tie
 
 operator-requires : tie.Need-operator-requires
 operator-requires c κs =
-    let start = c .before .before in
-    (start .pre, place-of DIRECTION (omega arith) (omega arith) (omega (arith, start .pre .whole)), place-of PRODUCT (omega arith) (omega arith)
-    (omega (arith, start .pre .whole)))
+    let start = c .before .before in (
+      start .pre,
+      place-of DIRECTION (omega arith) (omega arith) (omega (arith, start .pre .whole)),
+      place-of PRODUCT (omega arith) (omega arith)
+          (omega (arith, start .pre .whole)),
+    )
 
 done-requires : tie.Need-done-requires
 done-requires c κs = search needs

@@ -1,3 +1,4 @@
+-- diagonal_entry: a row's own entry, by the products of its two halves.
 use borrow.Author.Needs.{needs}
 use Rattle.solves.proofs.GradientLaws.{diagonal-is}
 use Rattle.solves.proofs.gradients.diagonal_entry.Statement.{statement}
@@ -22,7 +23,13 @@ dot-requires-2 : tie.Need-dot-requires-2
 dot-requires-2 c κs = search needs
 
 returns : tie.Need-returns
-returns c = diagonal-is (c .before .before .before .before .before .before .before .before .args .row) (c .before .before .before .before .before .before .before .before .args .ma) (c .before .before .before .before .before .before .before .before .args .mb) (c .before .before .before .before .before .before .before .length-squared .ensures) (c .before .before .before .before .before .apply .ensures) (c .before .before .before .before .dot .ensures) (c .before .before .before .length-squared2 .ensures) (c .before .apply2 .ensures) (c .dot2 .ensures)
+returns c =
+    let at-length-squared2 = c .before .before .before in
+    let at-length-squared = at-length-squared2 .before .before .before .before in
+    let start = at-length-squared .before in
+    diagonal-is (start .args .row) (start .args .ma) (start .args .mb) (at-length-squared .length-squared .ensures)
+    (at-length-squared2 .before .before .apply .ensures) (at-length-squared2 .before .dot .ensures) (at-length-squared2 .length-squared2 .ensures)
+    (c .before .apply2 .ensures) (c .dot2 .ensures)
 
 pub diagonal-entry-spec : {M : Type 1} → statement M
 diagonal-entry-spec =

@@ -1,3 +1,4 @@
+-- next_direction: double by double, by `direct-more` and `direct-is`.
 use native.Mathlib.Omega.{arith}
 use mathlib.Core.Path.{_≡_, refl}
 use Prim.Native.Nat.{_≤_, _-_}
@@ -61,7 +62,9 @@ loop-less : tie.Need-loop-less Inv-loop μ-loop
 loop-less c = omega arith
 
 loop-again : tie.Need-loop-again Inv-loop μ-loop
-loop-again c = (omega arith, simp length-set (omega arith), direct-more _ (c .before .before .before .before .before .args .beta) (c .before .before .before .before .loop .inv .2) (omega arith) (omega arith))
+loop-again c =
+    let at-loop = c .before .before .before .before in
+    (omega arith, simp length-set (omega arith), direct-more _ (at-loop .before .args .beta) (at-loop .loop .inv .2) (omega arith) (omega arith))
 
 same-length : tie.Need-same-length Inv-loop μ-loop
 same-length c = omega arith

@@ -164,14 +164,13 @@ loop-again c =
     let at-is-finite = c .before .before .before in
     let at-load-mass = at-is-finite .before .before .before .before in
     let in-loop = at-load-mass .before .before .before .before in
-    let at-loop = in-loop .before in
-    (
+    let at-loop = in-loop .before in (
       omega (arith, in-loop .loop-test .taken),
       simp length-set (at-loop .loop .inv .1),
       prepared-again (at-loop .before .before .pre) _ (at-loop .loop .inv .2) (in-loop .loop-test .taken) (at-loop .loop .inv .1)
-      (at-load-mass .before .before .load-row .ensures)
-    (at-load-mass .load-mass .ensures) (at-is-finite .before .before .load-mass2 .ensures) (at-is-finite .before .diagonal-entry .ensures)
-    (at-is-finite .is-finite .ensures) zero-is (c .before .before .if1 .left) (c .before .if2 .left),
+          (at-load-mass .before .before .load-row .ensures)
+          (at-load-mass .load-mass .ensures) (at-is-finite .before .before .load-mass2 .ensures) (at-is-finite .before .diagonal-entry .ensures)
+          (at-is-finite .is-finite .ensures) zero-is (c .before .before .if1 .left) (c .before .if2 .left),
     )
 
 same-length-3 : tie.Need-same-length-3 Inv-loop μ-loop

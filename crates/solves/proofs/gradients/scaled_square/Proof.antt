@@ -1,3 +1,4 @@
+-- scaled_square: the sum by the turns of `squareTurn`.
 use native.Mathlib.Omega.{arith}
 use mathlib.Core.Path.{_≡_, _∙_}
 use Prim.Native.Nat.{_≤_, _-_}
@@ -46,10 +47,19 @@ loop-less : tie.Need-loop-less Inv-loop μ-loop
 loop-less c = omega arith
 
 loop-again : tie.Need-loop-again Inv-loop μ-loop
-loop-again c = (omega arith, square-more (now (c .before .before .before .before .args .s)) RESIDUAL DIAGONAL (c .before .before .before .before .args .n) _ (c .before .before .loop-test .taken) (c .before .before .before .loop .inv .1))
+loop-again c =
+    let at-loop = c .before .before .before in
+    let start = at-loop .before in (
+      omega arith,
+      square-more (now (start .args .s)) RESIDUAL DIAGONAL (start .args .n) _ (c .before .before .loop-test .taken)
+          (at-loop .loop .inv .1),
+    )
 
 returns : tie.Need-returns Inv-loop μ-loop
-returns c = square-ends (now (c .before .before .args .s)) RESIDUAL DIAGONAL (c .before .before .args .n) _ (c .before .loop .inv .0) (c .loop-test .left) (c .before .loop .inv .1)
+returns c =
+    let at-loop = c .before in
+    let start = at-loop .before in
+    square-ends (now (start .args .s)) RESIDUAL DIAGONAL (start .args .n) _ (at-loop .loop .inv .0) (c .loop-test .left) (at-loop .loop .inv .1)
 
 pub scaled-square-spec : {M : Type 1} → statement M
 scaled-square-spec =

@@ -51,9 +51,12 @@ returns-2 c =
 operator-requires : tie.Need-operator-requires
 operator-requires c κs =
     let at-residual-test = c .before .before .before .before .before .before in
-    let start = at-residual-test .before .before .before in
-    (start .pre, place-of SOLUTION (omega arith) (omega arith) (omega (arith, start .pre .whole)), place-of PRODUCT (omega arith) (omega arith)
-    (omega (arith, start .pre .whole)))
+    let start = at-residual-test .before .before .before in (
+      start .pre,
+      place-of SOLUTION (omega arith) (omega arith) (omega (arith, start .pre .whole)),
+      place-of PRODUCT (omega arith) (omega arith)
+          (omega (arith, start .pre .whole)),
+    )
 
 done-requires-2 : tie.Need-done-requires-2
 done-requires-2 c κs = search needs

@@ -23,9 +23,12 @@ returns c =
 
 operator-requires : tie.Need-operator-requires
 operator-requires c κs =
-    let start = c .before .before .before .before in
-    (start .pre, place-of DIRECTION (omega arith) (omega arith) (omega (arith, start .pre .whole)), place-of PRODUCT (omega arith) (omega arith)
-    (omega (arith, start .pre .whole)))
+    let start = c .before .before .before .before in (
+      start .pre,
+      place-of DIRECTION (omega arith) (omega arith) (omega (arith, start .pre .whole)),
+      place-of PRODUCT (omega arith) (omega arith)
+          (omega (arith, start .pre .whole)),
+    )
 
 done-requires : tie.Need-done-requires
 done-requires c κs = search needs
@@ -117,9 +120,12 @@ operator-requires-2 c κs =
     let at-operator = at-dot .before .before .before .before .before .before in
     let start = at-operator .before .before .before .before .before in
     let size = at-sub-scaled .sub-scaled .ensures .kept .size ∙ at-add-scaled .add-scaled .ensures .kept .size
-    ∙ at-operator .operator .ensures .kept .size in
-    (rows-kept (start .pre) size, place-of RESIDUAL (omega arith) (omega arith) (omega (arith, size, start .pre .whole)), place-of NORMAL
-    (omega arith) (omega arith) (omega (arith, size, start .pre .whole)))
+    ∙ at-operator .operator .ensures .kept .size in (
+      rows-kept (start .pre) size,
+      place-of RESIDUAL (omega arith) (omega arith) (omega (arith, size, start .pre .whole)),
+      place-of NORMAL
+          (omega arith) (omega arith) (omega (arith, size, start .pre .whole)),
+    )
 
 done-requires-2 : tie.Need-done-requires-2
 done-requires-2 c κs = search needs
@@ -162,9 +168,13 @@ dot-requires-2 c κs =
     let at-dot = at-add-scaled .before .before .before .before .before .before in
     let at-operator = at-dot .before .before .before .before .before .before in
     let start = at-operator .before .before .before .before .before in
-    omega
-    (arith, start .pre .whole, start .pre .most, at-operator2 .operator2 .ensures .kept .size ∙ at-sub-scaled .sub-scaled .ensures .kept .size
-    ∙ at-add-scaled .add-scaled .ensures .kept .size ∙ at-operator .operator .ensures .kept .size)
+    omega (
+      arith,
+      start .pre .whole,
+      start .pre .most,
+      at-operator2 .operator2 .ensures .kept .size ∙ at-sub-scaled .sub-scaled .ensures .kept .size
+          ∙ at-add-scaled .add-scaled .ensures .kept .size ∙ at-operator .operator .ensures .kept .size,
+    )
 
 enum-known-next : tie.Need-enum-known-next
 enum-known-next c = search needs
@@ -211,9 +221,13 @@ add-scaled-requires-2 c κs =
     let at-dot = at-add-scaled .before .before .before .before .before .before in
     let at-operator = at-dot .before .before .before .before .before .before in
     let start = at-operator .before .before .before .before .before in
-    omega
-    (arith, start .pre .whole, start .pre .most, at-operator2 .operator2 .ensures .kept .size ∙ at-sub-scaled .sub-scaled .ensures .kept .size
-    ∙ at-add-scaled .add-scaled .ensures .kept .size ∙ at-operator .operator .ensures .kept .size)
+    omega (
+      arith,
+      start .pre .whole,
+      start .pre .most,
+      at-operator2 .operator2 .ensures .kept .size ∙ at-sub-scaled .sub-scaled .ensures .kept .size
+          ∙ at-add-scaled .add-scaled .ensures .kept .size ∙ at-operator .operator .ensures .kept .size,
+    )
 
 same-length-6 : tie.Need-same-length-6
 same-length-6 c =

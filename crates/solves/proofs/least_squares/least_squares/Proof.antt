@@ -18,9 +18,12 @@ use Rattle.solves.proofs.least_squares.least_squares.Tie as tie
 
 operator-requires : tie.Need-operator-requires
 operator-requires c κs =
-    let start = c .before .before in
-    (start .pre, place-of RESIDUAL (omega arith) (omega arith) (omega (arith, start .pre .whole)), place-of NORMAL (omega arith) (omega arith)
-    (omega (arith, start .pre .whole)))
+    let start = c .before .before in (
+      start .pre,
+      place-of RESIDUAL (omega arith) (omega arith) (omega (arith, start .pre .whole)),
+      place-of NORMAL (omega arith) (omega arith)
+          (omega (arith, start .pre .whole)),
+    )
 
 done-requires : tie.Need-done-requires
 done-requires c κs = search needs

@@ -1,3 +1,4 @@
+-- cross_end: one end against both, by `end-is`.
 use borrow.Author.Needs.{needs}
 use Rattle.solves.proofs.OperatorLaws.{end-is}
 use Rattle.solves.proofs.operator.cross_end.Statement.{statement}
@@ -10,7 +11,9 @@ add-through-requires-2 : tie.Need-add-through-requires-2
 add-through-requires-2 c κs = search needs
 
 returns : tie.Need-returns
-returns c = end-is _ _ _ _ (c .before .before .before .args .b) (c .before .before .before .args .value) (c .before .add-through .ensures) (c .add-through2 .ensures)
+returns c =
+    let start = c .before .before .before in
+    end-is _ _ _ _ (start .args .b) (start .args .value) (c .before .add-through .ensures) (c .add-through2 .ensures)
 
 pub cross-end-spec : {M : Type 1} → statement M
 cross-end-spec = tie.close (tie.spec add-through-requires add-through-requires-2 returns)

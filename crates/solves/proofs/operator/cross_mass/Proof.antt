@@ -1,3 +1,4 @@
+-- cross_mass: both ends against both, and whether the entry is finite.
 use borrow.Author.Needs.{needs}
 use Rattle.arith.specs.Laws.Constants.{zero-is}
 use Rattle.solves.proofs.OperatorLaws.{cross-there, cross-over}
@@ -14,10 +15,18 @@ is-finite-requires : tie.Need-is-finite-requires
 is-finite-requires c κs = search needs
 
 returns : tie.Need-returns
-returns c = cross-there _ (c .before .before .before .before .before .args .a) (c .before .before .before .before .before .args .b) zero-is (c .before .before .before .cross-end .ensures) (c .before .before .cross-end2 .ensures) (c .before .is-finite .ensures) (c .if1 .taken)
+returns c =
+    let at-cross-end = c .before .before .before in
+    let start = at-cross-end .before .before in
+    cross-there _ (start .args .a) (start .args .b) zero-is (at-cross-end .cross-end .ensures) (c .before .before .cross-end2 .ensures)
+    (c .before .is-finite .ensures) (c .if1 .taken)
 
 returns-2 : tie.Need-returns-2
-returns-2 c = cross-over _ (c .before .before .before .before .before .args .a) (c .before .before .before .before .before .args .b) zero-is (c .before .before .before .cross-end .ensures) (c .before .before .cross-end2 .ensures) (c .before .is-finite .ensures) (c .if1 .left)
+returns-2 c =
+    let at-cross-end = c .before .before .before in
+    let start = at-cross-end .before .before in
+    cross-over _ (start .args .a) (start .args .b) zero-is (at-cross-end .cross-end .ensures) (c .before .before .cross-end2 .ensures)
+    (c .before .is-finite .ensures) (c .if1 .left)
 
 pub cross-mass-spec : {M : Type 1} → statement M
 cross-mass-spec =

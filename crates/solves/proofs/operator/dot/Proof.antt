@@ -1,3 +1,4 @@
+-- dot: the sum of products, and whether it is finite.
 use borrow.Author.Needs.{needs}
 use denote.Ref.{now}
 use Rattle.solves.proofs.OperatorLaws.{dot-there, dot-over}
@@ -11,10 +12,16 @@ is-finite-requires : tie.Need-is-finite-requires
 is-finite-requires c κs = search needs
 
 returns : tie.Need-returns
-returns c = dot-there (now (c .before .before .before .before .args .s)) (c .before .before .before .before .args .a) (c .before .before .before .before .args .b) (c .before .before .before .before .args .n) (c .before .before .products .ensures) (c .before .is-finite .ensures) (c .if1 .taken)
+returns c =
+    let start = c .before .before .before .before in
+    dot-there (now (start .args .s)) (start .args .a) (start .args .b) (start .args .n) (c .before .before .products .ensures)
+    (c .before .is-finite .ensures) (c .if1 .taken)
 
 returns-2 : tie.Need-returns-2
-returns-2 c = dot-over (now (c .before .before .before .before .args .s)) (c .before .before .before .before .args .a) (c .before .before .before .before .args .b) (c .before .before .before .before .args .n) (c .before .before .products .ensures) (c .before .is-finite .ensures) (c .if1 .left)
+returns-2 c =
+    let start = c .before .before .before .before in
+    dot-over (now (start .args .s)) (start .args .a) (start .args .b) (start .args .n) (c .before .before .products .ensures)
+    (c .before .is-finite .ensures) (c .if1 .left)
 
 pub dot-spec : {M : Type 1} → statement M
 dot-spec = tie.close (tie.spec products-requires is-finite-requires returns returns-2)

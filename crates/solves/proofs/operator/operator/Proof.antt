@@ -63,9 +63,11 @@ rates-requires c κs =
     let at-scale-all = c .before .before .before .before .before in
     let at-transpose = at-scale-all .before .before .before .before .before .before in
     let start = at-transpose .before .before .before in
-    let size = at-scale-all .scale-all .ensures .kept .size ∙ at-transpose .transpose .ensures .kept .size in
-    (rows-kept (start .pre .0) size, record
-    { low = start .pre .2 .low; apart = start .pre .2 .apart; there = omega (arith, size, start .pre .2 .there) })
+    let size = at-scale-all .scale-all .ensures .kept .size ∙ at-transpose .transpose .ensures .kept .size in (
+      rows-kept (start .pre .0) size,
+      record
+          { low = start .pre .2 .low; apart = start .pre .2 .apart; there = omega (arith, size, start .pre .2 .there) },
+    )
 
 same-length-3 : tie.Need-same-length-3
 same-length-3 c =

@@ -1,3 +1,4 @@
+-- products: the sum by the turns of `dotTurn`.
 use native.Mathlib.Omega.{arith}
 use mathlib.Core.Path.{_≡_, _∙_}
 use Prim.Native.Nat.{_≤_, _-_}
@@ -44,10 +45,18 @@ loop-less : tie.Need-loop-less Inv-loop μ-loop
 loop-less c = omega arith
 
 loop-again : tie.Need-loop-again Inv-loop μ-loop
-loop-again c = (omega arith, products-more (now (c .before .before .before .before .args .s)) (c .before .before .before .before .args .a) (c .before .before .before .before .args .b) (c .before .before .before .before .args .n) _ (c .before .before .loop-test .taken) (c .before .before .before .loop .inv .1))
+loop-again c =
+    let at-loop = c .before .before .before in
+    let start = at-loop .before in (
+      omega arith,
+      products-more (now (start .args .s)) (start .args .a) (start .args .b) (start .args .n) _ (c .before .before .loop-test .taken)
+          (at-loop .loop .inv .1),
+    )
 
 returns : tie.Need-returns Inv-loop μ-loop
-returns c = turns-end _ _ (c .before .loop .inv .0) (c .loop-test .left) (c .before .loop .inv .1)
+returns c =
+    let at-loop = c .before in
+    turns-end _ _ (at-loop .loop .inv .0) (c .loop-test .left) (at-loop .loop .inv .1)
 
 pub products-spec : {M : Type 1} → statement M
 products-spec =

@@ -1,3 +1,4 @@
+-- rate: four products and their sum, in the order of the definition.
 use borrow.Author.Needs.{needs}
 use Rattle.solves.specs.Solver.{rate}
 use Rattle.solves.proofs.operator.rate.Statement.{statement}

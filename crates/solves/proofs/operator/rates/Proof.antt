@@ -38,9 +38,11 @@ load-generalized-requires-2 : tie.Need-load-generalized-requires-2 Inv-loop μ-l
 load-generalized-requires-2 c κs =
     let at-load-row = c .before .before .before in
     let at-loop = at-load-row .before .before .before in
-    omega
-    (arith, on-b (at-loop .before .before .pre .0) (at-load-row .before .before .loop-test .taken) (at-loop .loop .s)
-    (at-load-row .load-row .ensures))
+    omega (
+      arith,
+      on-b (at-loop .before .before .pre .0) (at-load-row .before .before .loop-test .taken) (at-loop .loop .s)
+          (at-load-row .load-row .ensures),
+    )
 
 rate-requires : tie.Need-rate-requires Inv-loop μ-loop
 rate-requires c κs = omega arith
@@ -105,15 +107,14 @@ loop-again c =
     let at-load-row = at-load-generalized2 .before .before .before .before in
     let in-loop = at-load-row .before .before in
     let at-loop = in-loop .before in
-    let start = at-loop .before .before in
-    (
+    let start = at-loop .before .before in (
       omega (arith, in-loop .loop-test .taken),
       simp length-set (at-loop .loop .inv .1),
       rates-again (start .pre .0) (start .pre .1) _ (at-loop .loop .inv .2) (in-loop .loop-test .taken) (at-loop .loop .inv .1)
-      (at-load-row .load-row .ensures)
-    (at-load-generalized2 .before .before .load-generalized .ensures) (at-load-generalized2 .load-generalized2 .ensures)
-    (c .before .before .rate .ensures) (c .before .is-finite .ensures)
-      (not-no _ (c .if1 .left)),
+          (at-load-row .load-row .ensures)
+          (at-load-generalized2 .before .before .load-generalized .ensures) (at-load-generalized2 .load-generalized2 .ensures)
+          (c .before .before .rate .ensures) (c .before .is-finite .ensures)
+          (not-no _ (c .if1 .left)),
     )
 
 same-length-2 : tie.Need-same-length-2 Inv-loop μ-loop

@@ -67,13 +67,12 @@ loop-again c =
     let at-g = at-store-generalized .before .before .before in
     let at-load-mass = at-g .before .before .before in
     let in-loop = at-load-mass .before .before .before .before in
-    let at-loop = in-loop .before in
-    (
+    let at-loop = in-loop .before in (
       omega arith,
       omega (arith, at-store-generalized .store-generalized .ensures .0 .size, at-loop .loop .inv .1),
       scale-again _ _ (at-loop .before .before .pre .1) (at-loop .loop .inv .2) (in-loop .loop-test .taken)
-      (at-load-mass .before .before .load-generalized .ensures) (at-load-mass .load-mass .ensures)
-      (share-there (at-g .before .before .scaled .ensures) (at-g .g .given .1)) (at-store-generalized .store-generalized .ensures),
+          (at-load-mass .before .before .load-generalized .ensures) (at-load-mass .load-mass .ensures)
+          (share-there (at-g .before .before .scaled .ensures) (at-g .g .given .1)) (at-store-generalized .store-generalized .ensures),
     )
 
 same-length-2 : tie.Need-same-length-2 Inv-loop μ-loop

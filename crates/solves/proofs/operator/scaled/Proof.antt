@@ -1,3 +1,4 @@
+-- scaled: both halves of a share through the mass, each if it is finite.
 use borrow.Author.Needs.{needs}
 use Rattle.solves.proofs.PlaceLaws.{scaled-1, scaled-2, scaled-3}
 use Rattle.solves.proofs.operator.scaled.Statement.{statement}
@@ -16,10 +17,16 @@ is-finite-requires-2 : tie.Need-is-finite-requires-2
 is-finite-requires-2 c κs = search needs
 
 returns : tie.Need-returns
-returns c = scaled-3 _ _ (c .before .before .before .before .before .scale .ensures) (c .before .before .before .before .is-finite .ensures) (c .before .before .before .if1 .taken) (c .before .before .apply .ensures) (c .before .is-finite2 .ensures) (c .if2 .taken)
+returns c =
+    let at-Then1 = c .before .before .before in
+    scaled-3 _ _ (at-Then1 .before .before .scale .ensures) (at-Then1 .before .is-finite .ensures) (at-Then1 .if1 .taken)
+    (c .before .before .apply .ensures) (c .before .is-finite2 .ensures) (c .if2 .taken)
 
 returns-2 : tie.Need-returns-2
-returns-2 c = scaled-2 _ _ (c .before .before .before .before .before .scale .ensures) (c .before .before .before .before .is-finite .ensures) (c .before .before .before .if1 .taken) (c .before .before .apply .ensures) (c .before .is-finite2 .ensures) (c .if2 .left)
+returns-2 c =
+    let at-Then1 = c .before .before .before in
+    scaled-2 _ _ (at-Then1 .before .before .scale .ensures) (at-Then1 .before .is-finite .ensures) (at-Then1 .if1 .taken)
+    (c .before .before .apply .ensures) (c .before .is-finite2 .ensures) (c .if2 .left)
 
 returns-3 : tie.Need-returns-3
 returns-3 c = scaled-1 _ _ (c .before .before .scale .ensures) (c .before .is-finite .ensures) (c .if1 .left)

@@ -62,12 +62,11 @@ loop-again c =
     let in-loop = at-load-generalized .before in
     let start = in-loop .before .before .before in
     let s = now (start .args .s) in
-    let h = in-loop .loop-test .taken in
-    (
+    let h = in-loop .loop-test .taken in (
       omega arith,
       every-more _ (in-loop .before .loop .inv .1)
-      (share-fine s _ h (at-load-generalized .load-generalized .ensures) (at-if1 .before .is-finite .ensures) (at-if1 .if1 .left)
-      (c .before .is-finite2 .ensures) (c .if2 .left)),
+          (share-fine s _ h (at-load-generalized .load-generalized .ensures) (at-if1 .before .is-finite .ensures) (at-if1 .if1 .left)
+          (c .before .is-finite2 .ensures) (c .if2 .left)),
     )
 
 returns-3 : tie.Need-returns-3 Inv-loop μ-loop

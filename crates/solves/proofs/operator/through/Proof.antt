@@ -1,3 +1,4 @@
+-- through: two products and their sum, by `through-is`.
 use borrow.Author.Needs.{needs}
 use Rattle.solves.proofs.OperatorLaws.{through-is}
 use Rattle.solves.proofs.operator.through.Statement.{statement}
@@ -13,7 +14,10 @@ dot-requires-2 : tie.Need-dot-requires-2
 dot-requires-2 c κs = search needs
 
 returns : tie.Need-returns
-returns c = through-is (c .before .before .before .before .args .mass) _ (c .before .before .before .before .args .aa) _ (c .before .before .before .before .args .ba) (c .before .before .before .dot .ensures) (c .before .apply .ensures) (c .dot2 .ensures)
+returns c =
+    let at-dot = c .before .before .before in
+    let start = at-dot .before in
+    through-is (start .args .mass) _ (start .args .aa) _ (start .args .ba) (at-dot .dot .ensures) (c .before .apply .ensures) (c .dot2 .ensures)
 
 pub through-spec : {M : Type 1} → statement M
 through-spec = tie.close (tie.spec dot-requires apply-requires dot-requires-2 returns)

@@ -1,3 +1,4 @@
+-- tolerance_for: the length of the right side, by the cases of `dot`.
 use borrow.Author.Needs.{needs}
 use Rattle.arith.specs.Laws.Constants.{one-is}
 use Rattle.solves.specs.DoesLaws.{sum-there, sum-over}
@@ -15,13 +16,18 @@ enum-told : tie.Need-enum-told
 enum-told c = search needs
 
 returns : tie.Need-returns
-returns c = tolerance-stop (c .before .before .before .before .args .scale) _ (sum-over (c .before .before .dot .ensures) (c .enum-told .given .1))
+returns c =
+    let start = c .before .before .before .before in
+    tolerance-stop (start .args .scale) _ (sum-over (c .before .before .dot .ensures) (c .enum-told .given .1))
 
 sqrt-requires : tie.Need-sqrt-requires
 sqrt-requires c κs = search needs
 
 returns-2 : tie.Need-returns-2
-returns-2 c = tolerance-go (c .before .before .before .before .before .before .args .scale) _ (sum-there (c .before .before .before .before .dot .ensures) (c .before .before .square .given .1)) (c .sqrt .ensures .is) one-is
+returns-2 c =
+    let at-dot = c .before .before .before .before in
+    tolerance-go (at-dot .before .before .args .scale) _ (sum-there (at-dot .dot .ensures) (c .before .before .square .given .1))
+    (c .sqrt .ensures .is) one-is
 
 pub tolerance-for-spec : {M : Type 1} → statement M
 tolerance-for-spec =

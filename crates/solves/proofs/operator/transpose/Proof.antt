@@ -37,36 +37,64 @@ load-row-requires : tie.Need-load-row-requires Inv-loop μ-loop
 load-row-requires c κs =
     let at-clear = c .before .before .before .before .before in
     let start = at-clear .before .before .before in
-    omega
-    (arith, at-clear .clear .ensures .kept .size, c .before .before .loop .inv .1, c .before .loop-test .taken, start .pre .0 .whole,
-    start .pre .0 .table, start .pre .0 .most, start .pre .1 .there)
+    omega (
+      arith,
+      at-clear .clear .ensures .kept .size,
+      c .before .before .loop .inv .1,
+      c .before .loop-test .taken,
+      start .pre .0 .whole,
+      start .pre .0 .table,
+      start .pre .0 .most,
+      start .pre .1 .there,
+    )
 
 add-value : tie.Need-add-value Inv-loop μ-loop
 add-value c =
     let at-loop = c .before .before .before in
     let at-clear = at-loop .before .before .before in
     let start = at-clear .before .before .before in
-    omega
-    (arith, at-clear .clear .ensures .kept .size, at-loop .loop .inv .1, c .before .before .loop-test .taken, start .pre .0 .whole,
-    start .pre .0 .table, start .pre .0 .most, start .pre .1 .there)
+    omega (
+      arith,
+      at-clear .clear .ensures .kept .size,
+      at-loop .loop .inv .1,
+      c .before .before .loop-test .taken,
+      start .pre .0 .whole,
+      start .pre .0 .table,
+      start .pre .0 .most,
+      start .pre .1 .there,
+    )
 
 mul-value : tie.Need-mul-value Inv-loop μ-loop
 mul-value c =
     let at-loop = c .before .before .before in
     let at-clear = at-loop .before .before .before in
     let start = at-clear .before .before .before in
-    omega
-    (arith, at-clear .clear .ensures .kept .size, at-loop .loop .inv .1, c .before .before .loop-test .taken, start .pre .0 .whole,
-    start .pre .0 .table, start .pre .0 .most, start .pre .1 .there)
+    omega (
+      arith,
+      at-clear .clear .ensures .kept .size,
+      at-loop .loop .inv .1,
+      c .before .before .loop-test .taken,
+      start .pre .0 .whole,
+      start .pre .0 .table,
+      start .pre .0 .most,
+      start .pre .1 .there,
+    )
 
 slice-read-value : tie.Need-slice-read-value Inv-loop μ-loop
 slice-read-value c =
     let in-loop = c .before .before .before in
     let at-clear = in-loop .before .before .before .before in
     let start = at-clear .before .before .before in
-    omega
-    (arith, at-clear .clear .ensures .kept .size, in-loop .before .loop .inv .1, in-loop .loop-test .taken, start .pre .0 .whole,
-    start .pre .0 .table, start .pre .0 .most, start .pre .1 .there)
+    omega (
+      arith,
+      at-clear .clear .ensures .kept .size,
+      in-loop .before .loop .inv .1,
+      in-loop .loop-test .taken,
+      start .pre .0 .whole,
+      start .pre .0 .table,
+      start .pre .0 .most,
+      start .pre .1 .there,
+    )
 
 push-row-requires : tie.Need-push-row-requires Inv-loop μ-loop
 push-row-requires c κs =
@@ -74,8 +102,7 @@ push-row-requires c κs =
     let in-loop = at-load-row .before .before in
     let at-loop = in-loop .before in
     let at-clear = at-loop .before .before .before in
-    let start = at-clear .before .before .before in
-    (
+    let start = at-clear .before .before .before in (
       omega (arith, at-clear .clear .ensures .kept .size, at-loop .loop .inv .1, start .pre .0 .whole),
       on-a (start .pre .0) (in-loop .loop-test .taken) (at-loop .loop .s) (at-load-row .load-row .ensures),
       on-b (start .pre .0) (in-loop .loop-test .taken) (at-loop .loop .s) (at-load-row .load-row .ensures),
@@ -99,12 +126,11 @@ loop-again c =
     let at-load-row = at-push-row .before .before .before in
     let in-loop = at-load-row .before .before in
     let at-loop = in-loop .before in
-    let start = at-loop .before .before .before .before .before .before in
-    (
+    let start = at-loop .before .before .before .before .before .before in (
       omega (arith, in-loop .loop-test .taken),
       omega (arith, at-loop .loop .inv .1, at-push-row .push-row .ensures .kept .size),
       transpose-again (start .pre .0) (start .pre .1) _ (at-loop .loop .inv .2) (in-loop .loop-test .taken) (at-load-row .load-row .ensures) refl
-      (at-push-row .push-row .ensures),
+          (at-push-row .push-row .ensures),
     )
 
 shares-finite-requires : tie.Need-shares-finite-requires Inv-loop μ-loop

@@ -1,6 +1,6 @@
+-- `add_edge` meets its contract: by the two tests of the definition.
 use borrow.Author.Needs.{needs}
-use denote.Ref.{now}
-use Rattle.solves.proofs.BlockLaws.{edge-1, edge-2, edge-3}
+use Rattle.solves.proofs.BlockLaws.{edge-first, edge-second, edge-full}
 use Rattle.solves.proofs.path.add_edge.Statement.{statement}
 use Rattle.solves.proofs.path.add_edge.Tie as tie
 
@@ -23,7 +23,7 @@ element-write-edges : tie.Need-element-write-edges
 element-write-edges c = search needs
 
 returns : tie.Need-returns
-returns c = edge-1 (c .before .before .args .body) (c .before .before .args .block) (now (c .before .before .args .edges)) (c .if1 .taken)
+returns c = edge-first _ _ _ (c .if1 .taken)
 
 mul-if2 : tie.Need-mul-if2
 mul-if2 c = search needs
@@ -50,10 +50,10 @@ element-write-edges-2 : tie.Need-element-write-edges-2
 element-write-edges-2 c = search needs
 
 returns-2 : tie.Need-returns-2
-returns-2 c = edge-2 (c .before .before .before .before .args .body) (c .before .before .before .before .args .block) (now (c .before .before .before .before .args .edges)) (c .before .before .if1 .left) (c .if2 .taken)
+returns-2 c = edge-second _ _ _ (c .before .before .if1 .left) (c .if2 .taken)
 
 returns-3 : tie.Need-returns-3
-returns-3 c = edge-3 (c .before .before .before .before .args .body) (c .before .before .before .before .args .block) (now (c .before .before .before .before .args .edges)) (c .before .before .if1 .left) (c .if2 .left)
+returns-3 c = edge-full _ _ _ (c .before .before .if1 .left) (c .if2 .left)
 
 pub add-edge-spec : {M : Type 1} → statement M
 add-edge-spec =

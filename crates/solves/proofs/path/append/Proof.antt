@@ -1,38 +1,45 @@
+-- `append` meets its contract: turn by turn by WalkLaws `append-more`.
 use native.Mathlib.Omega.{arith}
 use Prim.Native.Nat.{_≤_, _-_}
-use Rattle.solves.proofs.BlockLaws.{Appended, append-none, append-more, append-ends}
+use Rattle.solves.specs.PathView.{orderAt, Appended}
+use Rattle.solves.proofs.WalkLaws.{append-none, append-more, append-ends}
 use Rattle.solves.proofs.path.append.Statement.{statement}
 use Rattle.solves.proofs.path.append.Tie as tie
 
 abbrev Inv-loop : tie.InvT-loop
-Inv-loop from to out₀ i₀ out i = (from ≤ i) × (i ≤ to) × (Appended out₀ from to i out)
+Inv-loop rows₀ listed from to count₀ i₀ rows count i = (from ≤ i) × (i ≤ to) × (Appended (orderAt rows₀ listed) from to i (orderAt rows count))
 
 abbrev μ-loop : tie.MeasureT-loop
-μ-loop from to out₀ i₀ out i = to - i
+μ-loop rows₀ listed from to count₀ i₀ rows count i = to - i
 
 loop-holds : tie.Need-loop-holds Inv-loop μ-loop
 loop-holds c = (omega arith, c .pre .0, append-none _ _ _ (c .pre .3))
 
-mul-out : tie.Need-mul-out Inv-loop μ-loop
-mul-out c = omega (arith, c .before .loop .inv .2 .count, c .before .loop .inv .0, c .loop-test .taken, c .before .before .pre .1, c .before .before .pre .2)
+mul-rows : tie.Need-mul-rows Inv-loop μ-loop
+mul-rows c = omega arith
 
-element-write-out : tie.Need-element-write-out Inv-loop μ-loop
-element-write-out c = omega (arith, c .before .loop .inv .2 .count, c .before .loop .inv .0, c .loop-test .taken, c .before .before .pre .1, c .before .before .pre .2)
+element-write-rows : tie.Need-element-write-rows Inv-loop μ-loop
+element-write-rows c = omega arith
 
-add-out : tie.Need-add-out Inv-loop μ-loop
-add-out c = omega (arith, c .before .loop .inv .2 .count, c .before .loop .inv .0, c .loop-test .taken, c .before .before .pre .1, c .before .before .pre .2)
+add-count : tie.Need-add-count Inv-loop μ-loop
+add-count c = omega arith
 
 add-i : tie.Need-add-i Inv-loop μ-loop
-add-i c = omega (arith, c .before .loop .inv .2 .count, c .before .loop .inv .0, c .loop-test .taken, c .before .before .pre .1, c .before .before .pre .2)
+add-i c = omega arith
 
 loop-less : tie.Need-loop-less Inv-loop μ-loop
 loop-less c = omega arith
 
 loop-again : tie.Need-loop-again Inv-loop μ-loop
-loop-again c = (omega arith, omega (arith, c .loop-test .taken), append-more (c .before .loop .inv .2) (c .before .loop .inv .0) (c .loop-test .taken) (c .before .before .pre .2))
+loop-again c =
+    let at-loop = c .before in
+    let start = at-loop .before in
+    (omega arith, omega arith, append-more (at-loop .loop .inv .2) (at-loop .loop .inv .0) (c .loop-test .taken) (start .pre .2))
 
 returns : tie.Need-returns Inv-loop μ-loop
-returns c = append-ends (c .before .loop .inv .2) (c .before .loop .inv .1) (c .loop-test .left)
+returns c =
+    let at-loop = c .before in
+    append-ends (at-loop .loop .inv .2) (at-loop .loop .inv .1) (c .loop-test .left)
 
 pub append-spec : {M : Type 1} → statement M
 append-spec =
@@ -41,9 +48,9 @@ append-spec =
     Inv-loop
     μ-loop
     loop-holds
-    mul-out
-    element-write-out
-    add-out
+    mul-rows
+    element-write-rows
+    add-count
     add-i
     loop-less
     loop-again

@@ -1,3 +1,4 @@
+-- `begins` meets its contract: by the three tests of the definition.
 use borrow.Author.Needs.{needs}
 use denote.Ref.{now}
 use Rattle.solves.proofs.BlockLaws.{begins-first, begins-same, begins-b, begins-a}
@@ -38,13 +39,25 @@ element-copy-out-if3-2 : tie.Need-element-copy-out-if3-2
 element-copy-out-if3-2 c = search needs
 
 returns-2 : tie.Need-returns-2
-returns-2 c = begins-same (now (c .before .before .before .before .before .before .before .args .ia)) (now (c .before .before .before .before .before .before .before .args .ib)) (c .before .before .before .before .before .before .before .args .i) (c .before .before .before .before .before .before .if1 .left) (c .before .before .before .if2 .taken) (c .if3 .taken)
+returns-2 c =
+    let at-if2 = c .before .before .before in
+    let at-if1 = at-if2 .before .before .before in
+    let args = at-if1 .before .args in
+    begins-same (now (args .ia)) (now (args .ib)) (args .i) (at-if1 .if1 .left) (at-if2 .if2 .taken) (c .if3 .taken)
 
 returns-3 : tie.Need-returns-3
-returns-3 c = begins-b (now (c .before .before .before .before .before .before .before .args .ia)) (now (c .before .before .before .before .before .before .before .args .ib)) (c .before .before .before .before .before .before .before .args .i) (c .before .before .before .before .before .before .if1 .left) (c .before .before .before .if2 .taken) (c .if3 .left)
+returns-3 c =
+    let at-if2 = c .before .before .before in
+    let at-if1 = at-if2 .before .before .before in
+    let args = at-if1 .before .args in
+    begins-b (now (args .ia)) (now (args .ib)) (args .i) (at-if1 .if1 .left) (at-if2 .if2 .taken) (c .if3 .left)
 
 returns-4 : tie.Need-returns-4
-returns-4 c = begins-a (now (c .before .before .before .before .args .ia)) (now (c .before .before .before .before .args .ib)) (c .before .before .before .before .args .i) (c .before .before .before .if1 .left) (c .if2 .left)
+returns-4 c =
+    let at-if2 = c in
+    let at-if1 = at-if2 .before .before .before in
+    let args = at-if1 .before .args in
+    begins-a (now (args .ia)) (now (args .ib)) (args .i) (at-if1 .if1 .left) (c .if2 .left)
 
 pub begins-spec : {M : Type 1} → statement M
 begins-spec =

@@ -20,70 +20,107 @@ abbrev μ-loop : tie.MeasureT-loop
 μ-loop s₀ order n i₀ s i = n - i
 
 loop-holds : tie.Need-loop-holds Inv-loop μ-loop
-loop-holds c = (omega arith, refl, forwards-none (c .before .args .n) (c .before .pre .1) (now (c .before .args .order)) (c .before .pre .2) _)
+loop-holds c =
+    let start = c .before in
+    let args = start .args in
+    let pre = start .pre in
+    (omega arith, refl, forwards-none (args .n) (pre .1) (now (args .order)) (pre .2) _)
 
 mul-start : tie.Need-mul-start Inv-loop μ-loop
-mul-start c = omega (arith, c .before .before .before .pre .0, c .before .before .before .pre .1, c .before .loop .inv .1, c .loop-test .taken)
+mul-start c = omega arith
 
 element-copy-out-start : tie.Need-element-copy-out-start Inv-loop μ-loop
-element-copy-out-start c = omega (arith, c .before .before .before .pre .0, c .before .before .before .pre .1, c .before .loop .inv .1, c .loop-test .taken)
+element-copy-out-start c = omega arith
 
 add-start : tie.Need-add-start Inv-loop μ-loop
-add-start c = omega (arith, c .before .before .before .before .pre .2 (c .before .before .loop .i) (c .before .loop-test .taken), c .before .before .before .before .pre .0, c .before .before .before .before .pre .1, c .before .before .loop .inv .1, c .before .loop-test .taken)
+add-start c =
+    let at-loop-test = c .before in
+    let at-loop = at-loop-test .before in
+    let start = at-loop .before .before in
+    let pre = start .pre in
+    omega (arith, pre .2 (at-loop .loop .i) (at-loop-test .loop-test .taken))
 
 mul-start-2 : tie.Need-mul-start-2 Inv-loop μ-loop
-mul-start-2 c = omega (arith, c .before .before .before .before .pre .2 (c .before .before .loop .i) (c .before .loop-test .taken), c .before .before .before .before .pre .0, c .before .before .before .before .pre .1, c .before .before .loop .inv .1, c .before .loop-test .taken)
+mul-start-2 c =
+    let at-loop-test = c .before in
+    let at-loop = at-loop-test .before in
+    let start = at-loop .before .before in
+    let pre = start .pre in
+    omega (arith, pre .2 (at-loop .loop .i) (at-loop-test .loop-test .taken))
 
 slice-read-start : tie.Need-slice-read-start Inv-loop μ-loop
-slice-read-start c = omega (arith, c .before .before .before .before .before .pre .2 (c .before .before .before .loop .i) (c .before .before .loop-test .taken), c .before .before .before .before .before .pre .0, c .before .before .before .before .before .pre .1, c .before .before .before .loop .inv .1, c .before .before .loop-test .taken)
+slice-read-start c =
+    let at-loop-test = c .before .before in
+    let at-loop = at-loop-test .before in
+    let start = at-loop .before .before in
+    let pre = start .pre in
+    omega (arith, pre .2 (at-loop .loop .i) (at-loop-test .loop-test .taken))
 
 add-start-2 : tie.Need-add-start-2 Inv-loop μ-loop
-add-start-2 c = omega (arith, c .before .before .before .before .before .pre .0, c .before .before .before .before .before .pre .1, c .before .before .before .loop .inv .1, c .before .before .loop-test .taken)
+add-start-2 c = omega arith
 
 mul-start-3 : tie.Need-mul-start-3 Inv-loop μ-loop
-mul-start-3 c = omega (arith, c .before .before .before .before .before .pre .0, c .before .before .before .before .before .pre .1, c .before .before .before .loop .inv .1, c .before .before .loop-test .taken)
+mul-start-3 c = omega arith
 
 slice-read-start-2 : tie.Need-slice-read-start-2 Inv-loop μ-loop
-slice-read-start-2 c = omega (arith, c .before .before .before .before .before .before .pre .0, c .before .before .before .before .before .before .pre .1, c .before .before .before .before .loop .inv .1, c .before .before .before .loop-test .taken)
+slice-read-start-2 c = omega arith
 
 forward-sum-requires : tie.Need-forward-sum-requires Inv-loop μ-loop
-forward-sum-requires c κs = omega (arith, c .before .before .before .before .before .before .before .pre .0, c .before .before .before .before .before .before .before .pre .1, c .before .before .before .before .before .loop .inv .1, c .before .before .before .before .loop-test .taken)
+forward-sum-requires c κs = omega arith
 
 mul-s : tie.Need-mul-s Inv-loop μ-loop
-mul-s c = omega (arith, c .before .before .before .before .before .before .before .before .pre .0, c .before .before .before .before .before .before .before .before .pre .1, c .before .before .before .before .before .before .loop .inv .1, c .before .before .before .before .before .loop-test .taken)
+mul-s c = omega arith
 
 add-s : tie.Need-add-s Inv-loop μ-loop
-add-s c = omega (arith, c .before .before .before .before .before .before .before .before .pre .0, c .before .before .before .before .before .before .before .before .pre .1, c .before .before .before .before .before .before .loop .inv .1, c .before .before .before .before .before .loop-test .taken)
+add-s c = omega arith
 
 mul-s-2 : tie.Need-mul-s-2 Inv-loop μ-loop
-mul-s-2 c = omega (arith, c .before .before .before .before .before .before .before .before .pre .0, c .before .before .before .before .before .before .before .before .pre .1, c .before .before .before .before .before .before .loop .inv .1, c .before .before .before .before .before .loop-test .taken)
+mul-s-2 c = omega arith
 
 slice-read-s : tie.Need-slice-read-s Inv-loop μ-loop
-slice-read-s c = omega (arith, c .before .before .before .before .before .before .before .before .before .pre .0, c .before .before .before .before .before .before .before .before .before .pre .1, c .before .before .before .before .before .before .before .loop .inv .1, c .before .before .before .before .before .before .loop-test .taken)
+slice-read-s c = omega arith
 
 add-s-2 : tie.Need-add-s-2 Inv-loop μ-loop
-add-s-2 c = omega (arith, c .before .before .before .before .before .before .before .before .before .pre .0, c .before .before .before .before .before .before .before .before .before .pre .1, c .before .before .before .before .before .before .before .loop .inv .1, c .before .before .before .before .before .before .loop-test .taken)
+add-s-2 c = omega arith
 
 mul-s-3 : tie.Need-mul-s-3 Inv-loop μ-loop
-mul-s-3 c = omega (arith, c .before .before .before .before .before .before .before .before .before .pre .0, c .before .before .before .before .before .before .before .before .before .pre .1, c .before .before .before .before .before .before .before .loop .inv .1, c .before .before .before .before .before .before .loop-test .taken)
+mul-s-3 c = omega arith
 
 slice-write-s : tie.Need-slice-write-s Inv-loop μ-loop
-slice-write-s c = omega (arith, c .before .before .before .before .before .before .before .before .before .pre .0, c .before .before .before .before .before .before .before .before .before .pre .1, c .before .before .before .before .before .before .before .loop .inv .1, c .before .before .before .before .before .before .loop-test .taken)
+slice-write-s c = omega arith
 
 add-i : tie.Need-add-i Inv-loop μ-loop
-add-i c = omega (arith, c .before .before .before .before .before .before .before .before .before .pre .0, c .before .before .before .before .before .before .before .before .before .pre .1, c .before .before .before .before .before .before .before .loop .inv .1, c .before .before .before .before .before .before .loop-test .taken)
+add-i c = omega arith
 
 loop-less : tie.Need-loop-less Inv-loop μ-loop
-loop-less c = omega (arith, c .before .before .before .before .before .before .loop-test .taken)
+loop-less c = omega arith
 
 loop-again : tie.Need-loop-again Inv-loop μ-loop
-loop-again c = (omega (arith, c .before .before .before .before .before .before .loop-test .taken), simp length-set (c .before .before .before .before .before .before .before .loop .inv .1), forwards-more (c .before .before .before .before .before .before .before .before .before .args .n) (c .before .before .before .before .before .before .before .before .before .pre .1) (now (c .before .before .before .before .before .before .before .before .before .args .order)) (c .before .before .before .before .before .before .before .before .before .pre .2) _ (c .before .before .before .before .before .before .before .loop .inv .2) (c .before .before .before .before .before .before .loop-test .taken) (omega (arith, c .before .before .before .before .before .before .before .before .before .pre .0, c .before .before .before .before .before .before .before .before .before .pre .1, c .before .before .before .before .before .before .before .loop .inv .1, c .before .before .before .before .before .before .loop-test .taken)) (c .before .forward-sum .ensures))
+loop-again c =
+    let at-forward-sum = c .before in
+    let at-loop-test = at-forward-sum .before .before .before .before .before in
+    let at-loop = at-loop-test .before in
+    let start = at-loop .before .before in
+    let args = start .args in
+    let pre = start .pre in (
+      omega (arith, at-loop-test .loop-test .taken),
+      simp length-set (at-loop .loop .inv .1),
+      forwards-more (args .n) (pre .1) (now (args .order)) (pre .2) _ (at-loop .loop .inv .2) (at-loop-test .loop-test .taken)
+          (omega (arith, pre .0, pre .1, at-loop .loop .inv .1, at-loop-test .loop-test .taken)) (at-forward-sum .forward-sum .ensures),
+    )
 
 same-length : tie.Need-same-length Inv-loop μ-loop
-same-length c = c .before .loop .inv .1
+same-length c =
+    let at-loop = c .before in
+    at-loop .loop .inv .1
 
 returns : tie.Need-returns Inv-loop μ-loop
-returns c = forwards-end (c .before .before .before .args .n) (c .before .before .before .pre .1) (now (c .before .before .before .args .order)) (c .before .before .before .pre .2) _ (c .before .loop .inv .2) (c .before .loop .inv .0) (c .loop-test .left)
+returns c =
+    let at-loop = c .before in
+    let start = at-loop .before .before in
+    let args = start .args in
+    let pre = start .pre in
+    forwards-end (args .n) (pre .1) (now (args .order)) (pre .2) _ (at-loop .loop .inv .2) (at-loop .loop .inv .0) (c .loop-test .left)
 
 pub forward-spec : {M : Type 1} → statement M
 forward-spec =

@@ -1,6 +1,6 @@
+-- `neighbor` meets its contract: by the test of the definition.
 use borrow.Author.Needs.{needs}
-use denote.Ref.{now}
-use Rattle.solves.proofs.BlockLaws.{neighbor-second, neighbor-first}
+use Rattle.solves.proofs.WalkLaws.{neighbor-second, neighbor-first}
 use Rattle.solves.proofs.path.neighbor.Statement.{statement}
 use Rattle.solves.proofs.path.neighbor.Tie as tie
 
@@ -26,7 +26,7 @@ element-copy-out-result : tie.Need-element-copy-out-result
 element-copy-out-result c = search needs
 
 returns : tie.Need-returns
-returns c = neighbor-second (now (c .before .before .before .args .edges)) (c .before .before .before .args .body) (c .before .before .before .args .block) (c .before .if1 .taken)
+returns c = neighbor-second _ _ _ (c .before .if1 .taken)
 
 mul-result-3 : tie.Need-mul-result-3
 mul-result-3 c = search needs
@@ -38,7 +38,7 @@ element-copy-out-result-2 : tie.Need-element-copy-out-result-2
 element-copy-out-result-2 c = search needs
 
 returns-2 : tie.Need-returns-2
-returns-2 c = neighbor-first (now (c .before .before .before .args .edges)) (c .before .before .before .args .body) (c .before .before .before .args .block) (c .before .if1 .left)
+returns-2 c = neighbor-first _ _ _ (c .before .if1 .left)
 
 pub neighbor-spec : {M : Type 1} → statement M
 neighbor-spec =

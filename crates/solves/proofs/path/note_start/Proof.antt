@@ -1,3 +1,4 @@
+-- `note_start` meets its contract: by the two cases of `begins`.
 use borrow.Author.Needs.{needs}
 use mathlib.Core.Path.{sym, _∙_}
 use Rattle.arith.specs.FlowLaws.{cond-yes, cond-no}
@@ -17,10 +18,14 @@ add-result : tie.Need-add-result
 add-result c = search needs
 
 returns : tie.Need-returns
-returns c = (cond-yes _ _ (sym (c .before .begins .ensures) ∙ c .if1 .taken), cond-yes _ _ (sym (c .before .begins .ensures) ∙ c .if1 .taken))
+returns c =
+    let at-begins = c .before in
+    (cond-yes _ _ (sym (at-begins .begins .ensures) ∙ c .if1 .taken), cond-yes _ _ (sym (at-begins .begins .ensures) ∙ c .if1 .taken))
 
 returns-2 : tie.Need-returns-2
-returns-2 c = (cond-no _ _ (sym (c .before .begins .ensures) ∙ c .if1 .left), cond-no _ _ (sym (c .before .begins .ensures) ∙ c .if1 .left))
+returns-2 c =
+    let at-begins = c .before in
+    (cond-no _ _ (sym (at-begins .begins .ensures) ∙ c .if1 .left), cond-no _ _ (sym (at-begins .begins .ensures) ∙ c .if1 .left))
 
 pub note-start-spec : {M : Type 1} → statement M
 note-start-spec =

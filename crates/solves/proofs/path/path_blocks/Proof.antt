@@ -1,3 +1,4 @@
+-- `path_blocks` meets its contract: turn by turn by BlockLaws `starts-more`, and at the end by `blocks-made`.
 use native.Mathlib.Omega.{arith}
 use Prim.Native.Nat.{_≤_, _-_}
 use Rattle.solves.proofs.BlockLaws.{Starts, starts-none, starts-more, blocks-made}
@@ -5,16 +6,16 @@ use Rattle.solves.proofs.path.path_blocks.Statement.{statement}
 use Rattle.solves.proofs.path.path_blocks.Tie as tie
 
 abbrev Inv-loop : tie.InvT-loop
-Inv-loop ia ib n starts₀ count₀ i₀ starts count i = (i ≤ n) × (Starts ia ib n i starts count)
+Inv-loop ia ib n starts₀ blocks₀ i₀ starts blocks i = (i ≤ n) × (Starts ia ib n starts₀ i starts blocks)
 
 abbrev μ-loop : tie.MeasureT-loop
-μ-loop ia ib n starts₀ count₀ i₀ starts count i = n - i
+μ-loop ia ib n starts₀ blocks₀ i₀ starts blocks i = n - i
 
 loop-holds : tie.Need-loop-holds Inv-loop μ-loop
-loop-holds c = (omega arith, starts-none _ _ _)
+loop-holds c = (omega arith, starts-none _ _ _ _ (c .pre .3))
 
 note-start-requires : tie.Need-note-start-requires Inv-loop μ-loop
-note-start-requires c κs = omega (arith, c .before .before .loop .inv .1 .few, c .before .loop-test .taken, c .before .before .before .pre .0)
+note-start-requires c κs = omega arith
 
 add-i : tie.Need-add-i Inv-loop μ-loop
 add-i c = omega arith
@@ -23,16 +24,27 @@ loop-less : tie.Need-loop-less Inv-loop μ-loop
 loop-less c = omega arith
 
 loop-again : tie.Need-loop-again Inv-loop μ-loop
-loop-again c = (omega arith, starts-more _ _ _ (c .before .before .before .loop .inv .1) (c .before .before .loop-test .taken) (c .before .before .before .before .pre .0) (c .note-start .ensures .0) (c .note-start .ensures .1))
+loop-again c =
+    let at-loop-test = c .before .before in
+    let at-loop = at-loop-test .before in
+    let start = at-loop .before in (
+      omega arith,
+      starts-more _ _ _ _ (at-loop .loop .inv .1) (at-loop-test .loop-test .taken) (start .pre .0) (c .note-start .ensures .0)
+          (c .note-start .ensures .1),
+    )
 
 mul-starts : tie.Need-mul-starts Inv-loop μ-loop
-mul-starts c = omega (arith, c .before .loop .inv .1 .few, c .before .before .pre .0)
+mul-starts c = omega arith
 
-array-write-starts : tie.Need-array-write-starts Inv-loop μ-loop
-array-write-starts c = omega (arith, c .before .loop .inv .1 .few, c .before .before .pre .0)
+element-write-starts : tie.Need-element-write-starts Inv-loop μ-loop
+element-write-starts c = omega arith
 
 returns : tie.Need-returns Inv-loop μ-loop
-returns c = blocks-made _ _ _ (c .before .before .pre .0) (c .before .before .pre .1) (c .before .before .pre .2) (c .before .loop .inv .1) (c .before .loop .inv .0) (c .loop-test .left)
+returns c =
+    let at-loop = c .before in
+    let start = at-loop .before in
+    let pre = start .pre in
+    blocks-made _ _ _ _ (pre .0) (pre .1) (pre .2) (at-loop .loop .inv .1) (at-loop .loop .inv .0) (c .loop-test .left)
 
 pub path-blocks-spec : {M : Type 1} → statement M
 path-blocks-spec =
@@ -46,5 +58,5 @@ path-blocks-spec =
     loop-less
     loop-again
     mul-starts
-    array-write-starts
+    element-write-starts
     returns)

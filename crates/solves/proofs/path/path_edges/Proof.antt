@@ -1,64 +1,115 @@
+-- `path_edges` meets its contract: turn by turn by BlockLaws `edges-more`, where a body is full by `edges-lost-a` and `edges-lost-b`.
 use native.Mathlib.Omega.{arith}
-use mathlib.Core.Path.{_≡_}
 use Prim.Native.Nat.{_≤_, _-_}
-use Rattle.arith.specs.Flow.{go, loop}
-use Rattle.arith.specs.FlowLaws.{loop-none, loop-end, not-yes, not-no}
-use Rattle.solves.specs.Path.{blockEdges}
-use Rattle.solves.specs.View.{listAt, rowsOf, startsOf, Linking}
-use Rattle.solves.proofs.BlockLaws.{a-body, b-body, edges-yes, edges-no, edges-lost-1, edges-lost-2, edges-more, edge-linked, false-true}
+use Rattle.arith.specs.FlowLaws.{loop-end, not-yes, not-no}
+use Rattle.solves.specs.PathView.{blocksAt}
+use Rattle.solves.proofs.BlockLaws.{row-there, a-body, b-body, EdgesSo, edges-none, edges-yes, edges-no, edges-lost-a, edges-lost-b, edges-more}
+use Rattle.solves.proofs.WalkLaws.{false-true}
 use Rattle.solves.proofs.path.path_edges.Statement.{statement}
 use Rattle.solves.proofs.path.path_edges.Tie as tie
 
 abbrev Inv-loop : tie.InvT-loop
-Inv-loop ia ib edges₀ blocks count k₀ edges k = (k ≤ blocks .count) × (go edges ≡ loop k (blockEdges (listAt ia (rowsOf blocks)) (listAt ib (rowsOf blocks)) (startsOf blocks)) edges₀) × (Linking (blocks .count) edges)
+Inv-loop ia ib starts blocks edges₀ k₀ edges k = (k ≤ blocks) × (EdgesSo ia ib (blocksAt starts blocks) edges₀ k edges)
 
 abbrev μ-loop : tie.MeasureT-loop
-μ-loop ia ib edges₀ blocks count k₀ edges k = blocks .count - k
+μ-loop ia ib starts blocks edges₀ k₀ edges k = blocks - k
 
 loop-holds : tie.Need-loop-holds Inv-loop μ-loop
-loop-holds c = (omega arith, loop-none _ _, c .pre .1)
+loop-holds c = (omega arith, edges-none (c .pre .1))
 
 mul-row : tie.Need-mul-row Inv-loop μ-loop
-mul-row c = omega (arith, c .before .before .pre .0 .inside _ (c .loop-test .taken), c .before .before .pre .0 .most, c .before .before .pre .0 .few)
+mul-row c = omega arith
 
 element-copy-out-row : tie.Need-element-copy-out-row Inv-loop μ-loop
-element-copy-out-row c = omega (arith, c .before .before .pre .0 .inside _ (c .loop-test .taken), c .before .before .pre .0 .most, c .before .before .pre .0 .few)
+element-copy-out-row c = omega arith
 
 mul-add-edge : tie.Need-mul-add-edge Inv-loop μ-loop
-mul-add-edge c = omega (arith, c .before .before .before .before .pre .0 .inside _ (c .before .before .loop-test .taken), c .before .before .before .before .pre .0 .most, c .before .before .before .before .pre .0 .few)
+mul-add-edge c =
+    let at-loop-test = c .before .before in
+    let start = at-loop-test .before .before in
+    omega (arith, row-there (start .pre .0) (at-loop-test .loop-test .taken))
 
 element-copy-out-add-edge : tie.Need-element-copy-out-add-edge Inv-loop μ-loop
-element-copy-out-add-edge c = omega (arith, c .before .before .before .before .pre .0 .inside _ (c .before .before .loop-test .taken), c .before .before .before .before .pre .0 .most, c .before .before .before .before .pre .0 .few)
+element-copy-out-add-edge c =
+    let at-loop-test = c .before .before in
+    let start = at-loop-test .before .before in
+    omega (arith, row-there (start .pre .0) (at-loop-test .loop-test .taken))
 
 add-edge-requires : tie.Need-add-edge-requires Inv-loop μ-loop
-add-edge-requires c κs = a-body (c .before .before .before .before .before .pre .0) (c .before .before .before .loop-test .taken)
+add-edge-requires c κs =
+    let at-loop-test = c .before .before .before in
+    let start = at-loop-test .before .before in
+    a-body (start .pre .0) (at-loop-test .loop-test .taken)
 
 returns : tie.Need-returns Inv-loop μ-loop
-returns c = (edges-lost-1 (c .before .before .before .before .before .before .before .pre .0) _ (c .before .before .before .before .before .before .loop .inv .1) (c .before .before .before .before .before .loop-test .taken) (edges-no (c .before .add-edge .result) (c .before .add-edge .last .0) (c .before .add-edge .ensures) (not-yes _ (c .if1 .taken))), λ e. absurd (false-true e))
+returns c =
+    let at-add-edge = c .before in
+    let at-loop-test = at-add-edge .before .before .before .before in
+    let at-loop = at-loop-test .before in
+    let start = at-loop .before in (
+      edges-lost-a (start .pre .0) (at-loop .loop .inv .1) (at-loop-test .loop-test .taken)
+          (edges-no (at-add-edge .add-edge .result) (at-add-edge .add-edge .last .0) (at-add-edge .add-edge .ensures) (not-yes _ (c .if1 .taken))),
+      λ e. absurd (false-true e),
+    )
 
 mul-add-edge-2 : tie.Need-mul-add-edge-2 Inv-loop μ-loop
-mul-add-edge-2 c = omega (arith, c .before .before .before .before .before .before .before .before .pre .0 .inside _ (c .before .before .before .before .before .before .loop-test .taken), c .before .before .before .before .before .before .before .before .pre .0 .most, c .before .before .before .before .before .before .before .before .pre .0 .few)
+mul-add-edge-2 c =
+    let at-loop-test = c .before .before .before .before .before .before in
+    let start = at-loop-test .before .before in
+    omega (arith, row-there (start .pre .0) (at-loop-test .loop-test .taken))
 
 element-copy-out-add-edge-2 : tie.Need-element-copy-out-add-edge-2 Inv-loop μ-loop
-element-copy-out-add-edge-2 c = omega (arith, c .before .before .before .before .before .before .before .before .pre .0 .inside _ (c .before .before .before .before .before .before .loop-test .taken), c .before .before .before .before .before .before .before .before .pre .0 .most, c .before .before .before .before .before .before .before .before .pre .0 .few)
+element-copy-out-add-edge-2 c =
+    let at-loop-test = c .before .before .before .before .before .before in
+    let start = at-loop-test .before .before in
+    omega (arith, row-there (start .pre .0) (at-loop-test .loop-test .taken))
 
 add-edge-requires-2 : tie.Need-add-edge-requires-2 Inv-loop μ-loop
-add-edge-requires-2 c κs = b-body (c .before .before .before .before .before .before .before .before .before .pre .0) (c .before .before .before .before .before .before .before .loop-test .taken)
+add-edge-requires-2 c κs =
+    let at-row = c .before .before .before .before .before .before in
+    let at-loop-test = at-row .before in
+    let start = at-loop-test .before .before in
+    b-body (start .pre .0) (at-loop-test .loop-test .taken)
 
 returns-2 : tie.Need-returns-2 Inv-loop μ-loop
-returns-2 c = (edges-lost-2 (c .before .before .before .before .before .before .before .before .before .before .before .pre .0) _ (c .before .before .before .before .before .before .before .before .before .before .loop .inv .1) (c .before .before .before .before .before .before .before .before .before .loop-test .taken) (edges-yes (c .before .before .before .before .before .add-edge .result) (c .before .before .before .before .before .add-edge .last .0) (c .before .before .before .before .before .add-edge .ensures) (not-no _ (c .before .before .before .before .if1 .left))) (edges-no (c .before .add-edge2 .result) (c .before .add-edge2 .last .0) (c .before .add-edge2 .ensures) (not-yes _ (c .if2 .taken))), λ e. absurd (false-true e))
+returns-2 c =
+    let at-add-edge2 = c .before in
+    let at-if1 = at-add-edge2 .before .before .before in
+    let at-add-edge = at-if1 .before in
+    let at-loop-test = at-add-edge .before .before .before .before in
+    let at-loop = at-loop-test .before in
+    let start = at-loop .before in (
+      edges-lost-b (start .pre .0) (at-loop .loop .inv .1) (at-loop-test .loop-test .taken)
+          (edges-yes (at-add-edge .add-edge .result) (at-add-edge .add-edge .last .0) (at-add-edge .add-edge .ensures) (not-no _ (at-if1 .if1 .left)))
+          (edges-no (at-add-edge2 .add-edge2 .result) (at-add-edge2 .add-edge2 .last .0) (at-add-edge2 .add-edge2 .ensures)
+          (not-yes _ (c .if2 .taken))),
+      λ e. absurd (false-true e),
+    )
 
 add-k : tie.Need-add-k Inv-loop μ-loop
-add-k c = omega (arith, c .before .before .before .before .before .before .before .before .before .loop-test .taken, c .before .before .before .before .before .before .before .before .before .before .before .pre .0 .inside _ (c .before .before .before .before .before .before .before .before .before .loop-test .taken), c .before .before .before .before .before .before .before .before .before .before .before .pre .0 .most, c .before .before .before .before .before .before .before .before .before .before .before .pre .0 .few)
+add-k c = omega arith
 
 loop-less : tie.Need-loop-less Inv-loop μ-loop
-loop-less c = omega (arith, c .before .before .before .before .before .before .before .before .before .loop-test .taken)
+loop-less c = omega arith
 
 loop-again : tie.Need-loop-again Inv-loop μ-loop
-loop-again c = (omega (arith, c .before .before .before .before .before .before .before .before .before .loop-test .taken), edges-more (c .before .before .before .before .before .before .before .before .before .before .before .pre .0) _ (c .before .before .before .before .before .before .before .before .before .before .loop .inv .1) (c .before .before .before .before .before .before .before .before .before .loop-test .taken) (edges-yes (c .before .before .before .before .before .add-edge .result) (c .before .before .before .before .before .add-edge .last .0) (c .before .before .before .before .before .add-edge .ensures) (not-no _ (c .before .before .before .before .if1 .left))) (edges-yes (c .before .add-edge2 .result) (c .before .add-edge2 .last .0) (c .before .add-edge2 .ensures) (not-no _ (c .if2 .left))), edge-linked _ _ _ _ (c .before .before .before .before .before .before .before .before .before .loop-test .taken) (omega (arith, c .before .before .before .before .before .before .before .before .before .before .before .pre .0 .inside _ (c .before .before .before .before .before .before .before .before .before .loop-test .taken), c .before .before .before .before .before .before .before .before .before .before .before .pre .0 .most, c .before .before .before .before .before .before .before .before .before .before .before .pre .0 .few)) (b-body (c .before .before .before .before .before .before .before .before .before .before .before .pre .0) (c .before .before .before .before .before .before .before .before .before .loop-test .taken)) (edge-linked _ _ _ _ (c .before .before .before .before .before .before .before .before .before .loop-test .taken) (omega (arith, c .before .before .before .before .before .before .before .before .before .before .before .pre .0 .inside _ (c .before .before .before .before .before .before .before .before .before .loop-test .taken), c .before .before .before .before .before .before .before .before .before .before .before .pre .0 .most, c .before .before .before .before .before .before .before .before .before .before .before .pre .0 .few)) (a-body (c .before .before .before .before .before .before .before .before .before .before .before .pre .0) (c .before .before .before .before .before .before .before .before .before .loop-test .taken)) (c .before .before .before .before .before .before .before .before .before .before .loop .inv .2) (edges-yes (c .before .before .before .before .before .add-edge .result) (c .before .before .before .before .before .add-edge .last .0) (c .before .before .before .before .before .add-edge .ensures) (not-no _ (c .before .before .before .before .if1 .left)))) (edges-yes (c .before .add-edge2 .result) (c .before .add-edge2 .last .0) (c .before .add-edge2 .ensures) (not-no _ (c .if2 .left))))
+loop-again c =
+    let at-add-edge2 = c .before in
+    let at-if1 = at-add-edge2 .before .before .before in
+    let at-add-edge = at-if1 .before in
+    let at-loop-test = at-add-edge .before .before .before .before in
+    let at-loop = at-loop-test .before in
+    let start = at-loop .before in (
+      omega arith,
+      edges-more (start .pre .0) (at-loop .loop .inv .1) (at-loop-test .loop-test .taken)
+          (edges-yes (at-add-edge .add-edge .result) (at-add-edge .add-edge .last .0) (at-add-edge .add-edge .ensures) (not-no _ (at-if1 .if1 .left)))
+          (edges-yes (at-add-edge2 .add-edge2 .result) (at-add-edge2 .add-edge2 .last .0) (at-add-edge2 .add-edge2 .ensures) (not-no _ (c .if2 .left))),
+    )
 
 returns-3 : tie.Need-returns-3 Inv-loop μ-loop
-returns-3 c = (loop-end _ _ (c .before .loop .inv .0) (c .loop-test .left) (c .before .loop .inv .1), λ e. c .before .loop .inv .2)
+returns-3 c =
+    let at-loop = c .before in
+    (loop-end _ _ (at-loop .loop .inv .0) (c .loop-test .left) (at-loop .loop .inv .1 .is), λ e. at-loop .loop .inv .1 .links)
 
 pub path-edges-spec : {M : Type 1} → statement M
 path-edges-spec =

@@ -30,10 +30,18 @@ clear-requires : tie.Need-clear-requires Inv-loop μ-loop
 clear-requires c κs = omega arith
 
 loop-holds : tie.Need-loop-holds Inv-loop μ-loop
-loop-holds c = (omega arith, refl, rows-none (c .before .before .before .before .before .pre .0) (now (c .before .before .before .before .before .args .order)) _)
+loop-holds c =
+    let start = c .before .before .before .before .before in
+    (omega arith, refl, rows-none (start .pre .0) (now (start .args .order)) _)
 
 path-row-requires : tie.Need-path-row-requires Inv-loop μ-loop
-path-row-requires c κs = (rows-kept (c .before .before .before .before .before .before .before .before .pre .0) (c .before .before .loop .inv .1 ∙ c .before .before .before .before .before .clear .ensures .kept .size), c .before .before .before .before .before .before .before .before .pre .1, c .before .loop-test .taken)
+path-row-requires c κs =
+    let at-loop-test = c .before in
+    let at-loop = at-loop-test .before in
+    let at-clear = at-loop .before .before .before in
+    let start = at-clear .before .before .before in
+    let pre = start .pre in
+    (rows-kept (pre .0) (at-loop .loop .inv .1 ∙ at-clear .clear .ensures .kept .size), pre .1, at-loop-test .loop-test .taken)
 
 enum-told : tie.Need-enum-told Inv-loop μ-loop
 enum-told c = search needs
@@ -42,34 +50,85 @@ enum-told-2 : tie.Need-enum-told-2 Inv-loop μ-loop
 enum-told-2 c = search needs
 
 same-length : tie.Need-same-length Inv-loop μ-loop
-same-length c = c .before .before .before .before .path-row .ensures .kept .size ∙ c .before .before .before .before .before .before .before .loop .inv .1 ∙ c .before .before .before .before .before .before .before .before .before .before .clear .ensures .kept .size
+same-length c =
+    let at-path-row = c .before .before .before .before in
+    let at-loop = at-path-row .before .before .before in
+    let at-clear = at-loop .before .before .before in
+    at-path-row .path-row .ensures .kept .size ∙ at-loop .loop .inv .1 ∙ at-clear .clear .ensures .kept .size
 
 returns : tie.Need-returns Inv-loop μ-loop
-returns c = factor-from (c .before .before .before .before .before .before .before .before .before .before .before .before .before .pre .0) (now (c .before .before .before .before .before .before .before .before .before .before .before .before .before .args .order)) _ (c .before .before .before .before .before .before .before .before .before .before .clear .ensures) (rows-stop (c .before .before .before .before .before .before .before .before .before .before .before .before .before .pre .0) (now (c .before .before .before .before .before .before .before .before .before .before .before .before .before .args .order)) _ (c .before .before .before .before .before .before .before .loop .i) (c .before .before .before .before .before .before .before .loop .inv .2) (c .before .before .before .before .before .before .loop-test .taken) (does-as (λ (q : Part). partAs q (bandAt (c .before .before .before .before .path-row .last .0) (c .before .before .before .before .before .before .before .before .before .before .before .before .before .args .n))) (c .enum-told2 .given .1) (c .before .before .before .before .path-row .ensures)))
+returns c =
+    let at-path-row = c .before .before .before .before in
+    let at-loop-test = at-path-row .before .before in
+    let at-loop = at-loop-test .before in
+    let at-clear = at-loop .before .before .before in
+    let start = at-clear .before .before .before in
+    let args = start .args in
+    let pre = start .pre in
+    factor-from (pre .0) (now (args .order)) _ (at-clear .clear .ensures)
+    (rows-stop (pre .0) (now (args .order)) _ (at-loop .loop .i) (at-loop .loop .inv .2) (at-loop-test .loop-test .taken)
+    (does-as (λ (q : Part). partAs q (bandAt (at-path-row .path-row .last .0) (args .n))) (c .enum-told2 .given .1)
+    (at-path-row .path-row .ensures)))
 
 enum-told-3 : tie.Need-enum-told-3 Inv-loop μ-loop
 enum-told-3 c = search needs
 
 same-length-2 : tie.Need-same-length-2 Inv-loop μ-loop
-same-length-2 c = c .before .before .before .before .path-row .ensures .kept .size ∙ c .before .before .before .before .before .before .before .loop .inv .1 ∙ c .before .before .before .before .before .before .before .before .before .before .clear .ensures .kept .size
+same-length-2 c =
+    let at-path-row = c .before .before .before .before in
+    let at-loop = at-path-row .before .before .before in
+    let at-clear = at-loop .before .before .before in
+    at-path-row .path-row .ensures .kept .size ∙ at-loop .loop .inv .1 ∙ at-clear .clear .ensures .kept .size
 
 returns-2 : tie.Need-returns-2 Inv-loop μ-loop
-returns-2 c = factor-from (c .before .before .before .before .before .before .before .before .before .before .before .before .before .pre .0) (now (c .before .before .before .before .before .before .before .before .before .before .before .before .before .args .order)) _ (c .before .before .before .before .before .before .before .before .before .before .clear .ensures) (rows-stop (c .before .before .before .before .before .before .before .before .before .before .before .before .before .pre .0) (now (c .before .before .before .before .before .before .before .before .before .before .before .before .before .args .order)) _ (c .before .before .before .before .before .before .before .loop .i) (c .before .before .before .before .before .before .before .loop .inv .2) (c .before .before .before .before .before .before .loop-test .taken) (does-as (λ (q : Part). partAs q (bandAt (c .before .before .before .before .path-row .last .0) (c .before .before .before .before .before .before .before .before .before .before .before .before .before .args .n))) (c .enum-told3 .given .1) (c .before .before .before .before .path-row .ensures)))
+returns-2 c =
+    let at-path-row = c .before .before .before .before in
+    let at-loop-test = at-path-row .before .before in
+    let at-loop = at-loop-test .before in
+    let at-clear = at-loop .before .before .before in
+    let start = at-clear .before .before .before in
+    let args = start .args in
+    let pre = start .pre in
+    factor-from (pre .0) (now (args .order)) _ (at-clear .clear .ensures)
+    (rows-stop (pre .0) (now (args .order)) _ (at-loop .loop .i) (at-loop .loop .inv .2) (at-loop-test .loop-test .taken)
+    (does-as (λ (q : Part). partAs q (bandAt (at-path-row .path-row .last .0) (args .n))) (c .enum-told3 .given .1)
+    (at-path-row .path-row .ensures)))
 
 add-i : tie.Need-add-i Inv-loop μ-loop
-add-i c = omega (arith, c .before .before .before .before .before .before .loop-test .taken, c .before .before .before .before .before .before .before .before .before .before .before .before .before .pre .0 .most)
+add-i c = omega arith
 
 loop-less : tie.Need-loop-less Inv-loop μ-loop
-loop-less c = omega (arith, c .before .before .before .before .before .before .loop-test .taken)
+loop-less c = omega arith
 
 loop-again : tie.Need-loop-again Inv-loop μ-loop
-loop-again c = (omega (arith, c .before .before .before .before .before .before .loop-test .taken), c .before .before .before .before .path-row .ensures .kept .size ∙ c .before .before .before .before .before .before .before .loop .inv .1, rows-more (c .before .before .before .before .before .before .before .before .before .before .before .before .before .pre .0) (now (c .before .before .before .before .before .before .before .before .before .before .before .before .before .args .order)) _ (c .before .before .before .before .before .before .before .loop .i) (c .before .before .before .before .before .before .before .loop .inv .2) (does-as (λ (q : Part). partAs q (bandAt (c .before .before .before .before .path-row .last .0) (c .before .before .before .before .before .before .before .before .before .before .before .before .before .args .n))) (c .enum-told .given .1) (c .before .before .before .before .path-row .ensures)))
+loop-again c =
+    let at-path-row = c .before .before .before .before in
+    let at-loop-test = at-path-row .before .before in
+    let at-loop = at-loop-test .before in
+    let start = at-loop .before .before .before .before .before .before in
+    let args = start .args in (
+      omega (arith, at-loop-test .loop-test .taken),
+      at-path-row .path-row .ensures .kept .size ∙ at-loop .loop .inv .1,
+      rows-more (start .pre .0) (now (args .order)) _ (at-loop .loop .i) (at-loop .loop .inv .2)
+          (does-as (λ (q : Part). partAs q (bandAt (at-path-row .path-row .last .0) (args .n))) (c .enum-told .given .1)
+          (at-path-row .path-row .ensures)),
+    )
 
 same-length-3 : tie.Need-same-length-3 Inv-loop μ-loop
-same-length-3 c = c .before .loop .inv .1 ∙ c .before .before .before .before .clear .ensures .kept .size
+same-length-3 c =
+    let at-loop = c .before in
+    let at-clear = at-loop .before .before .before in
+    at-loop .loop .inv .1 ∙ at-clear .clear .ensures .kept .size
 
 returns-3 : tie.Need-returns-3 Inv-loop μ-loop
-returns-3 c = factor-from (c .before .before .before .before .before .before .before .pre .0) (now (c .before .before .before .before .before .before .before .args .order)) _ (c .before .before .before .before .clear .ensures) (rows-end (c .before .before .before .before .before .before .before .pre .0) (now (c .before .before .before .before .before .before .before .args .order)) _ (c .before .loop .inv .2) (c .before .loop .inv .0) (c .loop-test .left))
+returns-3 c =
+    let at-loop = c .before in
+    let at-clear = at-loop .before .before .before in
+    let start = at-clear .before .before .before in
+    let args = start .args in
+    let pre = start .pre in
+    factor-from (pre .0) (now (args .order)) _ (at-clear .clear .ensures)
+    (rows-end (pre .0) (now (args .order)) _ (at-loop .loop .inv .2) (at-loop .loop .inv .0) (c .loop-test .left))
 
 pub path-factor-spec : {M : Type 1} → statement M
 path-factor-spec =

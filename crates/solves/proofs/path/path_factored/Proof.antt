@@ -13,13 +13,20 @@ use Rattle.solves.proofs.path.path_factored.Statement.{statement}
 use Rattle.solves.proofs.path.path_factored.Tie as tie
 
 path-scale-requires : tie.Need-path-scale-requires
-path-scale-requires c κs = (c .before .before .pre .0, c .before .before .pre .1)
+path-scale-requires c κs =
+    let start = c .before .before in
+    let pre = start .pre in
+    (pre .0, pre .1)
 
 enum-told : tie.Need-enum-told
 enum-told c = search needs
 
 path-factor-requires : tie.Need-path-factor-requires
-path-factor-requires c κs = (rows-kept (c .before .before .before .before .before .before .before .before .pre .0) (c .before .before .before .before .before .path-scale .ensures .kept .size), c .before .before .before .before .before .before .before .before .pre .1)
+path-factor-requires c κs =
+    let at-path-scale = c .before .before .before .before .before in
+    let start = at-path-scale .before .before .before in
+    let pre = start .pre in
+    (rows-kept (pre .0) (at-path-scale .path-scale .ensures .kept .size), pre .1)
 
 enum-told-2 : tie.Need-enum-told-2
 enum-told-2 c = search needs
@@ -28,22 +35,45 @@ enum-told-3 : tie.Need-enum-told-3
 enum-told-3 c = search needs
 
 same-length : tie.Need-same-length
-same-length c = c .before .before .path-factor .ensures .kept .size ∙ c .before .before .before .before .before .before .before .before .path-scale .ensures .kept .size
+same-length c =
+    let at-path-factor = c .before .before in
+    let at-path-scale = at-path-factor .before .before .before .before .before .before in
+    at-path-factor .path-factor .ensures .kept .size ∙ at-path-scale .path-scale .ensures .kept .size
 
 returns : tie.Need-returns
-returns c = factored-on (c .before .before .before .before .before .before .before .before .before .before .before .pre .0) (now (c .before .before .before .before .before .before .before .before .before .before .before .args .order)) (does-as (λ (q : Part). partAs q (vecAt (c .before .before .before .before .before .before .before .before .path-scale .last .0) PATH-SCALE (c .before .before .before .before .before .before .before .before .before .before .before .args .n))) (c .before .before .before .before .enum-told .given .1) (c .before .before .before .before .before .before .before .before .path-scale .ensures)) (c .before .before .path-factor .result) (c .before .before .path-factor .ensures)
+returns c =
+    let at-path-factor = c .before .before in
+    let at-enum-told = at-path-factor .before .before in
+    let at-path-scale = at-enum-told .before .before .before .before in
+    let start = at-path-scale .before .before .before in
+    let args = start .args in
+    factored-on (start .pre .0) (now (args .order))
+    (does-as (λ (q : Part). partAs q (vecAt (at-path-scale .path-scale .last .0) PATH-SCALE (args .n))) (at-enum-told .enum-told .given .1)
+    (at-path-scale .path-scale .ensures)) (at-path-factor .path-factor .result) (at-path-factor .path-factor .ensures)
 
 same-length-2 : tie.Need-same-length-2
 same-length-2 c = search needs
 
 returns-2 : tie.Need-returns-2
-returns-2 c = factored-1 (c .before .before .before .before .before .before .before .pre .0) (now (c .before .before .before .before .before .before .before .args .order)) (does-as (λ (q : Part). partAs q (vecAt (c .before .before .before .before .path-scale .last .0) PATH-SCALE (c .before .before .before .before .before .before .before .args .n))) (c .enum-told2 .given .1) (c .before .before .before .before .path-scale .ensures))
+returns-2 c =
+    let at-path-scale = c .before .before .before .before in
+    let start = at-path-scale .before .before .before in
+    let args = start .args in
+    factored-1 (start .pre .0) (now (args .order))
+    (does-as (λ (q : Part). partAs q (vecAt (at-path-scale .path-scale .last .0) PATH-SCALE (args .n))) (c .enum-told2 .given .1)
+    (at-path-scale .path-scale .ensures))
 
 same-length-3 : tie.Need-same-length-3
 same-length-3 c = search needs
 
 returns-3 : tie.Need-returns-3
-returns-3 c = factored-1 (c .before .before .before .before .before .before .before .pre .0) (now (c .before .before .before .before .before .before .before .args .order)) (does-as (λ (q : Part). partAs q (vecAt (c .before .before .before .before .path-scale .last .0) PATH-SCALE (c .before .before .before .before .before .before .before .args .n))) (c .enum-told3 .given .1) (c .before .before .before .before .path-scale .ensures))
+returns-3 c =
+    let at-path-scale = c .before .before .before .before in
+    let start = at-path-scale .before .before .before in
+    let args = start .args in
+    factored-1 (start .pre .0) (now (args .order))
+    (does-as (λ (q : Part). partAs q (vecAt (at-path-scale .path-scale .last .0) PATH-SCALE (args .n))) (c .enum-told3 .given .1)
+    (at-path-scale .path-scale .ensures))
 
 pub path-factored-spec : {M : Type 1} → statement M
 path-factored-spec =

@@ -1,9 +1,8 @@
--- `path_order` meets its contract: by the laws of the path's integers, from what blocks, edges and walks gave. Where there is no path the answer is `noPath`.
+-- `path_order` meets its contract: by WalkLaws from what blocks, edges and walks gave. Where there is no path the answer is `noPath`.
 use borrow.Author.Needs.{needs}
-use mathlib.Core.Path.{sym, _∙_}
-use denote.Ref.{now}
 use Rattle.arith.specs.FlowLaws.{not-yes, not-no}
-use Rattle.solves.proofs.BlockLaws.{linked-none, edges-yes, edges-no, order-declined, order-found, order-short, order-lost, order-along, no-path-is, false-true}
+use Rattle.solves.proofs.BlockLaws.{linked-none, edges-yes, edges-no}
+use Rattle.solves.proofs.WalkLaws.{listed-none, order-declined, order-lost, order-short, order-found, no-path-is}
 use Rattle.solves.proofs.path.path_order.Statement.{statement}
 use Rattle.solves.proofs.path.path_order.Tie as tie
 
@@ -11,70 +10,70 @@ path-blocks-requires : tie.Need-path-blocks-requires
 path-blocks-requires c κs = search needs
 
 path-edges-requires : tie.Need-path-edges-requires
-path-edges-requires c κs = (c .before .path-blocks .ensures .0, linked-none _)
+path-edges-requires c κs =
+    let at-path-blocks = c .before .before in
+    (at-path-blocks .path-blocks .ensures .are, linked-none _)
 
 no-path-requires : tie.Need-no-path-requires
 no-path-requires c κs = search needs
 
 returns : tie.Need-returns
 returns c =
-    let at-edges = c .before .before in
-    let at-blocks = at-edges .before .before in
-    let args = at-blocks .before .args in
+    let at-if1 = c .before in
+    let at-path-edges = at-if1 .before in
+    let at-path-blocks = at-path-edges .before .before .before in
     no-path-is (c .no-path .ensures)
-    (order-declined (now (args .ia)) (now (args .ib)) (args .n) (at-blocks .path-blocks .ensures)
-    (edges-no (at-edges .path-edges .result) _ (at-edges .path-edges .ensures .0) (not-yes _ (c .before .if1 .taken))))
+    (order-declined (at-path-blocks .path-blocks .ensures)
+    (edges-no (at-path-edges .path-edges .result) _ (at-path-edges .path-edges .ensures .0) (not-yes _ (at-if1 .if1 .taken))))
 
 path-walks-requires : tie.Need-path-walks-requires
 path-walks-requires c κs =
-    let at-edges = c .before .before in
-    (at-edges .before .before .path-blocks .ensures .0, at-edges .path-edges .ensures .1 (not-no _ (c .before .if1 .left)))
+    let at-if1 = c .before .before .before in
+    let at-path-edges = at-if1 .before in
+    let at-path-blocks = at-path-edges .before .before .before in
+    (at-path-blocks .path-blocks .ensures .are, at-path-edges .path-edges .ensures .1 (not-no _ (at-if1 .if1 .left)), listed-none _)
 
 no-path-requires-2 : tie.Need-no-path-requires-2
 no-path-requires-2 c κs = search needs
 
 returns-2 : tie.Need-returns-2
 returns-2 c =
-    let at-walks = c .before .before .before in
-    let at-if1 = at-walks .before .before in
-    let at-edges = at-if1 .before in
-    let at-blocks = at-edges .before .before in
-    let args = at-blocks .before .args in
+    let at-if2 = c .before in
+    let at-path-walks = at-if2 .before .before in
+    let at-if1 = at-path-walks .before .before .before .before in
+    let at-path-edges = at-if1 .before in
+    let at-path-blocks = at-path-edges .before .before .before in
     no-path-is (c .no-path2 .ensures)
-    (order-lost (now (args .ia)) (now (args .ib)) (args .n) (at-blocks .path-blocks .ensures)
-    (edges-yes (at-edges .path-edges .result) _ (at-edges .path-edges .ensures .0) (not-no _ (at-if1 .if1 .left)))
-    (at-walks .path-walks .result) (at-walks .path-walks .ensures .0) (not-yes _ (c .before .if2 .taken)))
+    (order-lost (at-path-blocks .path-blocks .ensures)
+    (edges-yes (at-path-edges .path-edges .result) _ (at-path-edges .path-edges .ensures .0) (not-no _ (at-if1 .if1 .left)))
+    (at-path-walks .path-walks .ensures) (not-yes _ (at-if2 .if2 .taken)))
 
 returns-3 : tie.Need-returns-3
 returns-3 c =
-    let at-if2 = c .before .before .before in
-    let at-walks = at-if2 .before .before in
-    let at-if1 = at-walks .before .before in
-    let at-edges = at-if1 .before in
-    let at-blocks = at-edges .before .before in
-    let args = at-blocks .before .args in (
-      order-found (now (args .ia)) (now (args .ib)) (args .n) (at-blocks .path-blocks .ensures)
-      (edges-yes (at-edges .path-edges .result) _ (at-edges .path-edges .ensures .0) (not-no _ (at-if1 .if1 .left)))
-      (at-walks .path-walks .result) (at-walks .path-walks .ensures .0) (c .if3 .taken),
-      λ e. order-along (now (args .ia)) (now (args .ib)) (args .n) (at-blocks .path-blocks .ensures) (c .if3 .taken) (at-walks .path-walks .ensures .1 e),
-      λ e. absurd (false-true (sym e ∙ not-no _ (at-if2 .if2 .left))),
-    )
+    let at-if2 = c .before .before in
+    let at-path-walks = at-if2 .before .before in
+    let at-if1 = at-path-walks .before .before .before .before in
+    let at-path-edges = at-if1 .before in
+    let at-path-blocks = at-path-edges .before .before .before in
+    order-found (at-path-blocks .path-blocks .ensures)
+    (edges-yes (at-path-edges .path-edges .result) _ (at-path-edges .path-edges .ensures .0) (not-no _ (at-if1 .if1 .left)))
+    (at-path-walks .path-walks .ensures) (not-no _ (at-if2 .if2 .left)) (c .if3 .taken)
 
 no-path-requires-3 : tie.Need-no-path-requires-3
 no-path-requires-3 c κs = search needs
 
 returns-4 : tie.Need-returns-4
 returns-4 c =
-    let at-if2 = c .before .before .before .before in
-    let at-walks = at-if2 .before .before in
-    let at-if1 = at-walks .before .before in
-    let at-edges = at-if1 .before in
-    let at-blocks = at-edges .before .before in
-    let args = at-blocks .before .args in
+    let at-if3 = c .before in
+    let at-if2 = at-if3 .before .before in
+    let at-path-walks = at-if2 .before .before in
+    let at-if1 = at-path-walks .before .before .before .before in
+    let at-path-edges = at-if1 .before in
+    let at-path-blocks = at-path-edges .before .before .before in
     no-path-is (c .no-path3 .ensures)
-    (order-short (now (args .ia)) (now (args .ib)) (args .n) (at-blocks .path-blocks .ensures)
-    (edges-yes (at-edges .path-edges .result) _ (at-edges .path-edges .ensures .0) (not-no _ (at-if1 .if1 .left)))
-    (at-walks .path-walks .result) (at-walks .path-walks .ensures .0) (c .before .if3 .left))
+    (order-short (at-path-blocks .path-blocks .ensures)
+    (edges-yes (at-path-edges .path-edges .result) _ (at-path-edges .path-edges .ensures .0) (not-no _ (at-if1 .if1 .left)))
+    (at-path-walks .path-walks .ensures) (not-no _ (at-if2 .if2 .left)) (at-if3 .if3 .left))
 
 pub path-order-spec : {M : Type 1} → statement M
 path-order-spec =

@@ -27,13 +27,25 @@ band-start-requires : tie.Need-band-start-requires Inv-loop μ-loop
 band-start-requires c κs = search needs
 
 add-j-end : tie.Need-add-j-end Inv-loop μ-loop
-add-j-end c = omega (arith, c .before .before .pre .2, c .before .before .pre .0 .most)
+add-j-end c = omega arith
 
 loop-holds : tie.Need-loop-holds Inv-loop μ-loop
-loop-holds c = (omega (arith, c .band-start .ensures), omega (arith, c .band-start .ensures), refl, does-eq refl (entries-start (c .before .before .pre .0) (now (c .before .before .args .order)) (c .before .before .args .i) _ (c .band-start .ensures)))
+loop-holds c =
+    let start = c .before .before in
+    let args = start .args in (
+      omega (arith, c .band-start .ensures),
+      omega (arith, c .band-start .ensures),
+      refl,
+      does-eq refl (entries-start (start .pre .0) (now (args .order)) (args .i) _ (c .band-start .ensures)),
+    )
 
 path-entry-requires : tie.Need-path-entry-requires Inv-loop μ-loop
-path-entry-requires c κs = (rows-kept (c .before .before .before .before .before .pre .0) (c .before .before .loop .inv .2), c .before .before .before .before .before .pre .1, c .before .before .before .before .before .pre .2, omega (arith, c .before .loop-test .taken), omega (arith, c .before .before .loop .inv .0))
+path-entry-requires c κs =
+    let at-loop-test = c .before in
+    let at-loop = at-loop-test .before in
+    let start = at-loop .before .before .before in
+    let pre = start .pre in
+    (rows-kept (pre .0) (at-loop .loop .inv .2), pre .1, pre .2, omega (arith, at-loop-test .loop-test .taken), omega (arith, at-loop .loop .inv .0))
 
 enum-told : tie.Need-enum-told Inv-loop μ-loop
 enum-told c = search needs
@@ -42,34 +54,74 @@ enum-told-2 : tie.Need-enum-told-2 Inv-loop μ-loop
 enum-told-2 c = search needs
 
 same-length : tie.Need-same-length Inv-loop μ-loop
-same-length c = c .before .before .before .before .path-entry .ensures .kept .size ∙ c .before .before .before .before .before .before .before .loop .inv .2
+same-length c =
+    let at-path-entry = c .before .before .before .before in
+    let at-loop = at-path-entry .before .before .before in
+    at-path-entry .path-entry .ensures .kept .size ∙ at-loop .loop .inv .2
 
 returns : tie.Need-returns Inv-loop μ-loop
-returns c = entries-stop (c .before .before .before .before .before .before .before .before .before .before .pre .0) (now (c .before .before .before .before .before .before .before .before .before .before .args .order)) (c .before .before .before .before .before .before .before .before .before .before .args .i) _ (c .before .before .before .before .before .before .before .loop .inv .3) (c .before .before .before .before .before .before .before .loop .inv .0) (c .before .before .before .before .before .before .loop-test .taken) (does-as (λ (q : Part). partAs q (bandAt (c .before .before .before .before .path-entry .last .0) (c .before .before .before .before .before .before .before .before .before .before .args .n))) (c .enum-told2 .given .1) (c .before .before .before .before .path-entry .ensures))
+returns c =
+    let at-path-entry = c .before .before .before .before in
+    let at-loop-test = at-path-entry .before .before in
+    let at-loop = at-loop-test .before in
+    let start = at-loop .before .before .before in
+    let args = start .args in
+    entries-stop (start .pre .0) (now (args .order)) (args .i) _ (at-loop .loop .inv .3) (at-loop .loop .inv .0) (at-loop-test .loop-test .taken)
+    (does-as (λ (q : Part). partAs q (bandAt (at-path-entry .path-entry .last .0) (args .n))) (c .enum-told2 .given .1)
+    (at-path-entry .path-entry .ensures))
 
 enum-told-3 : tie.Need-enum-told-3 Inv-loop μ-loop
 enum-told-3 c = search needs
 
 same-length-2 : tie.Need-same-length-2 Inv-loop μ-loop
-same-length-2 c = c .before .before .before .before .path-entry .ensures .kept .size ∙ c .before .before .before .before .before .before .before .loop .inv .2
+same-length-2 c =
+    let at-path-entry = c .before .before .before .before in
+    let at-loop = at-path-entry .before .before .before in
+    at-path-entry .path-entry .ensures .kept .size ∙ at-loop .loop .inv .2
 
 returns-2 : tie.Need-returns-2 Inv-loop μ-loop
-returns-2 c = entries-stop (c .before .before .before .before .before .before .before .before .before .before .pre .0) (now (c .before .before .before .before .before .before .before .before .before .before .args .order)) (c .before .before .before .before .before .before .before .before .before .before .args .i) _ (c .before .before .before .before .before .before .before .loop .inv .3) (c .before .before .before .before .before .before .before .loop .inv .0) (c .before .before .before .before .before .before .loop-test .taken) (does-as (λ (q : Part). partAs q (bandAt (c .before .before .before .before .path-entry .last .0) (c .before .before .before .before .before .before .before .before .before .before .args .n))) (c .enum-told3 .given .1) (c .before .before .before .before .path-entry .ensures))
+returns-2 c =
+    let at-path-entry = c .before .before .before .before in
+    let at-loop-test = at-path-entry .before .before in
+    let at-loop = at-loop-test .before in
+    let start = at-loop .before .before .before in
+    let args = start .args in
+    entries-stop (start .pre .0) (now (args .order)) (args .i) _ (at-loop .loop .inv .3) (at-loop .loop .inv .0) (at-loop-test .loop-test .taken)
+    (does-as (λ (q : Part). partAs q (bandAt (at-path-entry .path-entry .last .0) (args .n))) (c .enum-told3 .given .1)
+    (at-path-entry .path-entry .ensures))
 
 add-j : tie.Need-add-j Inv-loop μ-loop
-add-j c = omega (arith, c .before .before .before .before .before .before .loop-test .taken, c .before .before .before .before .before .before .before .before .before .before .pre .2, c .before .before .before .before .before .before .before .before .before .before .pre .0 .most)
+add-j c = omega arith
 
 loop-less : tie.Need-loop-less Inv-loop μ-loop
-loop-less c = omega (arith, c .before .before .before .before .before .before .loop-test .taken)
+loop-less c = omega arith
 
 loop-again : tie.Need-loop-again Inv-loop μ-loop
-loop-again c = (omega (arith, c .before .before .before .before .before .before .before .loop .inv .0), omega (arith, c .before .before .before .before .before .before .loop-test .taken), c .before .before .before .before .path-entry .ensures .kept .size ∙ c .before .before .before .before .before .before .before .loop .inv .2, entries-more (c .before .before .before .before .before .before .before .before .before .before .pre .0) (now (c .before .before .before .before .before .before .before .before .before .before .args .order)) (c .before .before .before .before .before .before .before .before .before .before .args .i) _ (c .before .before .before .before .before .before .before .loop .inv .3) (c .before .before .before .before .before .before .before .loop .inv .0) (does-as (λ (q : Part). partAs q (bandAt (c .before .before .before .before .path-entry .last .0) (c .before .before .before .before .before .before .before .before .before .before .args .n))) (c .enum-told .given .1) (c .before .before .before .before .path-entry .ensures)))
+loop-again c =
+    let at-path-entry = c .before .before .before .before in
+    let at-loop-test = at-path-entry .before .before in
+    let at-loop = at-loop-test .before in
+    let start = at-loop .before .before .before in
+    let args = start .args in (
+      omega (arith, at-loop .loop .inv .0),
+      omega (arith, at-loop-test .loop-test .taken),
+      at-path-entry .path-entry .ensures .kept .size ∙ at-loop .loop .inv .2,
+      entries-more (start .pre .0) (now (args .order)) (args .i) _ (at-loop .loop .inv .3) (at-loop .loop .inv .0)
+          (does-as (λ (q : Part). partAs q (bandAt (at-path-entry .path-entry .last .0) (args .n))) (c .enum-told .given .1)
+          (at-path-entry .path-entry .ensures)),
+    )
 
 same-length-3 : tie.Need-same-length-3 Inv-loop μ-loop
-same-length-3 c = c .before .loop .inv .2
+same-length-3 c =
+    let at-loop = c .before in
+    at-loop .loop .inv .2
 
 returns-3 : tie.Need-returns-3 Inv-loop μ-loop
-returns-3 c = entries-end (c .before .before .before .before .pre .0) (now (c .before .before .before .before .args .order)) (c .before .before .before .before .args .i) _ (c .before .loop .inv .3) (c .before .loop .inv .1) (c .loop-test .left)
+returns-3 c =
+    let at-loop = c .before in
+    let start = at-loop .before .before .before in
+    let args = start .args in
+    entries-end (start .pre .0) (now (args .order)) (args .i) _ (at-loop .loop .inv .3) (at-loop .loop .inv .1) (c .loop-test .left)
 
 pub path-row-spec : {M : Type 1} → statement M
 path-row-spec =

@@ -23,19 +23,45 @@ abbrev μ-loop : tie.MeasureT-loop
 μ-loop s₀ ia ib rows order n count i₀ s i = n - i
 
 loop-holds : tie.Need-loop-holds Inv-loop μ-loop
-loop-holds c = (omega arith, refl, scales-none (c .before .pre .0) (now (c .before .args .order)) (c .before .pre .1) _)
+loop-holds c =
+    let start = c .before in
+    let pre = start .pre in
+    (omega arith, refl, scales-none (pre .0) (now (start .args .order)) (pre .1) _)
 
 mul-load-row : tie.Need-mul-load-row Inv-loop μ-loop
-mul-load-row c = omega (arith, c .before .before .before .before .pre .0 .whole, c .before .before .before .before .pre .0 .most, c .before .before .before .before .pre .0 .table, c .before .before .loop .inv .1, c .before .loop-test .taken)
+mul-load-row c = omega arith
 
 element-copy-out-load-row : tie.Need-element-copy-out-load-row Inv-loop μ-loop
-element-copy-out-load-row c = omega (arith, c .before .before .before .before .pre .0 .whole, c .before .before .before .before .pre .0 .most, c .before .before .before .before .pre .0 .table, c .before .before .loop .inv .1, c .before .loop-test .taken)
+element-copy-out-load-row c = omega arith
 
 load-row-requires : tie.Need-load-row-requires Inv-loop μ-loop
-load-row-requires c κs = omega (arith, c .before .before .before .before .before .pre .1 (c .before .before .before .loop .i) (c .before .before .loop-test .taken), c .before .before .before .before .before .pre .0 .whole, c .before .before .before .before .before .pre .0 .most, c .before .before .before .before .before .pre .0 .table, c .before .before .before .loop .inv .1, c .before .before .loop-test .taken)
+load-row-requires c κs =
+    let at-loop-test = c .before .before in
+    let at-loop = at-loop-test .before in
+    let start = at-loop .before .before in
+    let pre = start .pre in
+    omega (
+      arith,
+      pre .1 (at-loop .loop .i) (at-loop-test .loop-test .taken),
+      pre .0 .whole,
+      pre .0 .most,
+      pre .0 .table,
+      at-loop .loop .inv .1,
+      at-loop-test .loop-test .taken,
+    )
 
 cross-mass-requires : tie.Need-cross-mass-requires Inv-loop μ-loop
-cross-mass-requires c κs = (omega (arith, c .before .before .before .before .before .before .before .pre .0 .whole, c .before .before .before .before .before .before .before .pre .0 .most, c .before .before .before .before .before .before .before .pre .0 .table, c .before .before .before .before .before .loop .inv .1, c .before .before .before .before .loop-test .taken), on-a (c .before .before .before .before .before .before .before .pre .0) (c .before .before .before .before .before .before .before .pre .1 (c .before .before .before .before .before .loop .i) (c .before .before .before .before .loop-test .taken)) (c .before .before .before .before .before .loop .s) (c .before .load-row .ensures), on-b (c .before .before .before .before .before .before .before .pre .0) (c .before .before .before .before .before .before .before .pre .1 (c .before .before .before .before .before .loop .i) (c .before .before .before .before .loop-test .taken)) (c .before .before .before .before .before .loop .s) (c .before .load-row .ensures), c .before .before .before .before .before .before .before .pre .0 .bodies)
+cross-mass-requires c κs =
+    let at-load-row = c .before in
+    let at-loop-test = at-load-row .before .before .before in
+    let at-loop = at-loop-test .before in
+    let start = at-loop .before .before in
+    let pre = start .pre in (
+      omega (arith, pre .0 .whole, pre .0 .most, pre .0 .table, at-loop .loop .inv .1, at-loop-test .loop-test .taken),
+      on-a (pre .0) (pre .1 (at-loop .loop .i) (at-loop-test .loop-test .taken)) (at-loop .loop .s) (at-load-row .load-row .ensures),
+      on-b (pre .0) (pre .1 (at-loop .loop .i) (at-loop-test .loop-test .taken)) (at-loop .loop .s) (at-load-row .load-row .ensures),
+      pre .0 .bodies,
+    )
 
 enum-known-value : tie.Need-enum-known-value Inv-loop μ-loop
 enum-known-value c = search needs
@@ -44,43 +70,86 @@ enum-told : tie.Need-enum-told Inv-loop μ-loop
 enum-told c = search needs
 
 same-length : tie.Need-same-length Inv-loop μ-loop
-same-length c = c .before .before .before .before .before .before .before .before .loop .inv .1
+same-length c =
+    let at-load-row-arg = c .before .before .before .before .before .before in
+    let at-loop = at-load-row-arg .before .before in
+    at-loop .loop .inv .1
 
 returns : tie.Need-returns Inv-loop μ-loop
-returns c = scales-lost (c .before .before .before .before .before .before .before .before .before .before .pre .0) (now (c .before .before .before .before .before .before .before .before .before .before .args .order)) (c .before .before .before .before .before .before .before .before .before .before .pre .1) _ (c .before .before .before .before .before .before .before .before .loop .inv .2) (c .before .before .before .before .before .before .before .loop-test .taken) (c .before .before .before .before .before .before .before .before .loop .inv .1) (c .before .before .before .before .load-row .ensures) (sum-over (c .before .before .cross-mass .ensures) (c .enum-told .given .1))
+returns c =
+    let at-cross-mass = c .before .before in
+    let at-load-row = at-cross-mass .before .before in
+    let at-loop-test = at-load-row .before .before .before in
+    let at-loop = at-loop-test .before in
+    let start = at-loop .before .before in
+    let pre = start .pre in
+    scales-lost (pre .0) (now (start .args .order)) (pre .1) _ (at-loop .loop .inv .2) (at-loop-test .loop-test .taken) (at-loop .loop .inv .1)
+    (at-load-row .load-row .ensures) (sum-over (at-cross-mass .cross-mass .ensures) (c .enum-told .given .1))
 
 same-length-2 : tie.Need-same-length-2 Inv-loop μ-loop
-same-length-2 c = c .before .before .before .before .before .before .before .before .before .before .loop .inv .1
+same-length-2 c =
+    let at-load-row = c .before .before .before .before .before .before in
+    let at-loop = at-load-row .before .before .before .before in
+    at-loop .loop .inv .1
 
 returns-2 : tie.Need-returns-2 Inv-loop μ-loop
-returns-2 c = scales-refused (c .before .before .before .before .before .before .before .before .before .before .before .before .pre .0) (now (c .before .before .before .before .before .before .before .before .before .before .before .before .args .order)) (c .before .before .before .before .before .before .before .before .before .before .before .before .pre .1) _ (c .before .before .before .before .before .before .before .before .before .before .loop .inv .2) (c .before .before .before .before .before .before .before .before .before .loop-test .taken) (c .before .before .before .before .before .before .before .before .before .before .loop .inv .1) (c .before .before .before .before .before .before .load-row .ensures) zero-is (sum-there (c .before .before .before .before .cross-mass .ensures) (c .before .before .value .given .1)) (c .if1 .taken)
+returns-2 c =
+    let at-value = c .before .before in
+    let at-cross-mass = at-value .before .before in
+    let at-load-row = at-cross-mass .before .before in
+    let at-loop-test = at-load-row .before .before .before in
+    let at-loop = at-loop-test .before in
+    let start = at-loop .before .before in
+    let pre = start .pre in
+    scales-refused (pre .0) (now (start .args .order)) (pre .1) _ (at-loop .loop .inv .2) (at-loop-test .loop-test .taken) (at-loop .loop .inv .1)
+    (at-load-row .load-row .ensures) zero-is (sum-there (at-cross-mass .cross-mass .ensures) (at-value .value .given .1)) (c .if1 .taken)
 
 sqrt-requires : tie.Need-sqrt-requires Inv-loop μ-loop
 sqrt-requires c κs = search needs
 
 add-s : tie.Need-add-s Inv-loop μ-loop
-add-s c = omega (arith, c .before .before .before .before .before .before .before .before .before .before .before .before .before .pre .0 .whole, c .before .before .before .before .before .before .before .before .before .before .before .before .before .pre .0 .most, c .before .before .before .before .before .before .before .before .before .before .before .before .before .pre .0 .table, c .before .before .before .before .before .before .before .before .before .before .before .loop .inv .1, c .before .before .before .before .before .before .before .before .before .before .loop-test .taken)
+add-s c = omega arith
 
 mul-s : tie.Need-mul-s Inv-loop μ-loop
-mul-s c = omega (arith, c .before .before .before .before .before .before .before .before .before .before .before .before .before .pre .0 .whole, c .before .before .before .before .before .before .before .before .before .before .before .before .before .pre .0 .most, c .before .before .before .before .before .before .before .before .before .before .before .before .before .pre .0 .table, c .before .before .before .before .before .before .before .before .before .before .before .loop .inv .1, c .before .before .before .before .before .before .before .before .before .before .loop-test .taken)
+mul-s c = omega arith
 
 slice-write-s : tie.Need-slice-write-s Inv-loop μ-loop
-slice-write-s c = omega (arith, c .before .before .before .before .before .before .before .before .before .before .before .before .before .pre .0 .whole, c .before .before .before .before .before .before .before .before .before .before .before .before .before .pre .0 .most, c .before .before .before .before .before .before .before .before .before .before .before .before .before .pre .0 .table, c .before .before .before .before .before .before .before .before .before .before .before .loop .inv .1, c .before .before .before .before .before .before .before .before .before .before .loop-test .taken)
+slice-write-s c = omega arith
 
 add-i : tie.Need-add-i Inv-loop μ-loop
-add-i c = omega (arith, c .before .before .before .before .before .before .before .before .before .before .before .before .before .pre .0 .whole, c .before .before .before .before .before .before .before .before .before .before .before .before .before .pre .0 .most, c .before .before .before .before .before .before .before .before .before .before .before .before .before .pre .0 .table, c .before .before .before .before .before .before .before .before .before .before .before .loop .inv .1, c .before .before .before .before .before .before .before .before .before .before .loop-test .taken)
+add-i c = omega arith
 
 loop-less : tie.Need-loop-less Inv-loop μ-loop
-loop-less c = omega (arith, c .before .before .before .before .before .before .before .before .before .before .loop-test .taken)
+loop-less c = omega arith
 
 loop-again : tie.Need-loop-again Inv-loop μ-loop
-loop-again c = (omega (arith, c .before .before .before .before .before .before .before .before .before .before .loop-test .taken), simp length-set (c .before .before .before .before .before .before .before .before .before .before .before .loop .inv .1), scales-more (c .before .before .before .before .before .before .before .before .before .before .before .before .before .pre .0) (now (c .before .before .before .before .before .before .before .before .before .before .before .before .before .args .order)) (c .before .before .before .before .before .before .before .before .before .before .before .before .before .pre .1) _ (c .before .before .before .before .before .before .before .before .before .before .before .loop .inv .2) (c .before .before .before .before .before .before .before .before .before .before .loop-test .taken) (c .before .before .before .before .before .before .before .before .before .before .before .loop .inv .1) (c .before .before .before .before .before .before .before .load-row .ensures) zero-is (sum-there (c .before .before .before .before .before .cross-mass .ensures) (c .before .before .before .value .given .1)) (c .before .if1 .left) (c .sqrt .ensures .is))
+loop-again c =
+    let at-if1 = c .before in
+    let at-value = at-if1 .before .before in
+    let at-cross-mass = at-value .before .before in
+    let at-load-row = at-cross-mass .before .before in
+    let at-loop-test = at-load-row .before .before .before in
+    let at-loop = at-loop-test .before in
+    let start = at-loop .before .before in
+    let pre = start .pre in (
+      omega (arith, at-loop-test .loop-test .taken),
+      simp length-set (at-loop .loop .inv .1),
+      scales-more (pre .0) (now (start .args .order)) (pre .1) _ (at-loop .loop .inv .2) (at-loop-test .loop-test .taken) (at-loop .loop .inv .1)
+          (at-load-row .load-row .ensures) zero-is (sum-there (at-cross-mass .cross-mass .ensures) (at-value .value .given .1)) (at-if1 .if1 .left)
+          (c .sqrt .ensures .is),
+    )
 
 same-length-3 : tie.Need-same-length-3 Inv-loop μ-loop
-same-length-3 c = c .before .loop .inv .1
+same-length-3 c =
+    let at-loop = c .before in
+    at-loop .loop .inv .1
 
 returns-3 : tie.Need-returns-3 Inv-loop μ-loop
-returns-3 c = scales-end (c .before .before .before .pre .0) (now (c .before .before .before .args .order)) (c .before .before .before .pre .1) _ (c .before .loop .inv .2) (c .before .loop .inv .0) (c .loop-test .left)
+returns-3 c =
+    let at-loop = c .before in
+    let start = at-loop .before .before in
+    let pre = start .pre in
+    scales-end (pre .0) (now (start .args .order)) (pre .1) _ (at-loop .loop .inv .2) (at-loop .loop .inv .0) (c .loop-test .left)
 
 pub path-scale-spec : {M : Type 1} → statement M
 path-scale-spec =

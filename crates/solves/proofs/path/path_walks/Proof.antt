@@ -1,36 +1,63 @@
+-- `path_walks` meets its contract: turn by turn by WalkLaws `walks-more`, and where a walk declines by `walks-lost`.
 use native.Mathlib.Omega.{arith}
 use Prim.Native.Nat.{_≤_, _-_}
 use Rattle.arith.specs.FlowLaws.{not-yes, not-no}
-use Rattle.solves.proofs.BlockLaws.{WalksSo, walks-none, walks-lost, walks-more, walks-end, seen-yes, seen-no, false-true}
+use Rattle.solves.specs.PathView.{blocksAt, orderAt}
+use Rattle.solves.proofs.WalkLaws.{WalksSo, walks-none, walks-lost, walks-more, walks-end}
 use Rattle.solves.proofs.path.path_walks.Statement.{statement}
 use Rattle.solves.proofs.path.path_walks.Tie as tie
 
 abbrev Inv-loop : tie.InvT-loop
-Inv-loop ia ib blocks edges visited₀ order₀ count first₀ visited order first = (first ≤ blocks .count) × (WalksSo ia ib blocks edges first order visited)
+Inv-loop ia ib starts blocks edges rows₀ visited₀ listed₀ first₀ rows visited listed first = (first ≤ blocks) × (WalksSo ia ib (blocksAt starts blocks) edges first (orderAt rows listed) visited)
 
 abbrev μ-loop : tie.MeasureT-loop
-μ-loop ia ib blocks edges visited₀ order₀ count first₀ visited order first = blocks .count - first
+μ-loop ia ib starts blocks edges rows₀ visited₀ listed₀ first₀ rows visited listed first = blocks - first
 
 loop-holds : tie.Need-loop-holds Inv-loop μ-loop
-loop-holds c = (omega arith, walks-none (c .pre .0) (c .pre .1))
+loop-holds c = (omega arith, walks-none (c .pre .0) (c .pre .1) (c .pre .2))
 
 walk-from-requires : tie.Need-walk-from-requires Inv-loop μ-loop
-walk-from-requires c κs = (c .before .before .before .pre .0, c .before .before .before .pre .1, c .before .loop-test .taken, c .before .before .loop .inv .1 .free)
+walk-from-requires c κs =
+    let at-loop-test = c .before .before in
+    let at-loop = at-loop-test .before in
+    let start = at-loop .before in
+    let pre = start .pre in
+    (pre .0, pre .1, at-loop-test .loop-test .taken, at-loop .loop .inv .1 .free)
 
 returns : tie.Need-returns Inv-loop μ-loop
-returns c = (walks-lost (c .before .before .before .before .before .before .before .pre .0) (c .before .before .before .before .before .before .before .pre .1) (c .before .before .before .before .before .before .loop .inv .1) (c .before .before .before .before .before .loop-test .taken) (seen-no (c .before .before .before .walk-from .result) _ (c .before .before .before .walk-from .ensures .0) (not-yes _ (c .if1 .taken))), λ e. absurd (false-true e))
+returns c =
+    let at-walk-from = c .before .before in
+    let at-loop-test = at-walk-from .before .before .before in
+    let at-loop = at-loop-test .before in
+    let start = at-loop .before in
+    let pre = start .pre in
+    walks-lost (pre .0) (pre .1) (at-loop .loop .inv .1) (at-loop-test .loop-test .taken) (at-walk-from .walk-from .ensures)
+    (not-yes _ (c .if1 .taken))
 
 add-first : tie.Need-add-first Inv-loop μ-loop
-add-first c = omega (arith, c .before .before .before .before .before .loop-test .taken, c .before .before .before .before .before .before .before .pre .0 .few, c .before .before .before .before .before .before .before .pre .0 .most)
+add-first c = omega arith
 
 loop-less : tie.Need-loop-less Inv-loop μ-loop
-loop-less c = omega (arith, c .before .before .before .before .before .loop-test .taken)
+loop-less c = omega arith
 
 loop-again : tie.Need-loop-again Inv-loop μ-loop
-loop-again c = (omega (arith, c .before .before .before .before .before .loop-test .taken), walks-more (c .before .before .before .before .before .before .before .pre .0) (c .before .before .before .before .before .before .before .pre .1) (c .before .before .before .before .before .before .loop .inv .1) (c .before .before .before .before .before .loop-test .taken) (seen-yes (c .before .before .before .walk-from .result) _ (c .before .before .before .walk-from .ensures .0) (not-no _ (c .if1 .left))) (c .before .before .before .walk-from .ensures .1 (not-no _ (c .if1 .left))))
+loop-again c =
+    let at-walk-from = c .before .before in
+    let at-loop-test = at-walk-from .before .before .before in
+    let at-loop = at-loop-test .before in
+    let start = at-loop .before in
+    let pre = start .pre in (
+      omega arith,
+      walks-more (pre .0) (pre .1) (at-loop .loop .inv .1) (at-loop-test .loop-test .taken) (at-walk-from .walk-from .ensures)
+          (not-no _ (c .if1 .left)),
+    )
 
 returns-2 : tie.Need-returns-2 Inv-loop μ-loop
-returns-2 c = (walks-end (c .before .before .pre .0) (c .before .before .pre .1) (c .before .loop .inv .1) (c .before .loop .inv .0) (c .loop-test .left), λ e. c .before .loop .inv .1 .free .listed)
+returns-2 c =
+    let at-loop = c .before in
+    let start = at-loop .before in
+    let pre = start .pre in
+    walks-end (pre .0) (pre .1) (at-loop .loop .inv .1) (at-loop .loop .inv .0) (c .loop-test .left)
 
 pub path-walks-spec : {M : Type 1} → statement M
 path-walks-spec =

@@ -27,8 +27,7 @@ operator-requires c κs =
     let at-backward = c .before .before .before in
     let at-forward = at-backward .before .before .before .before in
     let start = at-forward .before .before .before in
-    let size = at-backward .backward .ensures .kept .size ∙ at-forward .forward .ensures .kept .size in
-    (
+    let size = at-backward .backward .ensures .kept .size ∙ at-forward .forward .ensures .kept .size in (
       rows-kept (start .pre .0) size,
       place-of SOLUTION (omega arith) (omega arith) (omega (arith, size, start .pre .0 .whole)),
       place-of PRODUCT (omega arith) (omega arith) (omega (arith, size, start .pre .0 .whole)),
@@ -62,9 +61,13 @@ difference-requires c κs =
     let at-backward = at-operator .before .before .before .before in
     let at-forward = at-backward .before .before .before .before in
     let start = at-forward .before .before .before in
-    omega
-    (arith, at-operator .operator .ensures .kept .size, at-backward .backward .ensures .kept .size ∙ at-forward .forward .ensures .kept .size,
-    start .pre .0 .whole, start .pre .0 .most)
+    omega (
+      arith,
+      at-operator .operator .ensures .kept .size,
+      at-backward .backward .ensures .kept .size ∙ at-forward .forward .ensures .kept .size,
+      start .pre .0 .whole,
+      start .pre .0 .most,
+    )
 
 same-length-2 : tie.Need-same-length-2
 same-length-2 c =

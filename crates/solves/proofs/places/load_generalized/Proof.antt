@@ -1,3 +1,4 @@
+-- load_generalized: two vectors side by side.
 use borrow.Author.Needs.{needs}
 use Rattle.solves.proofs.places.load_generalized.Statement.{statement}
 use Rattle.solves.proofs.places.load_generalized.Tie as tie

@@ -1,3 +1,4 @@
+-- load_mass: a number and three columns.
 use borrow.Author.Needs.{needs}
 use denote.Ref.{now}
 use Rattle.solves.proofs.PlaceLaws.{mass-loaded}
@@ -38,7 +39,11 @@ from-cols-requires : tie.Need-from-cols-requires
 from-cols-requires c κs = search needs
 
 returns : tie.Need-returns
-returns c = mass-loaded (now (c .before .before .before .before .before .before .args .s)) (c .before .before .before .before .before .before .args .off) (c .before .before .before .before .before .before .args .k) (c .before .before .before .before .load3 .ensures) (c .before .before .before .load32 .ensures) (c .before .before .load33 .ensures) (c .from-cols .ensures)
+returns c =
+    let at-load32 = c .before .before .before in
+    let start = at-load32 .before .before .before in
+    mass-loaded (now (start .args .s)) (start .args .off) (start .args .k) (at-load32 .before .load3 .ensures) (at-load32 .load32 .ensures)
+    (c .before .before .load33 .ensures) (c .from-cols .ensures)
 
 pub load-mass-spec : {M : Type 1} → statement M
 load-mass-spec =

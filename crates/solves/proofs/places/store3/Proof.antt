@@ -1,3 +1,4 @@
+-- store3: three doubles, by `stored3`.
 use native.Mathlib.Omega.{arith}
 use borrow.Author.Needs.{needs}
 use lib.ListN.{length, length-set}

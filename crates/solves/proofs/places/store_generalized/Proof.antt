@@ -1,3 +1,4 @@
+-- store_generalized: two vectors side by side, each kept by the other's write.
 use borrow.Author.Needs.{needs}
 use lib.ListN.{length}
 use Rattle.solves.proofs.PlaceLaws.{stored-generalized}
@@ -23,7 +24,10 @@ same-length : tie.Need-same-length
 same-length c = search needs
 
 returns : tie.Need-returns
-returns c = stored-generalized (c .before .before .before .before .before .before .before .before .before .args .off) (c .before .before .before .before .before .before .before .before .before .args .k) (c .before .before .before .before .before .before .before .before .before .args .g) (c .before .before .before .before .before .before .store3 .ensures) (c .before .before .store32 .ensures)
+returns c =
+    let at-store3 = c .before .before .before .before .before .before in
+    let start = at-store3 .before .before .before in
+    stored-generalized (start .args .off) (start .args .k) (start .args .g) (at-store3 .store3 .ensures) (c .before .before .store32 .ensures)
 
 pub store-generalized-spec : {M : Type 1} → statement M
 store-generalized-spec =

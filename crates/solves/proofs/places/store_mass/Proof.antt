@@ -1,3 +1,4 @@
+-- store_mass: a number and three columns, each kept by the writes after it.
 use native.Mathlib.Omega.{arith}
 use borrow.Author.Needs.{needs}
 use Prim.Native.Nat.{_+_, _*_}
@@ -29,19 +30,55 @@ add-store3-2 : tie.Need-add-store3-2
 add-store3-2 c = search needs
 
 store3-requires-2 : tie.Need-store3-requires-2
-store3-requires-2 c κs = omega (arith, c .before .before .before .store3 .ensures .0 .size, c .before .before .before .before .before .before .pre, length-set (now (c .before .before .before .before .before .before .args .s)) (c .before .before .before .before .before .before .args .off + 10 * c .before .before .before .before .before .before .args .k) (c .before .before .before .before .before .before .args .linear))
+store3-requires-2 c κs =
+    let at-store3 = c .before .before .before in
+    let start = at-store3 .before .before .before in
+    omega (
+      arith,
+      at-store3 .store3 .ensures .0 .size,
+      start .pre,
+      length-set (now (start .args .s)) (start .args .off + 10 * start .args .k)
+          (start .args .linear),
+    )
 
 add-store3-3 : tie.Need-add-store3-3
 add-store3-3 c = search needs
 
 store3-requires-3 : tie.Need-store3-requires-3
-store3-requires-3 c κs = omega (arith, c .before .before .before .before .before .before .before .store3 .ensures .0 .size, c .before .before .before .before .before .before .before .before .before .before .pre, length-set (now (c .before .before .before .before .before .before .before .before .before .before .args .s)) (c .before .before .before .before .before .before .before .before .before .before .args .off + 10 * c .before .before .before .before .before .before .before .before .before .before .args .k) (c .before .before .before .before .before .before .before .before .before .before .args .linear), c .before .before .before .store32 .ensures .0 .size)
+store3-requires-3 c κs =
+    let at-store32 = c .before .before .before in
+    let at-store3 = at-store32 .before .before .before .before in
+    let start = at-store3 .before .before .before in
+    omega (
+      arith,
+      at-store3 .store3 .ensures .0 .size,
+      start .pre,
+      length-set (now (start .args .s)) (start .args .off + 10 * start .args .k)
+          (start .args .linear),
+      at-store32 .store32 .ensures .0 .size,
+    )
 
 same-length : tie.Need-same-length
-same-length c = omega (arith, c .before .before .before .before .before .before .before .before .before .before .store3 .ensures .0 .size, c .before .before .before .before .before .before .store32 .ensures .0 .size, c .before .before .store33 .ensures .0 .size, length-set (now (c .before .before .before .before .before .before .before .before .before .before .before .before .before .args .s)) (c .before .before .before .before .before .before .before .before .before .before .before .before .before .args .off + 10 * c .before .before .before .before .before .before .before .before .before .before .before .before .before .args .k) (c .before .before .before .before .before .before .before .before .before .before .before .before .before .args .linear))
+same-length c =
+    let at-store32 = c .before .before .before .before .before .before in
+    let at-store3 = at-store32 .before .before .before .before in
+    let start = at-store3 .before .before .before in
+    omega (
+      arith,
+      at-store3 .store3 .ensures .0 .size,
+      at-store32 .store32 .ensures .0 .size,
+      c .before .before .store33 .ensures .0 .size,
+      length-set
+          (now (start .args .s)) (start .args .off + 10 * start .args .k) (start .args .linear),
+    )
 
 returns : tie.Need-returns
-returns c = stored-mass (now (c .before .before .before .before .before .before .before .before .before .before .before .before .before .args .s)) (c .before .before .before .before .before .before .before .before .before .before .before .before .before .args .off) (c .before .before .before .before .before .before .before .before .before .before .before .before .before .args .k) (c .before .before .before .before .before .before .before .before .before .before .before .before .before .args .linear) (c .before .before .before .before .before .before .before .before .before .before .before .before .before .pre) (c .before .before .before .before .before .before .before .before .before .before .store3 .ensures) (c .before .before .before .before .before .before .store32 .ensures) (c .before .before .store33 .ensures)
+returns c =
+    let at-store32 = c .before .before .before .before .before .before in
+    let at-store3 = at-store32 .before .before .before .before in
+    let start = at-store3 .before .before .before in
+    stored-mass (now (start .args .s)) (start .args .off) (start .args .k) (start .args .linear) (start .pre) (at-store3 .store3 .ensures)
+    (at-store32 .store32 .ensures) (c .before .before .store33 .ensures)
 
 pub store-mass-spec : {M : Type 1} → statement M
 store-mass-spec =

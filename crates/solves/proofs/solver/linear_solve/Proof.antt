@@ -44,9 +44,12 @@ returns c =
 path-order-requires : tie.Need-path-order-requires
 path-order-requires c κs =
     let at-s = c .before .before .before .before .before .before in
-    let start = at-s .before .before .before .before in
-    (start .pre .most, λ k h. omega (arith, start .pre .a-there k h, start .pre .bodies), λ k h. omega
-    (arith, start .pre .b-there k h, start .pre .bodies))
+    let start = at-s .before .before .before .before in (
+      start .pre .most,
+      λ k h. omega (arith, start .pre .a-there k h, start .pre .bodies),
+      λ k h. omega
+          (arith, start .pre .b-there k h, start .pre .bodies),
+    )
 
 gradients-requires : tie.Need-gradients-requires
 gradients-requires c κs =
@@ -78,9 +81,10 @@ path-along-requires : tie.Need-path-along-requires
 path-along-requires c κs =
     let at-Else2 = c .before .before .before .before in
     let at-copy = at-Else2 .before .before .before .before .before .before in
-    let at-clear = at-copy .before .before .before .before in
-    (rows-kept (at-clear .before .before .before .pre) (at-copy .copy .ensures .kept .size ∙ at-clear .clear .ensures .kept .size),
-    at-Else2 .before .before .path-order .ensures .1 (not-no _ (at-Else2 .if2 .left)) .1)
+    let at-clear = at-copy .before .before .before .before in (
+      rows-kept (at-clear .before .before .before .pre) (at-copy .copy .ensures .kept .size ∙ at-clear .clear .ensures .kept .size),
+      at-Else2 .before .before .path-order .ensures .1 (not-no _ (at-Else2 .if2 .left)) .1,
+    )
 
 same-length-3 : tie.Need-same-length-3
 same-length-3 c =

@@ -1,3 +1,4 @@
+-- clear: double by double, by `filled-more`.
 use native.Mathlib.Omega.{arith}
 use mathlib.Core.Path.{_≡_, refl}
 use Prim.Native.Nat.{_≤_, _-_}

@@ -47,8 +47,7 @@ loop-less c = omega arith
 
 loop-again : tie.Need-loop-again Inv-loop μ-loop
 loop-again c =
-    let start = c .before .before .before in
-    (
+    let start = c .before .before .before in (
       omega arith,
       simp length-set (omega arith),
       copy-more (start .args .from) (c .before .before .loop .inv .2) (omega arith) (omega arith) (start .pre .3),

@@ -59,12 +59,11 @@ loop-less c = omega arith
 loop-again : tie.Need-loop-again Inv-loop μ-loop
 loop-again c =
     let at-loop = c .before .before .before in
-    let start = at-loop .before in
-    (
+    let start = at-loop .before in (
       omega arith,
       simp length-set (omega arith),
       two-more (λ (p q : Float). p ⊖ q) (start .args .x) (start .args .a) (start .args .b) _
-      (at-loop .loop .inv .2) (omega arith) (omega arith) (start .pre .0 .3) (start .pre .1 .3),
+          (at-loop .loop .inv .2) (omega arith) (omega arith) (start .pre .0 .3) (start .pre .1 .3),
     )
 
 same-length : tie.Need-same-length Inv-loop μ-loop

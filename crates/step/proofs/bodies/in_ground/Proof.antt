@@ -1,3 +1,4 @@
+-- `in_ground` tests every origin: before turn k the first k passed (`every`, turn by turn).
 use mathlib.Core.Path.{_≡_, sym, _∙_}
 use Rattle.step.proofs.CheckWays.{ground-is, within-at}
 use native.Mathlib.Omega.{arith}
@@ -35,7 +36,10 @@ within-requires : tie.Need-within-requires Inv-loop μ-loop
 within-requires c κs = omega arith
 
 returns : tie.Need-returns Inv-loop μ-loop
-returns c = every-fail (λ (j : ℕ). withinOf (vec3At (now (c .before .before .before .before .before .before .args .s)) (CANDIDATE + 13 * j)) (ratio 8192 1)) _ (omega arith) (sym (within-at (c .before .within .ensures) (c .before .before .load3 .ensures) ground-is) ∙ not-yes _ (c .if1 .taken))
+returns c =
+    let at-entry = c .before .before .before .before .before .before in
+    every-fail (λ (j : ℕ). withinOf (vec3At (now (at-entry .args .s)) (CANDIDATE + 13 * j)) (ratio 8192 1)) _ (omega arith)
+    (sym (within-at (c .before .within .ensures) (c .before .before .load3 .ensures) ground-is) ∙ not-yes _ (c .if1 .taken))
 
 add-k : tie.Need-add-k Inv-loop μ-loop
 add-k c = omega arith
@@ -44,10 +48,18 @@ loop-less : tie.Need-loop-less Inv-loop μ-loop
 loop-less c = omega arith
 
 loop-again : tie.Need-loop-again Inv-loop μ-loop
-loop-again c = (omega arith, every-more (λ (j : ℕ). withinOf (vec3At (now (c .before .before .before .before .before .before .args .s)) (CANDIDATE + 13 * j)) (ratio 8192 1)) (c .before .before .before .before .loop .inv .1) (sym (within-at (c .before .within .ensures) (c .before .before .load3 .ensures) ground-is) ∙ not-no _ (c .if1 .left)))
+loop-again c =
+    let at-loop = c .before .before .before .before in let at-entry = at-loop .before .before in (
+      omega arith,
+      every-more (λ (j : ℕ). withinOf (vec3At (now (at-entry .args .s)) (CANDIDATE + 13 * j)) (ratio 8192 1)) (at-loop .loop .inv .1)
+          (sym (within-at (c .before .within .ensures) (c .before .before .load3 .ensures) ground-is) ∙ not-no _ (c .if1 .left)),
+    )
 
 returns-2 : tie.Need-returns-2 Inv-loop μ-loop
-returns-2 c = every-end (λ (j : ℕ). withinOf (vec3At (now (c .before .before .before .args .s)) (CANDIDATE + 13 * j)) (ratio 8192 1)) (omega arith) (omega arith) (c .before .loop .inv .1)
+returns-2 c =
+    let at-entry = c .before .before .before in
+    every-end (λ (j : ℕ). withinOf (vec3At (now (at-entry .args .s)) (CANDIDATE + 13 * j)) (ratio 8192 1)) (omega arith) (omega arith)
+    (c .before .loop .inv .1)
 
 pub in-ground-spec : {M : Type 1} → statement M
 in-ground-spec =

@@ -1,3 +1,4 @@
+-- `load_body` is `bodyFrom`: each field by the contract of its load.
 use Rattle.step.proofs.BodyLaws.{body-loaded}
 use Prim.Native.Nat.{_+_, _*_}
 use denote.Ref.{now}
@@ -55,7 +56,11 @@ load-mat3-requires : tie.Need-load-mat3-requires
 load-mat3-requires c κs = search needs
 
 returns : tie.Need-returns
-returns c = body-loaded (now (c .before .before .before .before .before .before .before .before .args .s)) (c .before .before .before .before .before .before .before .before .args .i) (START + 26 * c .before .before .before .before .before .before .before .before .args .k) (c .before .before .before .before .before .before .load3 .ensures) (c .before .before .before .before .before .load4 .ensures) (c .before .before .before .before .load32 .ensures) (c .before .before .before .load33 .ensures) (c .before .load34 .ensures) (c .load-mat3 .ensures)
+returns c =
+    let at-load33 = c .before .before .before in let at-load32 = at-load33 .before in let at-load4 = at-load32 .before in
+    let at-load3 = at-load4 .before in let at-entry = at-load3 .before .before in
+    body-loaded (now (at-entry .args .s)) (at-entry .args .i) (START + 26 * at-entry .args .k) (at-load3 .load3 .ensures) (at-load4 .load4 .ensures)
+    (at-load32 .load32 .ensures) (at-load33 .load33 .ensures) (c .before .load34 .ensures) (c .load-mat3 .ensures)
 
 pub load-body-spec : {M : Type 1} → statement M
 load-body-spec =

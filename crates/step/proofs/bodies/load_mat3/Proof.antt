@@ -1,3 +1,4 @@
+-- `load_mat3` is `matAt`: three loaded columns, put together by `from_cols`.
 use Rattle.step.proofs.BodyLaws.{mat-loaded}
 use denote.Ref.{now}
 use borrow.Author.Needs.{needs}
@@ -23,7 +24,10 @@ from-cols-requires : tie.Need-from-cols-requires
 from-cols-requires c κs = search needs
 
 returns : tie.Need-returns
-returns c = mat-loaded (now (c .before .before .before .before .before .args .s)) (c .before .before .before .before .before .args .i) (c .before .before .before .load3 .ensures) (c .before .before .load32 .ensures) (c .before .load33 .ensures) (c .from-cols .ensures)
+returns c =
+    let at-load3 = c .before .before .before in let at-entry = at-load3 .before .before in
+    mat-loaded (now (at-entry .args .s)) (at-entry .args .i) (at-load3 .load3 .ensures) (c .before .before .load32 .ensures)
+    (c .before .load33 .ensures) (c .from-cols .ensures)
 
 pub load-mat3-spec : {M : Type 1} → statement M
 load-mat3-spec =

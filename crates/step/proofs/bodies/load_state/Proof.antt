@@ -1,3 +1,4 @@
+-- `load_state` is `stateAt`: each field by the contract of its load.
 use Rattle.step.proofs.BodyLaws.{state-loaded}
 use denote.Ref.{now}
 use borrow.Author.Needs.{needs}
@@ -26,7 +27,10 @@ load3-requires-3 : tie.Need-load3-requires-3
 load3-requires-3 c κs = search needs
 
 returns : tie.Need-returns
-returns c = state-loaded (now (c .before .before .before .before .before .args .s)) (c .before .before .before .before .before .args .i) (c .before .before .before .load3 .ensures) (c .before .before .load4 .ensures) (c .before .load32 .ensures) (c .load33 .ensures)
+returns c =
+    let at-load3 = c .before .before .before in let at-entry = at-load3 .before .before in
+    state-loaded (now (at-entry .args .s)) (at-entry .args .i) (at-load3 .load3 .ensures) (c .before .before .load4 .ensures)
+    (c .before .load32 .ensures) (c .load33 .ensures)
 
 pub load-state-spec : {M : Type 1} → statement M
 load-state-spec =

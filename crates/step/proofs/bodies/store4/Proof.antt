@@ -1,3 +1,4 @@
+-- `store4` writes four doubles, each into its place, and no other.
 use Rattle.step.proofs.BodyLaws.{stored4}
 use native.Mathlib.Omega.{arith}
 use lib.ListN.{length-set}

@@ -1,3 +1,4 @@
+-- `store_candidate` is `store_moving` at the candidate's place; what does not move is read at the start's.
 use Rattle.step.proofs.BodyLaws.{stored-candidate}
 use native.Mathlib.Omega.{arith}
 use borrow.Author.Needs.{needs}
@@ -17,7 +18,9 @@ same-length : tie.Need-same-length
 same-length c = search needs
 
 returns : tie.Need-returns
-returns c = stored-candidate _ (c .before .before .before .before .before .args .body) (omega arith) (c .before .before .store-moving .ensures)
+returns c =
+    let at-entry = c .before .before .before .before .before in
+    stored-candidate _ (at-entry .args .body) (omega arith) (c .before .before .store-moving .ensures)
 
 pub store-candidate-spec : {M : Type 1} → statement M
 store-candidate-spec =

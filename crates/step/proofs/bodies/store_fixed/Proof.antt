@@ -1,3 +1,4 @@
+-- `store_fixed` writes mass, local centre and inverse inertia: three stores, one behind the other (BodyLaws).
 use Rattle.step.proofs.BodyLaws.{stored-fixed}
 use native.Mathlib.Omega.{arith}
 use lib.ListN.{length-set}
@@ -27,7 +28,9 @@ same-length : tie.Need-same-length
 same-length c = simp length-set (omega arith)
 
 returns : tie.Need-returns
-returns c = stored-fixed _ (c .before .before .before .before .before .before .before .before .before .args .body) (omega arith) (c .before .before .before .before .before .before .store3 .ensures) (c .before .before .store-mat3 .ensures)
+returns c =
+    let at-store3 = c .before .before .before .before .before .before in let at-entry = at-store3 .before .before .before in
+    stored-fixed _ (at-entry .args .body) (omega arith) (at-store3 .store3 .ensures) (c .before .before .store-mat3 .ensures)
 
 pub store-fixed-spec : {M : Type 1} → statement M
 store-fixed-spec =

@@ -1,3 +1,4 @@
+-- `store_mat3` writes the three columns: three stores, one behind the other (BodyLaws `stored-mat`).
 use mathlib.Core.Path.{_≡_, _∙_}
 use Rattle.step.proofs.BodyLaws.{stored-mat}
 use Rattle.vectors.specs.Matrix.{columnOf}
@@ -90,7 +91,18 @@ same-length : tie.Need-same-length
 same-length c = search needs
 
 returns : tie.Need-returns
-returns c = let a : c .before .before .before .before .before .before .before .before .before .before .before .before .before .before .before .before .before .before .before .new .result ≡ columnOf (c .before .before .before .before .before .before .before .before .before .before .before .before .before .before .before .before .before .before .before .before .before .before .before .before .before .before .args .m) 0 = c .before .before .before .before .before .before .before .before .before .before .before .before .before .before .before .before .before .before .before .new .ensures ∙ simp (c .before .before .before .before .before .before .before .before .before .before .before .before .before .before .before .before .before .before .before .before .before .before .before .before .to-columns .ensures) in let b : c .before .before .before .before .before .before .before .before .before .before .before .new2 .result ≡ columnOf (c .before .before .before .before .before .before .before .before .before .before .before .before .before .before .before .before .before .before .before .before .before .before .before .before .before .before .args .m) 1 = c .before .before .before .before .before .before .before .before .before .before .before .new2 .ensures ∙ simp (c .before .before .before .before .before .before .before .before .before .before .before .before .before .before .before .before .before .before .before .before .before .before .before .before .to-columns .ensures) in let d : c .before .before .before .new3 .result ≡ columnOf (c .before .before .before .before .before .before .before .before .before .before .before .before .before .before .before .before .before .before .before .before .before .before .before .before .before .before .args .m) 2 = c .before .before .before .new3 .ensures ∙ simp (c .before .before .before .before .before .before .before .before .before .before .before .before .before .before .before .before .before .before .before .before .before .before .before .before .to-columns .ensures) in stored-mat _ (c .before .before .before .before .before .before .before .before .before .before .before .before .before .before .before .before .before .before .before .before .before .before .before .before .before .before .args .m) (c .before .before .before .before .before .before .before .before .before .before .before .before .before .before .before .before .before .before .store3 .ensures) (c .before .before .before .before .before .before .before .before .before .before .store32 .ensures) (c .before .before .store33 .ensures) a b d
+returns c =
+    let at-new3 = c .before .before .before in
+    let at-store32 = at-new3 .before .before .before .before .before .before .before in
+    let at-new2 = at-store32 .before in
+    let at-store3 = at-new2 .before .before .before .before .before .before .before in
+    let at-new = at-store3 .before in
+    let at-columns = at-new .before .before .before .before .before in
+    let at-entry = at-columns .before .before in
+    let x : at-new .new .result ≡ columnOf (at-entry .args .m) 0 = at-new .new .ensures ∙ simp (at-columns .to-columns .ensures) in
+    let y : at-new2 .new2 .result ≡ columnOf (at-entry .args .m) 1 = at-new2 .new2 .ensures ∙ simp (at-columns .to-columns .ensures) in
+    let z : at-new3 .new3 .result ≡ columnOf (at-entry .args .m) 2 = at-new3 .new3 .ensures ∙ simp (at-columns .to-columns .ensures) in
+    stored-mat _ (at-entry .args .m) (at-store3 .store3 .ensures) (at-store32 .store32 .ensures) (c .before .before .store33 .ensures) x y z
 
 pub store-mat3-spec : {M : Type 1} → statement M
 store-mat3-spec =

@@ -1,3 +1,4 @@
+-- `store_moving` writes the 13 doubles that move: four stores, one behind the other (BodyLaws).
 use Rattle.step.proofs.BodyLaws.{stored-moving}
 use borrow.Author.Needs.{needs}
 use Rattle.step.proofs.bodies.store_moving.Statement.{statement}
@@ -28,7 +29,10 @@ same-length : tie.Need-same-length
 same-length c = search needs
 
 returns : tie.Need-returns
-returns c = stored-moving _ (c .before .before .before .before .before .before .before .before .before .before .before .before .before .before .store3 .ensures) (c .before .before .before .before .before .before .before .before .before .before .store4 .ensures) (c .before .before .before .before .before .before .store32 .ensures) (c .before .before .store33 .ensures)
+returns c =
+    let at-store32 = c .before .before .before .before .before .before in let at-store4 = at-store32 .before .before .before .before in
+    let at-store3 = at-store4 .before .before .before .before in
+    stored-moving _ (at-store3 .store3 .ensures) (at-store4 .store4 .ensures) (at-store32 .store32 .ensures) (c .before .before .store33 .ensures)
 
 pub store-moving-spec : {M : Type 1} → statement M
 store-moving-spec =

@@ -1,3 +1,4 @@
+-- `store_start` writes what moves and then what does not: two stores, one behind the other (BodyLaws).
 use Rattle.step.proofs.BodyLaws.{stored-start}
 use borrow.Author.Needs.{needs}
 use Rattle.step.proofs.bodies.store_start.Statement.{statement}
@@ -22,7 +23,9 @@ same-length : tie.Need-same-length
 same-length c = search needs
 
 returns : tie.Need-returns
-returns c = stored-start _ (c .before .before .before .before .before .before .before .before .before .args .body) (c .before .before .before .before .before .before .store-moving .ensures) (c .before .before .store-fixed .ensures)
+returns c =
+    let at-store-moving = c .before .before .before .before .before .before in let at-entry = at-store-moving .before .before .before in
+    stored-start _ (at-entry .args .body) (at-store-moving .store-moving .ensures) (c .before .before .store-fixed .ensures)
 
 pub store-start-spec : {M : Type 1} → statement M
 store-start-spec =

@@ -1,3 +1,4 @@
+-- `write_states` hands the states back record by record: before turn k the first k are handed (`Handed`).
 use mathlib.Core.Path.{_≡_, refl}
 use Rattle.step.proofs.BodyLaws.{handed-none, handed-more, handed-end}
 use native.Mathlib.Omega.{arith}
@@ -38,7 +39,9 @@ loop-less : tie.Need-loop-less Inv-loop μ-loop
 loop-less c = omega arith
 
 loop-again : tie.Need-loop-again Inv-loop μ-loop
-loop-again c = (omega arith, omega arith, handed-more (c .before .before .before .before .before .before .loop .inv .2) (c .before .before .store-state .ensures) (c .before .before .before .load-state .ensures))
+loop-again c =
+    let at-load-state = c .before .before .before in let at-loop = at-load-state .before .before .before in
+    (omega arith, omega arith, handed-more (at-loop .loop .inv .2) (c .before .before .store-state .ensures) (at-load-state .load-state .ensures))
 
 same-length : tie.Need-same-length Inv-loop μ-loop
 same-length c = omega arith

@@ -1,3 +1,4 @@
+-- `checks::accepted` meets its contract: a number that is 0.
 use mathlib.Core.Path.{ap}
 use Prim.Native.Nat.{ℕ}
 use lib.Dec.{eqb}

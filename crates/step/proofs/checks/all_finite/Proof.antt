@@ -1,3 +1,4 @@
+-- `checks::all_finite` meets its contract: `every` of the doubles tested so far, turn by turn.
 use mathlib.Core.Path.{_≡_, refl, sym, _∙_}
 use native.Mathlib.Omega.{arith}
 use Prim.Native.Nat.{ℕ, _≤_, _-_}
@@ -30,7 +31,10 @@ is-finite-requires : tie.Need-is-finite-requires Inv-loop μ-loop
 is-finite-requires c κs = omega arith
 
 returns : tie.Need-returns Inv-loop μ-loop
-returns c = every-fail (λ (j : ℕ). isFinite (at (now (c .before .before .before .before .before .before .args .bodies)) j)) _ (omega arith) (sym (c .before .is-finite .ensures) ∙ not-yes _ (c .if1 .taken))
+returns c =
+    let at-test = c .before .before .before in
+    let at-start = at-test .before .before .before in
+    every-fail (λ (j : ℕ). isFinite (at (now (at-start .args .bodies)) j)) _ (omega arith) (sym (c .before .is-finite .ensures) ∙ not-yes _ (c .if1 .taken))
 
 add-k : tie.Need-add-k Inv-loop μ-loop
 add-k c = omega arith
@@ -39,7 +43,14 @@ loop-less : tie.Need-loop-less Inv-loop μ-loop
 loop-less c = omega arith
 
 loop-again : tie.Need-loop-again Inv-loop μ-loop
-loop-again c = (omega arith, omega arith, every-more (λ (j : ℕ). isFinite (at (now (c .before .before .before .before .before .before .args .bodies)) j)) (c .before .before .before .before .loop .inv .2) (sym (c .before .is-finite .ensures) ∙ not-no _ (c .if1 .left)))
+loop-again c =
+    let at-loop = c .before .before .before .before in
+    let at-start = at-loop .before .before in (
+      omega arith,
+      omega arith,
+      every-more (λ (j : ℕ). isFinite (at (now (at-start .args .bodies)) j)) (at-loop .loop .inv .2)
+          (sym (c .before .is-finite .ensures) ∙ not-no _ (c .if1 .left)),
+    )
 
 returns-2 : tie.Need-returns-2 Inv-loop μ-loop
 returns-2 c = every-end (λ (j : ℕ). isFinite (at (now (c .before .before .before .args .bodies)) j)) (omega arith) (omega arith) (c .before .loop .inv .2)

@@ -1,3 +1,4 @@
+-- `checks::bodies_fit` meets its contract, by both ways of its test.
 use Rattle.step.proofs.CheckWays.{fit-yes, fit-no}
 use Rattle.step.proofs.checks.bodies_fit.Statement.{statement}
 use Rattle.step.proofs.checks.bodies_fit.Tie as tie

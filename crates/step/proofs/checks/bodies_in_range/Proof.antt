@@ -1,3 +1,4 @@
+-- `checks::bodies_in_range` meets its contract: `every` of the bodies tested so far, turn by turn.
 use mathlib.Core.Path.{_≡_, sym, ap, _∙_}
 use native.Mathlib.Omega.{arith}
 use Prim.Native.Nat.{ℕ, _≤_, _-_}
@@ -26,7 +27,11 @@ body-in-range-requires : tie.Need-body-in-range-requires Inv-loop μ-loop
 body-in-range-requires c κs = omega arith
 
 returns : tie.Need-returns Inv-loop μ-loop
-returns c = every-fail (λ (j : ℕ). bodyInRange (recordAt (now (c .before .before .before .before .before .before .args .bodies)) j)) _ (omega arith) (sym (ap bodyInRange (c .before .before .load-record .ensures)) ∙ sym (c .before .body-in-range .ensures) ∙ not-yes _ (c .if1 .taken))
+returns c =
+    let at-loop = c .before .before .before .before in
+    let at-start = at-loop .before .before in
+    every-fail (λ (j : ℕ). bodyInRange (recordAt (now (at-start .args .bodies)) j)) _ (omega arith)
+    (sym (ap bodyInRange (c .before .before .load-record .ensures)) ∙ sym (c .before .body-in-range .ensures) ∙ not-yes _ (c .if1 .taken))
 
 add-k : tie.Need-add-k Inv-loop μ-loop
 add-k c = omega arith
@@ -35,10 +40,18 @@ loop-less : tie.Need-loop-less Inv-loop μ-loop
 loop-less c = omega arith
 
 loop-again : tie.Need-loop-again Inv-loop μ-loop
-loop-again c = (omega arith, every-more (λ (j : ℕ). bodyInRange (recordAt (now (c .before .before .before .before .before .before .args .bodies)) j)) (c .before .before .before .before .loop .inv .1) (sym (ap bodyInRange (c .before .before .load-record .ensures)) ∙ sym (c .before .body-in-range .ensures) ∙ not-no _ (c .if1 .left)))
+loop-again c =
+    let at-loop = c .before .before .before .before in
+    let at-start = at-loop .before .before in (
+      omega arith,
+      every-more (λ (j : ℕ). bodyInRange (recordAt (now (at-start .args .bodies)) j)) (at-loop .loop .inv .1)
+          (sym (ap bodyInRange (c .before .before .load-record .ensures)) ∙ sym (c .before .body-in-range .ensures) ∙ not-no _ (c .if1 .left)),
+    )
 
 returns-2 : tie.Need-returns-2 Inv-loop μ-loop
-returns-2 c = every-end (λ (j : ℕ). bodyInRange (recordAt (now (c .before .before .before .args .bodies)) j)) (omega arith) (omega arith) (c .before .loop .inv .1)
+returns-2 c =
+    let at-start = c .before .before .before in
+    every-end (λ (j : ℕ). bodyInRange (recordAt (now (at-start .args .bodies)) j)) (omega arith) (omega arith) (c .before .loop .inv .1)
 
 pub bodies-in-range-spec : {M : Type 1} → statement M
 bodies-in-range-spec =

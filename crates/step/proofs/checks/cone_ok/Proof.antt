@@ -1,3 +1,4 @@
+-- `checks::cone_ok` meets its contract: the laws of `CheckWays` on nested tests.
 use Rattle.step.proofs.CheckWays.{also, fails, stays}
 use borrow.Author.Needs.{needs}
 use Rattle.step.proofs.checks.cone_ok.Statement.{statement}
@@ -13,10 +14,16 @@ twist-ok-requires : tie.Need-twist-ok-requires
 twist-ok-requires c κs = search needs
 
 returns : tie.Need-returns
-returns c = also (also (c .before .before .before .before .swing-ok .ensures) (c .before .before .before .if1 .taken) (c .before .before .swing-ok2 .ensures)) (c .before .if2 .taken) (c .twist-ok .ensures)
+returns c =
+    let at-second = c .before in
+    let at-first = at-second .before .before in
+    also (also (at-first .before .swing-ok .ensures) (at-first .if1 .taken) (at-second .before .swing-ok2 .ensures)) (at-second .if2 .taken)
+    (c .twist-ok .ensures)
 
 returns-2 : tie.Need-returns-2
-returns-2 c = fails _ (also (c .before .before .before .swing-ok .ensures) (c .before .before .if1 .taken) (c .before .swing-ok2 .ensures)) (c .if2 .left)
+returns-2 c =
+    let at-first = c .before .before in
+    fails _ (also (at-first .before .swing-ok .ensures) (at-first .if1 .taken) (c .before .swing-ok2 .ensures)) (c .if2 .left)
 
 returns-3 : tie.Need-returns-3
 returns-3 c = stays _ (fails _ (c .before .swing-ok .ensures) (c .if1 .left))

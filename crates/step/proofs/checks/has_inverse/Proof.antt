@@ -1,3 +1,4 @@
+-- `checks::has_inverse` meets its contract: the outcome of `inverse_spd`, case by case.
 use Rattle.step.proofs.CheckWays.{inverted-as}
 use borrow.Author.Needs.{needs}
 use Rattle.step.proofs.checks.has_inverse.Statement.{statement}

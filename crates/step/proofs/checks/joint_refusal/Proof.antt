@@ -1,3 +1,4 @@
+-- `checks::joint_refusal` meets its contract: one test after the other.
 use mathlib.Core.Path.{refl}
 use Rattle.step.proofs.CheckWays.{refuses, passes}
 use Rattle.step.specs.Checks.{jointsOr}
@@ -17,11 +18,15 @@ joints-ok-requires c κs = search needs
 
 returns-2 : tie.Need-returns-2
 unfolding jointsOr
-returns-2 c = passes _ (c .before .before .before .joints-join .ensures) (c .before .before .if1 .left) (refuses _ _ (c .before .joints-ok .ensures) (c .if2 .taken))
+returns-2 c =
+    let at-join = c .before .before in
+    passes _ (at-join .before .joints-join .ensures) (at-join .if1 .left) (refuses _ _ (c .before .joints-ok .ensures) (c .if2 .taken))
 
 returns-3 : tie.Need-returns-3
 unfolding jointsOr
-returns-3 c = passes _ (c .before .before .before .joints-join .ensures) (c .before .before .if1 .left) (passes _ (c .before .joints-ok .ensures) (c .if2 .left) refl)
+returns-3 c =
+    let at-join = c .before .before in
+    passes _ (at-join .before .joints-join .ensures) (at-join .if1 .left) (passes _ (c .before .joints-ok .ensures) (c .if2 .left) refl)
 
 pub joint-refusal-spec : {M : Type 1} → statement M
 joint-refusal-spec =

@@ -1,3 +1,4 @@
+-- `checks::joints_join` meets its contract: `every` of the joints tested so far, turn by turn.
 use mathlib.Core.Path.{_≡_, sym, _∙_}
 use native.Mathlib.Omega.{arith}
 use Prim.Native.Nat.{ℕ, _≤_, _-_}
@@ -27,7 +28,11 @@ joins-two-requires : tie.Need-joins-two-requires Inv-loop μ-loop
 joins-two-requires c κs = omega arith
 
 returns : tie.Need-returns Inv-loop μ-loop
-returns c = every-fail (λ (j : ℕ). joinsTwo (c .before .before .before .before .before .args .n) (jointIn (c .before .before .before .before .before .args .t1) j)) _ (omega arith) (sym (c .before .joins-two .ensures) ∙ not-yes _ (c .if1 .taken))
+returns c =
+    let at-loop = c .before .before .before .before in
+    let at-start = at-loop .before in
+    every-fail (λ (j : ℕ). joinsTwo (at-start .args .n) (jointIn (at-start .args .t1) j)) _ (omega arith)
+    (sym (c .before .joins-two .ensures) ∙ not-yes _ (c .if1 .taken))
 
 add-k : tie.Need-add-k Inv-loop μ-loop
 add-k c = omega arith
@@ -36,10 +41,18 @@ loop-less : tie.Need-loop-less Inv-loop μ-loop
 loop-less c = omega arith
 
 loop-again : tie.Need-loop-again Inv-loop μ-loop
-loop-again c = (omega arith, every-more (λ (j : ℕ). joinsTwo (c .before .before .before .before .before .args .n) (jointIn (c .before .before .before .before .before .args .t1) j)) (c .before .before .before .before .loop .inv .1) (sym (c .before .joins-two .ensures) ∙ not-no _ (c .if1 .left)))
+loop-again c =
+    let at-loop = c .before .before .before .before in
+    let at-start = at-loop .before in (
+      omega arith,
+      every-more (λ (j : ℕ). joinsTwo (at-start .args .n) (jointIn (at-start .args .t1) j)) (at-loop .loop .inv .1)
+          (sym (c .before .joins-two .ensures) ∙ not-no _ (c .if1 .left)),
+    )
 
 returns-2 : tie.Need-returns-2 Inv-loop μ-loop
-returns-2 c = every-end (λ (j : ℕ). joinsTwo (c .before .before .args .n) (jointIn (c .before .before .args .t1) j)) (omega arith) (omega arith) (c .before .loop .inv .1)
+returns-2 c =
+    let at-start = c .before .before in
+    every-end (λ (j : ℕ). joinsTwo (at-start .args .n) (jointIn (at-start .args .t1) j)) (omega arith) (omega arith) (c .before .loop .inv .1)
 
 pub joints-join-spec : {M : Type 1} → statement M
 joints-join-spec =

@@ -1,3 +1,4 @@
+-- `checks::joints_ok` meets its contract: `every` of the joints tested so far, turn by turn.
 use mathlib.Core.Path.{_≡_, sym, _∙_}
 use native.Mathlib.Omega.{arith}
 use Prim.Native.Nat.{ℕ, _≤_, _-_}
@@ -27,7 +28,10 @@ joint-ok-requires : tie.Need-joint-ok-requires Inv-loop μ-loop
 joint-ok-requires c κs = omega arith
 
 returns : tie.Need-returns Inv-loop μ-loop
-returns c = every-fail (λ (j : ℕ). jointOk (jointIn (c .before .before .before .before .before .args .t1) j)) _ (omega arith) (sym (c .before .joint-ok .ensures) ∙ not-yes _ (c .if1 .taken))
+returns c =
+    let at-loop = c .before .before .before .before in
+    let at-start = at-loop .before in
+    every-fail (λ (j : ℕ). jointOk (jointIn (at-start .args .t1) j)) _ (omega arith) (sym (c .before .joint-ok .ensures) ∙ not-yes _ (c .if1 .taken))
 
 add-k : tie.Need-add-k Inv-loop μ-loop
 add-k c = omega arith
@@ -36,10 +40,17 @@ loop-less : tie.Need-loop-less Inv-loop μ-loop
 loop-less c = omega arith
 
 loop-again : tie.Need-loop-again Inv-loop μ-loop
-loop-again c = (omega arith, every-more (λ (j : ℕ). jointOk (jointIn (c .before .before .before .before .before .args .t1) j)) (c .before .before .before .before .loop .inv .1) (sym (c .before .joint-ok .ensures) ∙ not-no _ (c .if1 .left)))
+loop-again c =
+    let at-loop = c .before .before .before .before in
+    let at-start = at-loop .before in (
+      omega arith,
+      every-more (λ (j : ℕ). jointOk (jointIn (at-start .args .t1) j)) (at-loop .loop .inv .1) (sym (c .before .joint-ok .ensures) ∙ not-no _ (c .if1 .left)),
+    )
 
 returns-2 : tie.Need-returns-2 Inv-loop μ-loop
-returns-2 c = every-end (λ (j : ℕ). jointOk (jointIn (c .before .before .args .t1) j)) (omega arith) (omega arith) (c .before .loop .inv .1)
+returns-2 c =
+    let at-start = c .before .before in
+    every-end (λ (j : ℕ). jointOk (jointIn (at-start .args .t1) j)) (omega arith) (omega arith) (c .before .loop .inv .1)
 
 pub joints-ok-spec : {M : Type 1} → statement M
 joints-ok-spec =

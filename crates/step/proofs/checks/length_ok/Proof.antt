@@ -1,3 +1,4 @@
+-- `checks::length_ok` meets its contract, by both ways of its test.
 use mathlib.Core.Path.{ap}
 use lib.Ieee as Ieee
 use lib.Ieee.{Float}

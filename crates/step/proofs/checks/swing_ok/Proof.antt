@@ -1,3 +1,4 @@
+-- `checks::swing_ok` meets its contract: either test.
 use mathlib.Core.Path.{refl, ap}
 use lib.Ieee as Ieee
 use Rattle.step.proofs.CheckWays.{either, other}

@@ -1,10 +1,10 @@
+-- `add_impulses` is `addImpulses`: before turn k the first k sums stand in their places (TableLaws).
 use lib.ListN.{length, length-set}
-use denote.Ref.{now}
 use Rattle.arith.specs.FlowLaws.{not-yes, not-no}
 use Rattle.step.proofs.TableLaws.{Summed, sum-none, sum-again, sum-stops, sum-ends}
 use native.Mathlib.Omega.{arith}
-use mathlib.Core.Path.{_≡_, refl, sym, ap, _∙_}
-use Prim.Native.Nat.{ℕ, _+_, _*_, _≤_, _<_, _-_}
+use mathlib.Core.Path.{_≡_, refl}
+use Prim.Native.Nat.{_≤_, _-_}
 use Rattle.step.proofs.integrator.add_impulses.Statement.{statement}
 use Rattle.step.proofs.integrator.add_impulses.Tie as tie
 
@@ -51,7 +51,10 @@ same-length : tie.Need-same-length Inv-loop μ-loop
 same-length c = simp length-set (omega arith)
 
 returns : tie.Need-returns Inv-loop μ-loop
-returns c = sum-stops (c .before .before .before .before .before .before .before .args .n) _ _ _ (c .before .before .before .before .before .loop .inv .2) (c .before .before .before .before .loop-test .taken) (c .before .before .before .before .before .before .before .pre .1) (omega arith) (c .before .is-finite .ensures) (not-yes _ (c .if1 .taken))
+returns c =
+    let at-test = c .before .before .before .before in let at-loop = at-test .before in let at-entry = at-loop .before .before in
+    sum-stops (at-entry .args .n) _ _ _ (at-loop .loop .inv .2) (at-test .loop-test .taken) (at-entry .pre .1) (omega arith)
+    (c .before .is-finite .ensures) (not-yes _ (c .if1 .taken))
 
 add-k : tie.Need-add-k Inv-loop μ-loop
 add-k c = omega arith
@@ -60,13 +63,21 @@ loop-less : tie.Need-loop-less Inv-loop μ-loop
 loop-less c = omega arith
 
 loop-again : tie.Need-loop-again Inv-loop μ-loop
-loop-again c = (omega arith, simp length-set (omega arith), sum-again (c .before .before .before .before .before .before .before .args .n) _ _ _ (c .before .before .before .before .before .loop .inv .2) (c .before .before .before .before .loop-test .taken) (c .before .before .before .before .before .before .before .pre .1) (omega arith) (c .before .is-finite .ensures) (not-no _ (c .if1 .left)))
+loop-again c =
+    let at-test = c .before .before .before .before in let at-loop = at-test .before in let at-entry = at-loop .before .before in (
+      omega arith,
+      simp length-set (omega arith),
+      sum-again (at-entry .args .n) _ _ _ (at-loop .loop .inv .2) (at-test .loop-test .taken) (at-entry .pre .1) (omega arith)
+          (c .before .is-finite .ensures) (not-no _ (c .if1 .left)),
+    )
 
 same-length-2 : tie.Need-same-length-2 Inv-loop μ-loop
 same-length-2 c = omega arith
 
 returns-2 : tie.Need-returns-2 Inv-loop μ-loop
-returns-2 c = sum-ends (c .before .before .before .args .n) _ _ _ (c .before .loop .inv .2) (omega arith) (c .loop-test .left) (c .before .before .before .pre .1)
+returns-2 c =
+    let at-entry = c .before .before .before in
+    sum-ends (at-entry .args .n) _ _ _ (c .before .loop .inv .2) (omega arith) (c .loop-test .left) (at-entry .pre .1)
 
 pub add-impulses-spec : {M : Type 1} → statement M
 add-impulses-spec =

@@ -1,14 +1,16 @@
+-- `fill` puts one body number into n places: before turn k those before k have it (`Spread`).
 use native.Mathlib.Omega.{arith}
-use mathlib.Core.Path.{_≡_, refl, sym, ap, _∙_}
-use Prim.Native.Nat.{ℕ, _+_, _*_, _≤_, _<_, _-_}
-use lib.ListN.{length, getD, length-set}
-use Rattle.step.specs.Ready.{Spread, Joined}
-use Rattle.step.proofs.StepLaws.{spread-none, spread-more, spread-end, spread-less}
+use mathlib.Core.Path.{_≡_, refl}
+use Prim.Native.Nat.{_+_, _≤_, _-_}
+use lib.ListN.{length, length-set}
+use Rattle.step.specs.Ready.{Spread}
+use Rattle.step.proofs.StepLaws.{spread-none, spread-more, spread-end}
 use Rattle.step.proofs.integrator.fill.Statement.{statement}
 use Rattle.step.proofs.integrator.fill.Tie as tie
 
 abbrev Inv-loop : tie.InvT-loop
-Inv-loop index₀ from n body k₀ k-end index k = (from ≤ k) × (k ≤ k-end) × (k-end ≡ from + n) × (length index ≡ length index₀) × (Spread from (k - from) body index₀ index)
+Inv-loop index₀ from n body k₀ k-end index k =
+    (from ≤ k) × (k ≤ k-end) × (k-end ≡ from + n) × (length index ≡ length index₀) × (Spread from (k - from) body index₀ index)
 
 abbrev μ-loop : tie.MeasureT-loop
 μ-loop index₀ from n body k₀ k-end index k = k-end - k
@@ -32,7 +34,13 @@ loop-less : tie.Need-loop-less Inv-loop μ-loop
 loop-less c = omega arith
 
 loop-again : tie.Need-loop-again Inv-loop μ-loop
-loop-again c = (omega arith, omega arith, omega arith, simp length-set (omega arith), spread-more (omega arith) (omega arith) (c .before .loop .inv .4))
+loop-again c = (
+  omega arith,
+  omega arith,
+  omega arith,
+  simp length-set (omega arith),
+  spread-more (omega arith) (omega arith) (c .before .loop .inv .4),
+)
 
 same-length : tie.Need-same-length Inv-loop μ-loop
 same-length c = omega arith

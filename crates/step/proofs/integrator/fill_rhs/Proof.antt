@@ -1,5 +1,5 @@
+-- `fill_rhs` is `rhsOf`: before turn k the first k right sides stand in their places.
 use lib.ListN.{length, length-set}
-use denote.Ref.{now}
 use lib.Ieee as Ieee
 use Rattle.arith.specs.Real.{_⊘_}
 use Rattle.rows.specs.View.{at}
@@ -8,8 +8,8 @@ use Rattle.solves.specs.RegionLaws.{filled-none, filled-all}
 use Rattle.solves.specs.View.{ROWS, RHS}
 use Rattle.step.proofs.TableLaws.{rhs-more, rhs-is}
 use native.Mathlib.Omega.{arith}
-use mathlib.Core.Path.{_≡_, refl, sym, ap, _∙_}
-use Prim.Native.Nat.{ℕ, _+_, _*_, _≤_, _<_, _-_}
+use mathlib.Core.Path.{_≡_, refl}
+use Prim.Native.Nat.{_+_, _*_, _≤_, _-_}
 use Rattle.step.proofs.integrator.fill_rhs.Statement.{statement}
 use Rattle.step.proofs.integrator.fill_rhs.Tie as tie
 
@@ -53,13 +53,17 @@ loop-less : tie.Need-loop-less Inv-loop μ-loop
 loop-less c = omega arith
 
 loop-again : tie.Need-loop-again Inv-loop μ-loop
-loop-again c = (omega arith, simp length-set (omega arith), rhs-more (c .before .before .before .args .dt) _ _ _ (c .before .before .loop .inv .2) (omega arith) (omega arith))
+loop-again c =
+    let at-entry = c .before .before .before in
+    (omega arith, simp length-set (omega arith), rhs-more (at-entry .args .dt) _ _ _ (c .before .before .loop .inv .2) (omega arith) (omega arith))
 
 same-length : tie.Need-same-length Inv-loop μ-loop
 same-length c = omega arith
 
 returns : tie.Need-returns Inv-loop μ-loop
-returns c = λ ia ib. rhs-is _ _ ia ib (c .before .before .args .dt) (filled-all (omega arith) (c .loop-test .left) (c .before .loop .inv .2)) (c .before .before .pre .1)
+returns c =
+    let at-entry = c .before .before in
+    λ ia ib. rhs-is _ _ ia ib (at-entry .args .dt) (filled-all (omega arith) (c .loop-test .left) (c .before .loop .inv .2)) (at-entry .pre .1)
 
 pub fill-rhs-spec : {M : Type 1} → statement M
 fill-rhs-spec =

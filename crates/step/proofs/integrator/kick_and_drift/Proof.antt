@@ -1,3 +1,4 @@
+-- `kick_and_drift` is `kickAndDrift`: the kick's contract, and where it is done the drift's.
 use Rattle.step.proofs.TableLaws.{kick-drifts, kick-nonconvergent, kick-overflow}
 use borrow.Author.Needs.{needs}
 use Rattle.step.proofs.integrator.kick_and_drift.Statement.{statement}
@@ -19,13 +20,22 @@ enum-told-3 : tie.Need-enum-told-3
 enum-told-3 c = search needs
 
 returns : tie.Need-returns
-returns c = kick-drifts (c .before .before .before .before .args .dt) (c .before .before .before .before .args .body) (record { linear = c .before .before .before .before .args .linear; angular = c .before .before .before .before .args .angular }) (c .before .before .before .kick .ensures) (c .before .enum-told .given .1) (c .drift .ensures)
+returns c =
+    let at-kick = c .before .before .before in let at-entry = at-kick .before in
+    kick-drifts (at-entry .args .dt) (at-entry .args .body) (record { linear = at-entry .args .linear; angular = at-entry .args .angular })
+    (at-kick .kick .ensures) (c .before .enum-told .given .1) (c .drift .ensures)
 
 returns-2 : tie.Need-returns-2
-returns-2 c = kick-nonconvergent (c .before .before .before .args .dt) (c .before .before .before .args .body) (record { linear = c .before .before .before .args .linear; angular = c .before .before .before .args .angular }) (c .before .before .kick .ensures) (c .enum-told2 .given .1)
+returns-2 c =
+    let at-entry = c .before .before .before in
+    kick-nonconvergent (at-entry .args .dt) (at-entry .args .body) (record { linear = at-entry .args .linear; angular = at-entry .args .angular })
+    (c .before .before .kick .ensures) (c .enum-told2 .given .1)
 
 returns-3 : tie.Need-returns-3
-returns-3 c = kick-overflow (c .before .before .before .args .dt) (c .before .before .before .args .body) (record { linear = c .before .before .before .args .linear; angular = c .before .before .before .args .angular }) (c .before .before .kick .ensures) (c .enum-told3 .given .1)
+returns-3 c =
+    let at-entry = c .before .before .before in
+    kick-overflow (at-entry .args .dt) (at-entry .args .body) (record { linear = at-entry .args .linear; angular = at-entry .args .angular })
+    (c .before .before .kick .ensures) (c .enum-told3 .given .1)
 
 pub kick-and-drift-spec : {M : Type 1} → statement M
 kick-and-drift-spec =

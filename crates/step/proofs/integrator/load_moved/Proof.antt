@@ -1,3 +1,4 @@
+-- `load_moved` is the candidate or the start, as `moved` says.
 use mathlib.Core.Path.{_∙_}
 use Rattle.arith.specs.FlowLaws.{cond-yes, cond-no}
 use borrow.Author.Needs.{needs}

@@ -1,3 +1,4 @@
+-- `mass_response` is `massResponse`: the contracts of the products, one after the other.
 use lib.Ieee.{round, ofBits}
 use mathlib.Core.Path.{ap, _∙_}
 use Rattle.vectors.specs.Matrix.{matProductOf}
@@ -29,7 +30,12 @@ all-three-requires c κs = search needs
 
 returns : tie.Need-returns
 unfolding round ofBits
-returns c = mass-is (c .before .before .before .before .before .before .before .before .before .before .args .body) (c .before .before .before .before .before .before .before .before .before .to-mat3 .ensures) (c .before .before .before .before .before .before .product .ensures) (c .before .before .before .before .product2 .ensures ∙ ap (matProductOf _) (c .before .before .before .before .before .transpose .ensures)) (c .before .before .is-finite .ensures) (c .before .is-finite2 .ensures) (c .all-three .ensures)
+returns c =
+    let at-product2 = c .before .before .before .before in let at-transpose = at-product2 .before in let at-product = at-transpose .before in
+    let at-to-mat3 = at-product .before .before .before in let at-entry = at-to-mat3 .before in
+    mass-is (at-entry .args .body) (at-to-mat3 .to-mat3 .ensures) (at-product .product .ensures)
+    (at-product2 .product2 .ensures ∙ ap (matProductOf _) (at-transpose .transpose .ensures)) (c .before .before .is-finite .ensures)
+    (c .before .is-finite2 .ensures) (c .all-three .ensures)
 
 pub mass-response-spec : {M : Type 1} → statement M
 mass-response-spec =

@@ -1,3 +1,4 @@
+-- `move_bodies` is `moveBodies`: before turn k the first k candidates stand in the table (TableLaws `Moved`).
 use lib.ListN.{length}
 use Rattle.step.proofs.SolveLaws.{finish-case}
 use Rattle.step.proofs.TableLaws.{Moved, move-none, move-again, move-stops, move-ends}
@@ -39,7 +40,14 @@ same-length : tie.Need-same-length Inv-loop μ-loop
 same-length c = omega arith
 
 returns : tie.Need-returns Inv-loop μ-loop
-returns c = move-stops (c .before .before .before .before .before .before .before .before .before .before .args .dt) (c .before .before .before .before .before .before .before .before .before .before .args .n) _ _ _ (c .before .before .before .before .before .before .before .before .loop .inv .2) (c .before .before .before .before .before .before .before .loop-test .taken) (c .before .before .before .before .before .before .before .before .before .before .pre .1) (c .before .before .before .before .before .load-generalized .ensures) (c .before .before .before .load-start .ensures) refl (finish-case (c .before .before .kick-and-drift .result .body) (c .before .before .kick-and-drift .result .outcome) (c .before .before .kick-and-drift .ensures) (c .enum-told2 .given .1))
+returns c =
+    let at-kick-and-drift = c .before .before in let at-load-start = at-kick-and-drift .before in
+    let at-load-generalized = at-load-start .before .before in let at-test = at-load-generalized .before .before in let at-loop = at-test .before in
+    let at-entry = at-loop .before .before in
+    move-stops (at-entry .args .dt) (at-entry .args .n) _ _ _ (at-loop .loop .inv .2) (at-test .loop-test .taken) (at-entry .pre .1)
+    (at-load-generalized .load-generalized .ensures) (at-load-start .load-start .ensures) refl
+    (finish-case (at-kick-and-drift .kick-and-drift .result .body) (at-kick-and-drift .kick-and-drift .result .outcome)
+    (at-kick-and-drift .kick-and-drift .ensures) (c .enum-told2 .given .1))
 
 enum-told-3 : tie.Need-enum-told-3 Inv-loop μ-loop
 enum-told-3 c = search needs
@@ -48,7 +56,14 @@ same-length-2 : tie.Need-same-length-2 Inv-loop μ-loop
 same-length-2 c = omega arith
 
 returns-2 : tie.Need-returns-2 Inv-loop μ-loop
-returns-2 c = move-stops (c .before .before .before .before .before .before .before .before .before .before .args .dt) (c .before .before .before .before .before .before .before .before .before .before .args .n) _ _ _ (c .before .before .before .before .before .before .before .before .loop .inv .2) (c .before .before .before .before .before .before .before .loop-test .taken) (c .before .before .before .before .before .before .before .before .before .before .pre .1) (c .before .before .before .before .before .load-generalized .ensures) (c .before .before .before .load-start .ensures) refl (finish-case (c .before .before .kick-and-drift .result .body) (c .before .before .kick-and-drift .result .outcome) (c .before .before .kick-and-drift .ensures) (c .enum-told3 .given .1))
+returns-2 c =
+    let at-kick-and-drift = c .before .before in let at-load-start = at-kick-and-drift .before in
+    let at-load-generalized = at-load-start .before .before in let at-test = at-load-generalized .before .before in let at-loop = at-test .before in
+    let at-entry = at-loop .before .before in
+    move-stops (at-entry .args .dt) (at-entry .args .n) _ _ _ (at-loop .loop .inv .2) (at-test .loop-test .taken) (at-entry .pre .1)
+    (at-load-generalized .load-generalized .ensures) (at-load-start .load-start .ensures) refl
+    (finish-case (at-kick-and-drift .kick-and-drift .result .body) (at-kick-and-drift .kick-and-drift .result .outcome)
+    (at-kick-and-drift .kick-and-drift .ensures) (c .enum-told3 .given .1))
 
 add-k : tie.Need-add-k Inv-loop μ-loop
 add-k c = omega arith
@@ -57,13 +72,25 @@ loop-less : tie.Need-loop-less Inv-loop μ-loop
 loop-less c = omega arith
 
 loop-again : tie.Need-loop-again Inv-loop μ-loop
-loop-again c = (omega arith, omega (arith, c .before .before .store-candidate .ensures .0 .size), move-again (c .before .before .before .before .before .before .before .before .before .before .before .before .before .before .args .dt) (c .before .before .before .before .before .before .before .before .before .before .before .before .before .before .args .n) _ _ _ (c .before .before .before .before .before .before .before .before .before .before .before .before .loop .inv .2) (c .before .before .before .before .before .before .before .before .before .before .before .loop-test .taken) (c .before .before .before .before .before .before .before .before .before .before .before .before .before .before .pre .1) (c .before .before .before .before .before .before .before .before .before .load-generalized .ensures) (c .before .before .before .before .before .before .before .load-start .ensures) refl (finish-case (c .before .before .before .before .before .before .kick-and-drift .result .body) (c .before .before .before .before .before .before .kick-and-drift .result .outcome) (c .before .before .before .before .before .before .kick-and-drift .ensures) (c .before .before .before .before .enum-told .given .1)) (c .before .before .store-candidate .ensures))
+loop-again c =
+    let at-enum-told = c .before .before .before .before in let at-kick-and-drift = at-enum-told .before .before in
+    let at-load-start = at-kick-and-drift .before in let at-load-generalized = at-load-start .before .before in
+    let at-test = at-load-generalized .before .before in let at-loop = at-test .before in let at-entry = at-loop .before .before in (
+      omega arith,
+      omega arith,
+      move-again (at-entry .args .dt) (at-entry .args .n) _ _ _ (at-loop .loop .inv .2) (at-test .loop-test .taken) (at-entry .pre .1)
+          (at-load-generalized .load-generalized .ensures) (at-load-start .load-start .ensures) refl
+          (finish-case (at-kick-and-drift .kick-and-drift .result .body) (at-kick-and-drift .kick-and-drift .result .outcome)
+          (at-kick-and-drift .kick-and-drift .ensures) (at-enum-told .enum-told .given .1)) (c .before .before .store-candidate .ensures),
+    )
 
 same-length-3 : tie.Need-same-length-3 Inv-loop μ-loop
 same-length-3 c = omega arith
 
 returns-3 : tie.Need-returns-3 Inv-loop μ-loop
-returns-3 c = move-ends (c .before .before .before .args .dt) (c .before .before .before .args .n) _ _ _ (c .before .loop .inv .2) (omega arith) (c .loop-test .left) (c .before .before .before .pre .1)
+returns-3 c =
+    let at-entry = c .before .before .before in
+    move-ends (at-entry .args .dt) (at-entry .args .n) _ _ _ (c .before .loop .inv .2) (omega arith) (c .loop-test .left) (at-entry .pre .1)
 
 pub move-bodies-spec : {M : Type 1} → statement M
 move-bodies-spec =

@@ -1,7 +1,6 @@
 use native.Mathlib.Omega.{arith}
-use mathlib.Core.Path.{_≡_, refl, sym, ap, _∙_}
-use Prim.Native.Nat.{ℕ, _+_, _*_, _≤_, _<_, _-_}
-use lib.ListN.{length, length-set}
+use Prim.Native.Nat.{_-_}
+use lib.ListN.{length}
 use denote.Ref.{now}
 use Rattle.step.proofs.StepLaws.{rows-same}
 use Rattle.step.proofs.LoopLaws.{pass-nonconvergent, pass-overflow, pass-met, pass-corrects}

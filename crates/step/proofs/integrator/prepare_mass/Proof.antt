@@ -1,3 +1,4 @@
+-- `prepare_mass` stores a body's mass response, if it is finite (TableLaws `weigh-there`).
 use native.Mathlib.Omega.{arith}
 use Rattle.step.proofs.TableLaws.{weigh-over, weigh-there}
 use borrow.Author.Needs.{needs}
@@ -8,7 +9,9 @@ mass-response-requires : tie.Need-mass-response-requires
 mass-response-requires c κs = search needs
 
 returns : tie.Need-returns
-returns c = weigh-over _ (c .before .before .before .before .args .k) _ (c .before .before .mass-response .result) (c .before .before .mass-response .ensures) (c .if1 .taken) _
+returns c =
+    let at-mass-response = c .before .before in let at-entry = at-mass-response .before .before in
+    weigh-over _ (at-entry .args .k) _ (at-mass-response .mass-response .result) (at-mass-response .mass-response .ensures) (c .if1 .taken) _
 
 column-requires : tie.Need-column-requires
 column-requires c κs = search needs
@@ -26,7 +29,12 @@ same-length : tie.Need-same-length
 same-length c = search needs
 
 returns-2 : tie.Need-returns-2
-returns-2 c = weigh-there _ (c .before .before .before .before .before .before .before .before .before .before .before .before .before .args .k) _ (c .before .before .before .before .before .before .before .before .before .before .before .mass-response .result) (c .before .before .before .before .before .before .before .before .before .before .before .mass-response .ensures) (c .before .before .before .before .before .before .before .before .before .if1 .left) (c .before .before .before .before .before .before .column .ensures) (c .before .before .before .before .before .column2 .ensures) (c .before .before .before .before .column3 .ensures) (c .before .before .store-mass .ensures)
+returns-2 c =
+    let at-column3 = c .before .before .before .before in let at-column2 = at-column3 .before in let at-column = at-column2 .before in
+    let at-if1 = at-column .before .before .before in let at-mass-response = at-if1 .before .before in
+    let at-entry = at-mass-response .before .before in
+    weigh-there _ (at-entry .args .k) _ (at-mass-response .mass-response .result) (at-mass-response .mass-response .ensures) (at-if1 .if1 .left)
+    (at-column .column .ensures) (at-column2 .column2 .ensures) (at-column3 .column3 .ensures) (c .before .before .store-mass .ensures)
 
 pub prepare-mass-spec : {M : Type 1} → statement M
 prepare-mass-spec =

@@ -1,9 +1,9 @@
-use lib.ListN.{length, length-set}
-use denote.Ref.{now}
+-- `prepare_masses` is `prepareMasses`: before turn k the first k masses stand in the table (TableLaws `Weighed`).
+use lib.ListN.{length}
 use Rattle.step.proofs.TableLaws.{Weighed, weigh-none, weigh-again, weigh-stops, weigh-ends}
 use native.Mathlib.Omega.{arith}
-use mathlib.Core.Path.{_≡_, refl, sym, ap, _∙_}
-use Prim.Native.Nat.{ℕ, _+_, _*_, _≤_, _<_, _-_}
+use mathlib.Core.Path.{_≡_, refl}
+use Prim.Native.Nat.{_≤_, _-_}
 use borrow.Author.Needs.{needs}
 use Rattle.step.proofs.integrator.prepare_masses.Statement.{statement}
 use Rattle.step.proofs.integrator.prepare_masses.Tie as tie
@@ -30,7 +30,11 @@ same-length : tie.Need-same-length Inv-loop μ-loop
 same-length c = omega arith
 
 returns : tie.Need-returns Inv-loop μ-loop
-returns c = weigh-stops (c .before .before .before .before .before .before .before .before .before .before .before .args .moved) (c .before .before .before .before .before .before .before .before .before .before .before .args .n) _ _ _ (c .before .before .before .before .before .before .before .before .before .loop .inv .2) (c .before .before .before .before .before .before .before .before .loop-test .taken) (c .before .before .before .before .before .before .before .before .before .before .before .pre .1) (c .before .before .before .before .before .before .load-moved .ensures) _ (c .enum-told .given .1) (c .before .before .before .before .prepare-mass .ensures)
+returns c =
+    let at-prepare-mass = c .before .before .before .before in let at-load-moved = at-prepare-mass .before .before in
+    let at-test = at-load-moved .before .before in let at-loop = at-test .before in let at-entry = at-loop .before .before in
+    weigh-stops (at-entry .args .moved) (at-entry .args .n) _ _ _ (at-loop .loop .inv .2) (at-test .loop-test .taken) (at-entry .pre .1)
+    (at-load-moved .load-moved .ensures) _ (c .enum-told .given .1) (at-prepare-mass .prepare-mass .ensures)
 
 enum-told-2 : tie.Need-enum-told-2 Inv-loop μ-loop
 enum-told-2 c = search needs
@@ -42,13 +46,22 @@ loop-less : tie.Need-loop-less Inv-loop μ-loop
 loop-less c = omega arith
 
 loop-again : tie.Need-loop-again Inv-loop μ-loop
-loop-again c = (omega arith, omega (arith, c .before .before .before .before .prepare-mass .ensures .kept .size), weigh-again (c .before .before .before .before .before .before .before .before .before .before .before .args .moved) (c .before .before .before .before .before .before .before .before .before .before .before .args .n) _ _ _ (c .before .before .before .before .before .before .before .before .before .loop .inv .2) (c .before .before .before .before .before .before .before .before .loop-test .taken) (c .before .before .before .before .before .before .before .before .before .before .before .pre .1) (c .before .before .before .before .before .before .load-moved .ensures) _ (c .enum-told2 .given .1) (c .before .before .before .before .prepare-mass .ensures))
+loop-again c =
+    let at-prepare-mass = c .before .before .before .before in let at-load-moved = at-prepare-mass .before .before in
+    let at-test = at-load-moved .before .before in let at-loop = at-test .before in let at-entry = at-loop .before .before in (
+      omega arith,
+      omega arith,
+      weigh-again (at-entry .args .moved) (at-entry .args .n) _ _ _ (at-loop .loop .inv .2) (at-test .loop-test .taken) (at-entry .pre .1)
+          (at-load-moved .load-moved .ensures) _ (c .enum-told2 .given .1) (at-prepare-mass .prepare-mass .ensures),
+    )
 
 same-length-2 : tie.Need-same-length-2 Inv-loop μ-loop
 same-length-2 c = omega arith
 
 returns-2 : tie.Need-returns-2 Inv-loop μ-loop
-returns-2 c = weigh-ends (c .before .before .before .args .moved) (c .before .before .before .args .n) _ _ _ (c .before .loop .inv .2) (omega arith) (c .loop-test .left) (c .before .before .before .pre .1)
+returns-2 c =
+    let at-entry = c .before .before .before in
+    weigh-ends (at-entry .args .moved) (at-entry .args .n) _ _ _ (c .before .loop .inv .2) (omega arith) (c .loop-test .left) (at-entry .pre .1)
 
 pub prepare-masses-spec : {M : Type 1} → statement M
 prepare-masses-spec =

@@ -1,26 +1,41 @@
+-- `row_bodies` says of each row which bodies it joins: before turn k the rows of the first k joints are named (`RowBodies`, `Sides`).
 use Rattle.arith.specs.FlowLaws.{turns-end}
 use Rattle.rows.specs.Geometry.{rowCount}
 use Rattle.step.specs.RunView.{rowsBefore, Sides}
 use Rattle.step.proofs.RowLaws.{before-none, before-more, sides-none, sides-more, sides-end}
 use native.Mathlib.Omega.{arith}
-use mathlib.Core.Path.{_≡_, refl, sym, ap, _∙_}
+use mathlib.Core.Path.{_≡_, refl}
 use Prim.Native.Nat.{ℕ, _+_, _*_, _≤_, _<_, _-_}
-use lib.ListN.{length, getD, length-set}
+use lib.ListN.{length, getD}
 use Rattle.rows.specs.Region.{count-most}
 use Rattle.step.specs.Checks.{jointIn}
-use Rattle.step.specs.Ready.{Spread, Joined}
-use Rattle.step.proofs.StepLaws.{spread-none, spread-more, spread-end, spread-less}
+use Rattle.step.specs.Ready.{Joined}
+use Rattle.step.proofs.StepLaws.{spread-less}
 use Rattle.step.proofs.integrator.row_bodies.Statement.{statement}
 use Rattle.step.proofs.integrator.row_bodies.Tie as tie
 
 abbrev Inv-loop : tie.InvT-loop
-Inv-loop ia₀ ib₀ count joints n₀ k₀ ia ib n k = (k ≤ count) × (n ≤ 6 * k) × (length ia ≡ length ia₀) × (length ib ≡ length ib₀) × ((size : ℕ) → Joined joints count size → (j : ℕ) → j < n → getD ia j 0 < size) × ((size : ℕ) → Joined joints count size → (j : ℕ) → j < n → getD ib j 0 < size) × (n ≡ rowsBefore joints k) × (Sides joints k ia ib)
+Inv-loop ia₀ ib₀ count joints n₀ k₀ ia ib n k =
+    (k ≤ count) × (n ≤ 6 * k) × (length ia ≡ length ia₀) × (length ib ≡ length ib₀) ×
+    ((size : ℕ) → Joined joints count size → (j : ℕ) → j < n → getD ia j 0 < size) ×
+    ((size : ℕ) → Joined joints count size → (j : ℕ) → j < n → getD ib j 0 < size) × (n ≡ rowsBefore joints k) ×
+    (Sides joints k ia ib)
 
 abbrev μ-loop : tie.MeasureT-loop
 μ-loop ia₀ ib₀ count joints n₀ k₀ ia ib n k = count - k
 
 loop-holds : tie.Need-loop-holds Inv-loop μ-loop
-loop-holds c = (omega arith, omega arith, refl, refl, (λ size q j h. absurd (omega arith)), (λ size q j h. absurd (omega arith)), before-none (c .before .before .args .t3), sides-none (c .before .before .args .t3) _ _)
+loop-holds c =
+    let at-entry = c .before .before in (
+      omega arith,
+      omega arith,
+      refl,
+      refl,
+      (λ size q j h. absurd (omega arith)),
+      (λ size q j h. absurd (omega arith)),
+      before-none (at-entry .args .t3),
+      sides-none (at-entry .args .t3) _ _,
+    )
 
 mul-joint : tie.Need-mul-joint Inv-loop μ-loop
 mul-joint c = omega arith
@@ -32,13 +47,42 @@ row-count-requires : tie.Need-row-count-requires Inv-loop μ-loop
 row-count-requires c κs = omega arith
 
 fill-requires : tie.Need-fill-requires Inv-loop μ-loop
-fill-requires c κs = omega (arith, c .before .before .before .before .loop .inv, c .before .before .before .loop-test .taken, c .before .before .before .before .before .before .before .pre, c .before .row-count .ensures, count-most (jointIn (c .before .before .before .before .before .before .before .args .t3) (c .before .before .before .before .loop .k) .kind))
+fill-requires c κs =
+    let at-test = c .before .before .before in let at-loop = at-test .before in let at-entry = at-loop .before .before .before in
+    omega (
+      arith,
+      at-loop .loop .inv,
+      at-test .loop-test .taken,
+      at-entry .pre,
+      c .before .row-count .ensures,
+      count-most (jointIn (at-entry .args .t3) (at-loop .loop .k) .kind),
+    )
 
 fill-requires-2 : tie.Need-fill-requires-2 Inv-loop μ-loop
-fill-requires-2 c κs = omega (arith, c .before .before .before .before .before .before .before .before .loop .inv, c .before .before .before .before .before .before .before .loop-test .taken, c .before .before .before .before .before .before .before .before .before .before .before .pre, c .before .before .before .before .before .row-count .ensures, count-most (jointIn (c .before .before .before .before .before .before .before .before .before .before .before .args .t3) (c .before .before .before .before .before .before .before .before .loop .k) .kind))
+fill-requires-2 c κs =
+    let at-row-count = c .before .before .before .before .before in let at-test = at-row-count .before .before in let at-loop = at-test .before in
+    let at-entry = at-loop .before .before .before in
+    omega (
+      arith,
+      at-loop .loop .inv,
+      at-test .loop-test .taken,
+      at-entry .pre,
+      at-row-count .row-count .ensures,
+      count-most (jointIn (at-entry .args .t3) (at-loop .loop .k) .kind),
+    )
 
 add-n : tie.Need-add-n Inv-loop μ-loop
-add-n c = omega (arith, c .before .before .before .before .before .before .before .before .before .before .before .loop .inv, c .before .before .before .before .before .before .before .before .before .before .loop-test .taken, c .before .before .before .before .before .before .before .before .before .before .before .before .before .before .pre, c .before .before .before .before .before .before .before .before .row-count .ensures, count-most (jointIn (c .before .before .before .before .before .before .before .before .before .before .before .before .before .before .args .t3) (c .before .before .before .before .before .before .before .before .before .before .before .loop .k) .kind))
+add-n c =
+    let at-fill = c .before .before .before .before .before .before in let at-row-count = at-fill .before .before in
+    let at-test = at-row-count .before .before in let at-loop = at-test .before in let at-entry = at-loop .before .before .before in
+    omega (
+      arith,
+      at-loop .loop .inv,
+      at-test .loop-test .taken,
+      at-entry .pre,
+      at-row-count .row-count .ensures,
+      count-most (jointIn (at-entry .args .t3) (at-loop .loop .k) .kind),
+    )
 
 add-k : tie.Need-add-k Inv-loop μ-loop
 add-k c = omega arith
@@ -47,7 +91,26 @@ loop-less : tie.Need-loop-less Inv-loop μ-loop
 loop-less c = omega arith
 
 loop-again : tie.Need-loop-again Inv-loop μ-loop
-loop-again c = (omega arith, omega (arith, c .before .before .before .before .before .before .before .before .before .before .before .loop .inv, c .before .before .before .before .before .before .before .before .before .before .loop-test .taken, c .before .before .before .before .before .before .before .before .before .before .before .before .before .before .pre, c .before .before .before .before .before .before .before .before .row-count .ensures, count-most (jointIn (c .before .before .before .before .before .before .before .before .before .before .before .before .before .before .args .t3) (c .before .before .before .before .before .before .before .before .before .before .before .loop .k) .kind)), omega arith, omega arith, (λ size q. spread-less (c .before .before .before .before .before .before .fill .ensures) (c .before .before .before .before .before .before .before .before .before .before .before .loop .inv .4 size q) (q .a-there _ (c .before .before .before .before .before .before .before .before .before .before .loop-test .taken))), (λ size q. spread-less (c .before .before .fill2 .ensures) (c .before .before .before .before .before .before .before .before .before .before .before .loop .inv .5 size q) (q .b-there _ (c .before .before .before .before .before .before .before .before .before .before .loop-test .taken))), before-more (c .before .before .before .before .before .before .before .before .before .before .before .before .before .before .args .t3) (c .before .before .before .before .before .before .before .before .before .before .before .loop .k) _ (c .before .before .before .before .before .before .before .before .before .before .before .loop .inv .6) (c .before .before .before .before .before .before .before .before .row-count .ensures), sides-more (c .before .before .before .before .before .before .before .before .before .before .before .before .before .before .args .t3) (c .before .before .before .before .before .before .before .before .before .before .before .loop .k) _ (c .before .before .before .before .before .before .before .before .before .before .before .loop .inv .7) (c .before .before .before .before .before .before .before .before .before .before .before .loop .inv .6) (c .before .before .before .before .before .before .before .before .row-count .ensures) (c .before .before .before .before .before .before .fill .ensures) (c .before .before .fill2 .ensures))
+loop-again c =
+    let at-fill2 = c .before .before in let at-fill = at-fill2 .before .before .before .before in let at-row-count = at-fill .before .before in
+    let at-test = at-row-count .before .before in let at-loop = at-test .before in let at-entry = at-loop .before .before .before in (
+      omega arith,
+      omega (
+        arith,
+        at-loop .loop .inv,
+        at-test .loop-test .taken,
+        at-entry .pre,
+        at-row-count .row-count .ensures,
+        count-most (jointIn (at-entry .args .t3) (at-loop .loop .k) .kind),
+      ),
+      omega arith,
+      omega arith,
+      (λ size q. spread-less (at-fill .fill .ensures) (at-loop .loop .inv .4 size q) (q .a-there _ (at-test .loop-test .taken))),
+      (λ size q. spread-less (at-fill2 .fill2 .ensures) (at-loop .loop .inv .5 size q) (q .b-there _ (at-test .loop-test .taken))),
+      before-more (at-entry .args .t3) (at-loop .loop .k) _ (at-loop .loop .inv .6) (at-row-count .row-count .ensures),
+      sides-more (at-entry .args .t3) (at-loop .loop .k) _ (at-loop .loop .inv .7) (at-loop .loop .inv .6) (at-row-count .row-count .ensures)
+          (at-fill .fill .ensures) (at-fill2 .fill2 .ensures),
+    )
 
 same-length : tie.Need-same-length Inv-loop μ-loop
 same-length c = omega arith
@@ -56,7 +119,12 @@ same-length-2 : tie.Need-same-length-2 Inv-loop μ-loop
 same-length-2 c = omega arith
 
 returns : tie.Need-returns Inv-loop μ-loop
-returns c = (record { most = omega arith; a-there = c .before .loop .inv .4; b-there = c .before .loop .inv .5 }, sides-end (c .before .before .before .before .args .t3) (omega arith) (c .loop-test .left) (c .before .loop .inv .7), turns-end (λ (j n : ℕ). n + rowCount (jointIn (c .before .before .before .before .args .t3) j .kind)) 0 (omega arith) (c .loop-test .left) (c .before .loop .inv .6))
+returns c =
+    let at-entry = c .before .before .before .before in (
+      record { most = omega arith; a-there = c .before .loop .inv .4; b-there = c .before .loop .inv .5 },
+      sides-end (at-entry .args .t3) (omega arith) (c .loop-test .left) (c .before .loop .inv .7),
+      turns-end (λ (j n : ℕ). n + rowCount (jointIn (at-entry .args .t3) j .kind)) 0 (omega arith) (c .loop-test .left) (c .before .loop .inv .6),
+    )
 
 pub row-bodies-spec : {M : Type 1} → statement M
 row-bodies-spec =

@@ -1,4 +1,4 @@
-use lib.ListN.{length, length-set}
+-- `rows_met` is `rowsMet`: before turn k the first k rows passed.
 use denote.Ref.{now}
 use mathlib.Core.Bool.{true}
 use mathlib.Core.List.{List}
@@ -10,8 +10,8 @@ use Rattle.rows.specs.View.{at}
 use Rattle.solves.specs.View.{ROWS}
 use Rattle.step.proofs.TableLaws.{rowTest, row-test, met-fails, met-ends}
 use native.Mathlib.Omega.{arith}
-use mathlib.Core.Path.{_≡_, refl, sym, ap, _∙_}
-use Prim.Native.Nat.{ℕ, _+_, _*_, _≤_, _<_, _-_}
+use mathlib.Core.Path.{_≡_, sym, ap, _∙_}
+use Prim.Native.Nat.{ℕ, _+_, _*_, _≤_, _-_}
 use Rattle.step.proofs.integrator.rows_met.Statement.{statement}
 use Rattle.step.proofs.integrator.rows_met.Tie as tie
 
@@ -58,7 +58,12 @@ shared-slice-read-if1 : tie.Need-shared-slice-read-if1 Inv-loop μ-loop
 shared-slice-read-if1 c = omega arith
 
 returns : tie.Need-returns Inv-loop μ-loop
-returns c = λ ia ib. met-fails (now (c .before .before .before .before .before .before .before .args .s)) (c .before .before .before .before .before .before .before .args .n) ia ib _ (c .before .before .before .before .loop-test .taken) (row-test (now (c .before .before .before .before .before .before .before .args .s)) (c .before .before .before .before .before .before .before .args .n) ia ib (c .before .before .before .before .before .loop .k) (c .before .before .before .before .loop-test .taken) (ap (λ (x : Float). Ieee.le x (at (now (c .before .before .before .before .before .before .before .args .s)) (ROWS + 14 * (c .before .before .before .before .before .loop .k) + 13))) (sym (c .before .before .abs .ensures)) ∙ c .if1 .left))
+returns c =
+    let at-test = c .before .before .before .before in let at-loop = at-test .before in let at-entry = at-loop .before .before in
+    λ ia ib. met-fails (now (at-entry .args .s)) (at-entry .args .n) ia ib _ (at-test .loop-test .taken)
+    (row-test (now (at-entry .args .s)) (at-entry .args .n) ia ib (at-loop .loop .k) (at-test .loop-test .taken)
+    (ap (λ (x : Float). Ieee.le x (at (now (at-entry .args .s)) (ROWS + 14 * (at-loop .loop .k) + 13))) (sym (c .before .before .abs .ensures)) ∙
+    c .if1 .left))
 
 add-k : tie.Need-add-k Inv-loop μ-loop
 add-k c = omega arith
@@ -67,10 +72,19 @@ loop-less : tie.Need-loop-less Inv-loop μ-loop
 loop-less c = omega arith
 
 loop-again : tie.Need-loop-again Inv-loop μ-loop
-loop-again c = (omega arith, λ ia ib. every-more (rowTest (now (c .before .before .before .before .before .before .before .args .s)) (c .before .before .before .before .before .before .before .args .n) ia ib) (c .before .before .before .before .before .loop .inv .1 ia ib) (row-test (now (c .before .before .before .before .before .before .before .args .s)) (c .before .before .before .before .before .before .before .args .n) ia ib (c .before .before .before .before .before .loop .k) (c .before .before .before .before .loop-test .taken) (ap (λ (x : Float). Ieee.le x (at (now (c .before .before .before .before .before .before .before .args .s)) (ROWS + 14 * (c .before .before .before .before .before .loop .k) + 13))) (sym (c .before .before .abs .ensures)) ∙ c .if1 .taken)))
+loop-again c =
+    let at-test = c .before .before .before .before in let at-loop = at-test .before in let at-entry = at-loop .before .before in (
+      omega arith,
+      λ ia ib. every-more (rowTest (now (at-entry .args .s)) (at-entry .args .n) ia ib) (at-loop .loop .inv .1 ia ib)
+          (row-test (now (at-entry .args .s)) (at-entry .args .n) ia ib (at-loop .loop .k) (at-test .loop-test .taken)
+          (ap (λ (x : Float). Ieee.le x (at (now (at-entry .args .s)) (ROWS + 14 * (at-loop .loop .k) + 13))) (sym (c .before .before .abs .ensures)) ∙
+          c .if1 .taken)),
+    )
 
 returns-2 : tie.Need-returns-2 Inv-loop μ-loop
-returns-2 c = λ ia ib. met-ends (now (c .before .before .before .args .s)) (c .before .before .before .args .n) ia ib _ (c .before .loop .inv .1 ia ib) (omega arith) (c .loop-test .left)
+returns-2 c =
+    let at-entry = c .before .before .before in
+    λ ia ib. met-ends (now (at-entry .args .s)) (at-entry .args .n) ia ib _ (c .before .loop .inv .1 ia ib) (omega arith) (c .loop-test .left)
 
 pub rows-met-spec : {M : Type 1} → statement M
 rows-met-spec =

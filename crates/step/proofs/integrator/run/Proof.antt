@@ -1,8 +1,7 @@
 use Rattle.step.proofs.FinishLaws.{run-1, run-2, run-3, run-4, run-5}
 use native.Mathlib.Omega.{arith}
-use mathlib.Core.Path.{_≡_, refl, sym, ap, _∙_}
-use Prim.Native.Nat.{ℕ, _+_, _*_, _≤_, _<_, _-_}
-use lib.ListN.{length, length-set}
+use Prim.Native.Nat.{_-_}
+use lib.ListN.{length}
 use denote.Ref.{now}
 use Rattle.step.specs.Records.{bodyCount}
 use Rattle.step.proofs.StepLaws.{rows-of}

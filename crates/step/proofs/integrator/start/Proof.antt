@@ -1,8 +1,9 @@
+-- `start` is `startOf`: bodies, rows and masses, each by its function's contract (LoopLaws).
 use Rattle.step.specs.RunView.{rowsBefore}
 use native.Mathlib.Omega.{arith}
-use mathlib.Core.Path.{_≡_, refl, sym, ap, _∙_}
-use Prim.Native.Nat.{ℕ, _+_, _*_, _≤_, _<_, _-_}
-use lib.ListN.{length, length-set}
+use mathlib.Core.Path.{refl}
+use Prim.Native.Nat.{_-_}
+use lib.ListN.{length}
 use denote.Ref.{now}
 use Rattle.step.proofs.StepLaws.{joined-sixteen}
 use Rattle.step.proofs.RowLaws.{before-most}
@@ -24,7 +25,16 @@ same-length : tie.Need-same-length
 same-length c = search needs
 
 returns : tie.Need-returns
-returns c = λ ia ib S. start-1 (now (c .before .before .before .before .before .before .before .before .args .bodies)) (c .before .before .before .before .before .before .before .before .args .joints) (c .before .before .before .before .before .before .before .before .args .count) ia ib (rowsBefore (c .before .before .before .before .before .before .before .before .args .joints) (c .before .before .before .before .before .before .before .before .args .count)) _ refl (omega (arith, before-most (c .before .before .before .before .before .before .before .before .args .joints) (c .before .before .before .before .before .before .before .before .args .count), c .before .before .before .before .before .before .before .before .pre .1 .few)) (c .before .before .before .before .before .before .before .before .pre .1 .small) _ _ (c .before .before .before .before .start-bodies .result) (c .before .before .before .before .start-bodies .ensures) (start-1-case (now (c .before .before .before .before .before .before .before .before .args .bodies)) (c .before .before .before .before .before .before .before .before .args .joints) (c .before .before .before .before .before .before .before .before .args .count) ia ib (rowsBefore (c .before .before .before .before .before .before .before .before .args .joints) (c .before .before .before .before .before .before .before .before .args .count)) _ refl (omega (arith, before-most (c .before .before .before .before .before .before .before .before .args .joints) (c .before .before .before .before .before .before .before .before .args .count), c .before .before .before .before .before .before .before .before .pre .1 .few)) (c .before .before .before .before .before .before .before .before .pre .1 .small) _ _ (c .before .before .before .before .start-bodies .result) (c .before .before .before .before .start-bodies .ensures) (c .enum-told2 .given .1))
+returns c =
+    let at-start-bodies = c .before .before .before .before in let at-entry = at-start-bodies .before .before .before .before in
+    λ ia ib S. start-1 (now (at-entry .args .bodies)) (at-entry .args .joints) (at-entry .args .count) ia ib
+    (rowsBefore (at-entry .args .joints) (at-entry .args .count)) _ refl
+    (omega (arith, before-most (at-entry .args .joints) (at-entry .args .count), at-entry .pre .1 .few)) (at-entry .pre .1 .small) _ _
+    (at-start-bodies .start-bodies .result) (at-start-bodies .start-bodies .ensures)
+    (start-1-case (now (at-entry .args .bodies)) (at-entry .args .joints) (at-entry .args .count) ia ib
+    (rowsBefore (at-entry .args .joints) (at-entry .args .count)) _ refl
+    (omega (arith, before-most (at-entry .args .joints) (at-entry .args .count), at-entry .pre .1 .few)) (at-entry .pre .1 .small) _ _
+    (at-start-bodies .start-bodies .result) (at-start-bodies .start-bodies .ensures) (c .enum-told2 .given .1))
 
 enum-told-3 : tie.Need-enum-told-3
 enum-told-3 c = search needs
@@ -33,10 +43,21 @@ same-length-2 : tie.Need-same-length-2
 same-length-2 c = search needs
 
 returns-2 : tie.Need-returns-2
-returns-2 c = λ ia ib S. start-1 (now (c .before .before .before .before .before .before .before .before .args .bodies)) (c .before .before .before .before .before .before .before .before .args .joints) (c .before .before .before .before .before .before .before .before .args .count) ia ib (rowsBefore (c .before .before .before .before .before .before .before .before .args .joints) (c .before .before .before .before .before .before .before .before .args .count)) _ refl (omega (arith, before-most (c .before .before .before .before .before .before .before .before .args .joints) (c .before .before .before .before .before .before .before .before .args .count), c .before .before .before .before .before .before .before .before .pre .1 .few)) (c .before .before .before .before .before .before .before .before .pre .1 .small) _ _ (c .before .before .before .before .start-bodies .result) (c .before .before .before .before .start-bodies .ensures) (start-1-case (now (c .before .before .before .before .before .before .before .before .args .bodies)) (c .before .before .before .before .before .before .before .before .args .joints) (c .before .before .before .before .before .before .before .before .args .count) ia ib (rowsBefore (c .before .before .before .before .before .before .before .before .args .joints) (c .before .before .before .before .before .before .before .before .args .count)) _ refl (omega (arith, before-most (c .before .before .before .before .before .before .before .before .args .joints) (c .before .before .before .before .before .before .before .before .args .count), c .before .before .before .before .before .before .before .before .pre .1 .few)) (c .before .before .before .before .before .before .before .before .pre .1 .small) _ _ (c .before .before .before .before .start-bodies .result) (c .before .before .before .before .start-bodies .ensures) (c .enum-told3 .given .1))
+returns-2 c =
+    let at-start-bodies = c .before .before .before .before in let at-entry = at-start-bodies .before .before .before .before in
+    λ ia ib S. start-1 (now (at-entry .args .bodies)) (at-entry .args .joints) (at-entry .args .count) ia ib
+    (rowsBefore (at-entry .args .joints) (at-entry .args .count)) _ refl
+    (omega (arith, before-most (at-entry .args .joints) (at-entry .args .count), at-entry .pre .1 .few)) (at-entry .pre .1 .small) _ _
+    (at-start-bodies .start-bodies .result) (at-start-bodies .start-bodies .ensures)
+    (start-1-case (now (at-entry .args .bodies)) (at-entry .args .joints) (at-entry .args .count) ia ib
+    (rowsBefore (at-entry .args .joints) (at-entry .args .count)) _ refl
+    (omega (arith, before-most (at-entry .args .joints) (at-entry .args .count), at-entry .pre .1 .few)) (at-entry .pre .1 .small) _ _
+    (at-start-bodies .start-bodies .result) (at-start-bodies .start-bodies .ensures) (c .enum-told3 .given .1))
 
 write-rows-requires : tie.Need-write-rows-requires
-write-rows-requires c κs = (omega (arith, c .before .before .before .before .before .start-bodies .ensures .kept .size, c .before .before .before .before .before .before .before .before .before .pre .0), omega arith, joined-sixteen (c .before .before .before .before .before .before .before .before .before .pre .1))
+write-rows-requires c κs =
+    let at-start-bodies-arg = c .before .before .before .before .before .before in let at-entry = at-start-bodies-arg .before .before .before in
+    (omega arith, omega arith, joined-sixteen (at-entry .pre .1))
 
 enum-told-4 : tie.Need-enum-told-4
 enum-told-4 c = search needs
@@ -48,7 +69,19 @@ same-length-3 : tie.Need-same-length-3
 same-length-3 c = search needs
 
 returns-3 : tie.Need-returns-3
-returns-3 c = λ ia ib S. start-2 (now (c .before .before .before .before .before .before .before .before .before .before .before .before .before .before .args .bodies)) (c .before .before .before .before .before .before .before .before .before .before .before .before .before .before .args .joints) (c .before .before .before .before .before .before .before .before .before .before .before .before .before .before .args .count) ia ib (rowsBefore (c .before .before .before .before .before .before .before .before .before .before .before .before .before .before .args .joints) (c .before .before .before .before .before .before .before .before .before .before .before .before .before .before .args .count)) _ refl (omega (arith, before-most (c .before .before .before .before .before .before .before .before .before .before .before .before .before .before .args .joints) (c .before .before .before .before .before .before .before .before .before .before .before .before .before .before .args .count), c .before .before .before .before .before .before .before .before .before .before .before .before .before .before .pre .1 .few)) (c .before .before .before .before .before .before .before .before .before .before .before .before .before .before .pre .1 .small) _ _ (c .before .before .before .before .before .before .before .before .before .before .start-bodies .result) (c .before .before .before .before .before .before .before .before .before .before .start-bodies .ensures) (c .before .before .before .before .before .before .enum-told .given .1) _ (c .before .before .before .before .write-rows .result) (c .before .before .before .before .write-rows .ensures _ (c .before .before .before .before .before .before .before .before .before .before .before .before .before .before .pre .1) ia ib S) (start-2-case (now (c .before .before .before .before .before .before .before .before .before .before .before .before .before .before .args .bodies)) (c .before .before .before .before .before .before .before .before .before .before .before .before .before .before .args .joints) (c .before .before .before .before .before .before .before .before .before .before .before .before .before .before .args .count) ia ib (rowsBefore (c .before .before .before .before .before .before .before .before .before .before .before .before .before .before .args .joints) (c .before .before .before .before .before .before .before .before .before .before .before .before .before .before .args .count)) _ refl (omega (arith, before-most (c .before .before .before .before .before .before .before .before .before .before .before .before .before .before .args .joints) (c .before .before .before .before .before .before .before .before .before .before .before .before .before .before .args .count), c .before .before .before .before .before .before .before .before .before .before .before .before .before .before .pre .1 .few)) (c .before .before .before .before .before .before .before .before .before .before .before .before .before .before .pre .1 .small) _ _ (c .before .before .before .before .before .before .before .before .before .before .start-bodies .result) (c .before .before .before .before .before .before .before .before .before .before .start-bodies .ensures) (c .before .before .before .before .before .before .enum-told .given .1) _ (c .before .before .before .before .write-rows .result) (c .before .before .before .before .write-rows .ensures _ (c .before .before .before .before .before .before .before .before .before .before .before .before .before .before .pre .1) ia ib S) (c .enum-told5 .given .1))
+returns-3 c =
+    let at-write-rows = c .before .before .before .before in let at-enum-told = at-write-rows .before .before in
+    let at-start-bodies = at-enum-told .before .before .before .before in let at-entry = at-start-bodies .before .before .before .before in
+    λ ia ib S. start-2 (now (at-entry .args .bodies)) (at-entry .args .joints) (at-entry .args .count) ia ib
+    (rowsBefore (at-entry .args .joints) (at-entry .args .count)) _ refl
+    (omega (arith, before-most (at-entry .args .joints) (at-entry .args .count), at-entry .pre .1 .few)) (at-entry .pre .1 .small) _ _
+    (at-start-bodies .start-bodies .result) (at-start-bodies .start-bodies .ensures) (at-enum-told .enum-told .given .1) _
+    (at-write-rows .write-rows .result) (at-write-rows .write-rows .ensures _ (at-entry .pre .1) ia ib S)
+    (start-2-case (now (at-entry .args .bodies)) (at-entry .args .joints) (at-entry .args .count) ia ib
+    (rowsBefore (at-entry .args .joints) (at-entry .args .count)) _ refl
+    (omega (arith, before-most (at-entry .args .joints) (at-entry .args .count), at-entry .pre .1 .few)) (at-entry .pre .1 .small) _ _
+    (at-start-bodies .start-bodies .result) (at-start-bodies .start-bodies .ensures) (at-enum-told .enum-told .given .1) _
+    (at-write-rows .write-rows .result) (at-write-rows .write-rows .ensures _ (at-entry .pre .1) ia ib S) (c .enum-told5 .given .1))
 
 enum-told-6 : tie.Need-enum-told-6
 enum-told-6 c = search needs
@@ -57,10 +90,26 @@ same-length-4 : tie.Need-same-length-4
 same-length-4 c = search needs
 
 returns-4 : tie.Need-returns-4
-returns-4 c = λ ia ib S. start-2 (now (c .before .before .before .before .before .before .before .before .before .before .before .before .before .before .args .bodies)) (c .before .before .before .before .before .before .before .before .before .before .before .before .before .before .args .joints) (c .before .before .before .before .before .before .before .before .before .before .before .before .before .before .args .count) ia ib (rowsBefore (c .before .before .before .before .before .before .before .before .before .before .before .before .before .before .args .joints) (c .before .before .before .before .before .before .before .before .before .before .before .before .before .before .args .count)) _ refl (omega (arith, before-most (c .before .before .before .before .before .before .before .before .before .before .before .before .before .before .args .joints) (c .before .before .before .before .before .before .before .before .before .before .before .before .before .before .args .count), c .before .before .before .before .before .before .before .before .before .before .before .before .before .before .pre .1 .few)) (c .before .before .before .before .before .before .before .before .before .before .before .before .before .before .pre .1 .small) _ _ (c .before .before .before .before .before .before .before .before .before .before .start-bodies .result) (c .before .before .before .before .before .before .before .before .before .before .start-bodies .ensures) (c .before .before .before .before .before .before .enum-told .given .1) _ (c .before .before .before .before .write-rows .result) (c .before .before .before .before .write-rows .ensures _ (c .before .before .before .before .before .before .before .before .before .before .before .before .before .before .pre .1) ia ib S) (start-2-case (now (c .before .before .before .before .before .before .before .before .before .before .before .before .before .before .args .bodies)) (c .before .before .before .before .before .before .before .before .before .before .before .before .before .before .args .joints) (c .before .before .before .before .before .before .before .before .before .before .before .before .before .before .args .count) ia ib (rowsBefore (c .before .before .before .before .before .before .before .before .before .before .before .before .before .before .args .joints) (c .before .before .before .before .before .before .before .before .before .before .before .before .before .before .args .count)) _ refl (omega (arith, before-most (c .before .before .before .before .before .before .before .before .before .before .before .before .before .before .args .joints) (c .before .before .before .before .before .before .before .before .before .before .before .before .before .before .args .count), c .before .before .before .before .before .before .before .before .before .before .before .before .before .before .pre .1 .few)) (c .before .before .before .before .before .before .before .before .before .before .before .before .before .before .pre .1 .small) _ _ (c .before .before .before .before .before .before .before .before .before .before .start-bodies .result) (c .before .before .before .before .before .before .before .before .before .before .start-bodies .ensures) (c .before .before .before .before .before .before .enum-told .given .1) _ (c .before .before .before .before .write-rows .result) (c .before .before .before .before .write-rows .ensures _ (c .before .before .before .before .before .before .before .before .before .before .before .before .before .before .pre .1) ia ib S) (c .enum-told6 .given .1))
+returns-4 c =
+    let at-write-rows = c .before .before .before .before in let at-enum-told = at-write-rows .before .before in
+    let at-start-bodies = at-enum-told .before .before .before .before in let at-entry = at-start-bodies .before .before .before .before in
+    λ ia ib S. start-2 (now (at-entry .args .bodies)) (at-entry .args .joints) (at-entry .args .count) ia ib
+    (rowsBefore (at-entry .args .joints) (at-entry .args .count)) _ refl
+    (omega (arith, before-most (at-entry .args .joints) (at-entry .args .count), at-entry .pre .1 .few)) (at-entry .pre .1 .small) _ _
+    (at-start-bodies .start-bodies .result) (at-start-bodies .start-bodies .ensures) (at-enum-told .enum-told .given .1) _
+    (at-write-rows .write-rows .result) (at-write-rows .write-rows .ensures _ (at-entry .pre .1) ia ib S)
+    (start-2-case (now (at-entry .args .bodies)) (at-entry .args .joints) (at-entry .args .count) ia ib
+    (rowsBefore (at-entry .args .joints) (at-entry .args .count)) _ refl
+    (omega (arith, before-most (at-entry .args .joints) (at-entry .args .count), at-entry .pre .1 .few)) (at-entry .pre .1 .small) _ _
+    (at-start-bodies .start-bodies .result) (at-start-bodies .start-bodies .ensures) (at-enum-told .enum-told .given .1) _
+    (at-write-rows .write-rows .result) (at-write-rows .write-rows .ensures _ (at-entry .pre .1) ia ib S) (c .enum-told6 .given .1))
 
 prepare-masses-requires : tie.Need-prepare-masses-requires
-prepare-masses-requires c κs = (omega (arith, c .before .before .before .before .s2 .given, c .before .before .before .before .before .before .before .before .before .before .before .start-bodies .ensures .kept .size, c .before .before .before .before .before .before .before .before .before .before .before .before .before .before .before .pre .0), c .before .before .before .before .before .before .before .before .before .before .before .before .before .before .before .pre .1 .small)
+prepare-masses-requires c κs =
+    let at-write-rows-arg = c .before .before .before .before .before .before in
+    let at-start-bodies-arg = at-write-rows-arg .before .before .before .before .before .before in
+    let at-entry = at-start-bodies-arg .before .before .before in
+    (omega arith, at-entry .pre .1 .small)
 
 enum-told-7 : tie.Need-enum-told-7
 enum-told-7 c = search needs
@@ -72,13 +121,31 @@ same-length-5 : tie.Need-same-length-5
 same-length-5 c = search needs
 
 returns-5 : tie.Need-returns-5
-returns-5 c = λ ia ib S. start-4 (now (c .before .before .before .before .before .before .before .before .before .before .before .before .before .before .before .before .before .before .before .before .args .bodies)) (c .before .before .before .before .before .before .before .before .before .before .before .before .before .before .before .before .before .before .before .before .args .joints) (c .before .before .before .before .before .before .before .before .before .before .before .before .before .before .before .before .before .before .before .before .args .count) ia ib (rowsBefore (c .before .before .before .before .before .before .before .before .before .before .before .before .before .before .before .before .before .before .before .before .args .joints) (c .before .before .before .before .before .before .before .before .before .before .before .before .before .before .before .before .before .before .before .before .args .count)) _ refl (omega (arith, before-most (c .before .before .before .before .before .before .before .before .before .before .before .before .before .before .before .before .before .before .before .before .args .joints) (c .before .before .before .before .before .before .before .before .before .before .before .before .before .before .before .before .before .before .before .before .args .count), c .before .before .before .before .before .before .before .before .before .before .before .before .before .before .before .before .before .before .before .before .pre .1 .few)) (c .before .before .before .before .before .before .before .before .before .before .before .before .before .before .before .before .before .before .before .before .pre .1 .small) _ _ (c .before .before .before .before .before .before .before .before .before .before .before .before .before .before .before .before .start-bodies .result) (c .before .before .before .before .before .before .before .before .before .before .before .before .before .before .before .before .start-bodies .ensures) (c .before .before .before .before .before .before .before .before .before .before .before .before .enum-told .given .1) _ (c .before .before .before .before .before .before .before .before .before .before .write-rows .result) (c .before .before .before .before .before .before .before .before .before .before .write-rows .ensures _ (c .before .before .before .before .before .before .before .before .before .before .before .before .before .before .before .before .before .before .before .before .pre .1) ia ib S) (c .before .before .before .before .before .before .enum-told4 .given .1) _ (c .before .before .before .before .prepare-masses .result) (c .before .before .before .before .prepare-masses .ensures) (c .enum-told7 .given .1)
+returns-5 c =
+    let at-prepare-masses = c .before .before .before .before in let at-enum-told4 = at-prepare-masses .before .before in
+    let at-write-rows = at-enum-told4 .before .before .before .before in let at-enum-told = at-write-rows .before .before in
+    let at-start-bodies = at-enum-told .before .before .before .before in let at-entry = at-start-bodies .before .before .before .before in
+    λ ia ib S. start-4 (now (at-entry .args .bodies)) (at-entry .args .joints) (at-entry .args .count) ia ib
+    (rowsBefore (at-entry .args .joints) (at-entry .args .count)) _ refl
+    (omega (arith, before-most (at-entry .args .joints) (at-entry .args .count), at-entry .pre .1 .few)) (at-entry .pre .1 .small) _ _
+    (at-start-bodies .start-bodies .result) (at-start-bodies .start-bodies .ensures) (at-enum-told .enum-told .given .1) _
+    (at-write-rows .write-rows .result) (at-write-rows .write-rows .ensures _ (at-entry .pre .1) ia ib S) (at-enum-told4 .enum-told4 .given .1) _
+    (at-prepare-masses .prepare-masses .result) (at-prepare-masses .prepare-masses .ensures) (c .enum-told7 .given .1)
 
 same-length-6 : tie.Need-same-length-6
 same-length-6 c = search needs
 
 returns-6 : tie.Need-returns-6
-returns-6 c = λ ia ib S. start-3 (now (c .before .before .before .before .before .before .before .before .before .before .before .before .before .before .before .before .before .before .before .before .args .bodies)) (c .before .before .before .before .before .before .before .before .before .before .before .before .before .before .before .before .before .before .before .before .args .joints) (c .before .before .before .before .before .before .before .before .before .before .before .before .before .before .before .before .before .before .before .before .args .count) ia ib (rowsBefore (c .before .before .before .before .before .before .before .before .before .before .before .before .before .before .before .before .before .before .before .before .args .joints) (c .before .before .before .before .before .before .before .before .before .before .before .before .before .before .before .before .before .before .before .before .args .count)) _ refl (omega (arith, before-most (c .before .before .before .before .before .before .before .before .before .before .before .before .before .before .before .before .before .before .before .before .args .joints) (c .before .before .before .before .before .before .before .before .before .before .before .before .before .before .before .before .before .before .before .before .args .count), c .before .before .before .before .before .before .before .before .before .before .before .before .before .before .before .before .before .before .before .before .pre .1 .few)) (c .before .before .before .before .before .before .before .before .before .before .before .before .before .before .before .before .before .before .before .before .pre .1 .small) _ _ (c .before .before .before .before .before .before .before .before .before .before .before .before .before .before .before .before .start-bodies .result) (c .before .before .before .before .before .before .before .before .before .before .before .before .before .before .before .before .start-bodies .ensures) (c .before .before .before .before .before .before .before .before .before .before .before .before .enum-told .given .1) _ (c .before .before .before .before .before .before .before .before .before .before .write-rows .result) (c .before .before .before .before .before .before .before .before .before .before .write-rows .ensures _ (c .before .before .before .before .before .before .before .before .before .before .before .before .before .before .before .before .before .before .before .before .pre .1) ia ib S) (c .before .before .before .before .before .before .enum-told4 .given .1) _ (c .before .before .before .before .prepare-masses .result) (c .before .before .before .before .prepare-masses .ensures) (c .enum-told8 .given .1)
+returns-6 c =
+    let at-prepare-masses = c .before .before .before .before in let at-enum-told4 = at-prepare-masses .before .before in
+    let at-write-rows = at-enum-told4 .before .before .before .before in let at-enum-told = at-write-rows .before .before in
+    let at-start-bodies = at-enum-told .before .before .before .before in let at-entry = at-start-bodies .before .before .before .before in
+    λ ia ib S. start-3 (now (at-entry .args .bodies)) (at-entry .args .joints) (at-entry .args .count) ia ib
+    (rowsBefore (at-entry .args .joints) (at-entry .args .count)) _ refl
+    (omega (arith, before-most (at-entry .args .joints) (at-entry .args .count), at-entry .pre .1 .few)) (at-entry .pre .1 .small) _ _
+    (at-start-bodies .start-bodies .result) (at-start-bodies .start-bodies .ensures) (at-enum-told .enum-told .given .1) _
+    (at-write-rows .write-rows .result) (at-write-rows .write-rows .ensures _ (at-entry .pre .1) ia ib S) (at-enum-told4 .enum-told4 .given .1) _
+    (at-prepare-masses .prepare-masses .result) (at-prepare-masses .prepare-masses .ensures) (c .enum-told8 .given .1)
 
 pub start-spec : {M : Type 1} → statement M
 start-spec =

@@ -1,10 +1,11 @@
-use lib.ListN.{length, length-set}
+-- `start_bodies` is `startBodies`: before turn k the first k bodies stand in the table (TableLaws).
+use lib.ListN.{length}
 use denote.Ref.{now}
 use Rattle.rows.specs.AnswerLaws.{answer-done, answer-nonconvergent, answer-overflow}
 use Rattle.step.proofs.TableLaws.{Begun, begin-none, begin-again, begin-stops, begin-ends}
 use native.Mathlib.Omega.{arith}
-use mathlib.Core.Path.{_≡_, refl, sym, ap, _∙_}
-use Prim.Native.Nat.{ℕ, _+_, _*_, _≤_, _<_, _-_}
+use mathlib.Core.Path.{_≡_, refl}
+use Prim.Native.Nat.{_≤_, _-_}
 use borrow.Author.Needs.{needs}
 use Rattle.step.proofs.integrator.start_bodies.Statement.{statement}
 use Rattle.step.proofs.integrator.start_bodies.Tie as tie
@@ -16,7 +17,9 @@ abbrev μ-loop : tie.MeasureT-loop
 μ-loop s₀ bodies n k₀ s k = n - k
 
 loop-holds : tie.Need-loop-holds Inv-loop μ-loop
-loop-holds c = (omega arith, refl, begin-none (now (c .before .before .args .bodies)) (c .before .before .args .n) _)
+loop-holds c =
+    let at-entry = c .before .before in
+    (omega arith, refl, begin-none (now (at-entry .args .bodies)) (at-entry .args .n) _)
 
 load-record-requires : tie.Need-load-record-requires Inv-loop μ-loop
 load-record-requires c κs = omega arith
@@ -40,7 +43,12 @@ same-length : tie.Need-same-length Inv-loop μ-loop
 same-length c = omega arith
 
 returns : tie.Need-returns Inv-loop μ-loop
-returns c = begin-stops (now (c .before .before .before .before .before .before .before .before .before .before .args .bodies)) (c .before .before .before .before .before .before .before .before .before .before .args .n) _ _ _ (c .before .before .before .before .before .before .before .loop .inv .2) (c .before .before .before .before .before .before .loop-test .taken) (c .before .before .before .before .before .before .before .before .before .before .pre .2) _ (c .before .before .before .before .before .load-record .ensures) (c .before .before .before .inverse-spd .ensures) refl (answer-nonconvergent _ _ (c .before .before .new .ensures) (c .enum-told2 .given .1))
+returns c =
+    let at-inverse-spd = c .before .before .before in let at-load-record = at-inverse-spd .before .before in let at-test = at-load-record .before in
+    let at-loop = at-test .before in let at-entry = at-loop .before .before .before in
+    begin-stops (now (at-entry .args .bodies)) (at-entry .args .n) _ _ _ (at-loop .loop .inv .2) (at-test .loop-test .taken) (at-entry .pre .2) _
+    (at-load-record .load-record .ensures) (at-inverse-spd .inverse-spd .ensures) refl
+    (answer-nonconvergent _ _ (c .before .before .new .ensures) (c .enum-told2 .given .1))
 
 enum-told-3 : tie.Need-enum-told-3 Inv-loop μ-loop
 enum-told-3 c = search needs
@@ -49,7 +57,12 @@ same-length-2 : tie.Need-same-length-2 Inv-loop μ-loop
 same-length-2 c = omega arith
 
 returns-2 : tie.Need-returns-2 Inv-loop μ-loop
-returns-2 c = begin-stops (now (c .before .before .before .before .before .before .before .before .before .before .args .bodies)) (c .before .before .before .before .before .before .before .before .before .before .args .n) _ _ _ (c .before .before .before .before .before .before .before .loop .inv .2) (c .before .before .before .before .before .before .loop-test .taken) (c .before .before .before .before .before .before .before .before .before .before .pre .2) _ (c .before .before .before .before .before .load-record .ensures) (c .before .before .before .inverse-spd .ensures) refl (answer-overflow _ _ (c .before .before .new .ensures) (c .enum-told3 .given .1))
+returns-2 c =
+    let at-inverse-spd = c .before .before .before in let at-load-record = at-inverse-spd .before .before in let at-test = at-load-record .before in
+    let at-loop = at-test .before in let at-entry = at-loop .before .before .before in
+    begin-stops (now (at-entry .args .bodies)) (at-entry .args .n) _ _ _ (at-loop .loop .inv .2) (at-test .loop-test .taken) (at-entry .pre .2) _
+    (at-load-record .load-record .ensures) (at-inverse-spd .inverse-spd .ensures) refl
+    (answer-overflow _ _ (c .before .before .new .ensures) (c .enum-told3 .given .1))
 
 add-k : tie.Need-add-k Inv-loop μ-loop
 add-k c = omega arith
@@ -58,13 +71,25 @@ loop-less : tie.Need-loop-less Inv-loop μ-loop
 loop-less c = omega arith
 
 loop-again : tie.Need-loop-again Inv-loop μ-loop
-loop-again c = (omega arith, omega (arith, c .before .before .store-start .ensures .0 .size), begin-again (now (c .before .before .before .before .before .before .before .before .before .before .before .before .before .before .args .bodies)) (c .before .before .before .before .before .before .before .before .before .before .before .before .before .before .args .n) _ _ _ (c .before .before .before .before .before .before .before .before .before .before .before .loop .inv .2) (c .before .before .before .before .before .before .before .before .before .before .loop-test .taken) (c .before .before .before .before .before .before .before .before .before .before .before .before .before .before .pre .2) _ (c .before .before .before .before .before .before .before .before .before .load-record .ensures) (c .before .before .before .before .before .before .before .inverse-spd .ensures) refl (answer-done _ _ (c .before .before .before .before .before .before .new .ensures) (c .before .before .before .before .enum-told .given .1)) (c .before .before .store-start .ensures))
+loop-again c =
+    let at-enum-told = c .before .before .before .before in let at-new = at-enum-told .before .before in let at-inverse-spd = at-new .before in
+    let at-load-record = at-inverse-spd .before .before in let at-test = at-load-record .before in let at-loop = at-test .before in
+    let at-entry = at-loop .before .before .before in (
+      omega arith,
+      omega arith,
+      begin-again (now (at-entry .args .bodies)) (at-entry .args .n) _ _ _ (at-loop .loop .inv .2) (at-test .loop-test .taken) (at-entry .pre .2) _
+          (at-load-record .load-record .ensures) (at-inverse-spd .inverse-spd .ensures) refl
+          (answer-done _ _ (at-new .new .ensures) (at-enum-told .enum-told .given .1)) (c .before .before .store-start .ensures),
+    )
 
 same-length-3 : tie.Need-same-length-3 Inv-loop μ-loop
 same-length-3 c = omega arith
 
 returns-3 : tie.Need-returns-3 Inv-loop μ-loop
-returns-3 c = begin-ends (now (c .before .before .before .before .args .bodies)) (c .before .before .before .before .args .n) _ _ _ (c .before .loop .inv .2) (omega arith) (c .loop-test .left) (c .before .before .before .before .pre .2)
+returns-3 c =
+    let at-entry = c .before .before .before .before in
+    begin-ends (now (at-entry .args .bodies)) (at-entry .args .n) _ _ _ (c .before .loop .inv .2) (omega arith) (c .loop-test .left)
+    (at-entry .pre .2)
 
 pub start-bodies-spec : {M : Type 1} → statement M
 start-bodies-spec =

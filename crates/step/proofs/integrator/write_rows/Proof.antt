@@ -1,26 +1,35 @@
-use lib.ListN.{length, length-set}
-use denote.Ref.{now}
+-- `write_rows` is `writeRows`: before turn k the rows of the first k joints stand in the table (RowLaws `Wrote`).
+use lib.ListN.{length}
 use mathlib.Core.List.{List}
 use Rattle.step.specs.Ready.{Joined}
 use Rattle.step.specs.RunView.{rowsBefore, Sides}
 use Rattle.step.proofs.RowLaws.{before-none, Wrote, wrote-none, wrote-rows, wrote-again, wrote-nonconvergent, wrote-overflow, wrote-ends}
 use Rattle.step.proofs.StepLaws.{written-most}
-use Rattle.rows.specs.Region.{count-most}
 use native.Mathlib.Omega.{arith}
-use mathlib.Core.Path.{_≡_, refl, sym, ap, _∙_}
-use Prim.Native.Nat.{ℕ, _+_, _*_, _≤_, _<_, _-_}
+use mathlib.Core.Path.{_≡_, refl}
+use Prim.Native.Nat.{ℕ, _*_, _≤_, _-_}
 use borrow.Author.Needs.{needs}
 use Rattle.step.proofs.integrator.write_rows.Statement.{statement}
 use Rattle.step.proofs.integrator.write_rows.Tie as tie
 
 abbrev Inv-loop : tie.InvT-loop
-Inv-loop s₀ count rows moved joints n₀ k₀ s n k = (k ≤ count) × (n ≤ 6 * k) × (length s ≡ length s₀) × (n ≡ rowsBefore joints k) × ((size : ℕ) (J : Joined joints count size) (ia ib : List ℕ) (S : Sides joints count ia ib) → Wrote joints count moved rows s₀ size J ia ib S k n s)
+Inv-loop s₀ count rows moved joints n₀ k₀ s n k =
+    (k ≤ count) × (n ≤ 6 * k) × (length s ≡ length s₀) × (n ≡ rowsBefore joints k) ×
+    ((size : ℕ) (J : Joined joints count size) (ia ib : List ℕ) (S : Sides joints count ia ib) → Wrote joints count
+    moved rows s₀ size J ia ib S k n s)
 
 abbrev μ-loop : tie.MeasureT-loop
 μ-loop s₀ count rows moved joints n₀ k₀ s n k = count - k
 
 loop-holds : tie.Need-loop-holds Inv-loop μ-loop
-loop-holds c = (omega arith, omega arith, refl, before-none (c .before .args .t2), λ size J ia ib S. wrote-none (c .before .args .t2) (c .before .args .count) (c .before .args .moved) (c .before .args .rows) _ size J ia ib S)
+loop-holds c = (
+  omega arith,
+  omega arith,
+  refl,
+  before-none (c .before .args .t2),
+  λ size J ia ib S. wrote-none (c .before .args .t2) (c .before .args .count) (c .before .args .moved)
+      (c .before .args .rows) _ size J ia ib S,
+)
 
 mul-joint : tie.Need-mul-joint Inv-loop μ-loop
 mul-joint c = omega arith
@@ -29,10 +38,14 @@ array-copy-out-joint : tie.Need-array-copy-out-joint Inv-loop μ-loop
 array-copy-out-joint c = omega arith
 
 load-moved-requires : tie.Need-load-moved-requires Inv-loop μ-loop
-load-moved-requires c κs = (omega (arith, c .before .before .before .before .before .pre .0, c .before .before .before .loop .inv), c .before .before .before .before .before .pre .2 .a-there _ (c .before .before .loop-test .taken))
+load-moved-requires c κs =
+    let at-entry = c .before .before .before .before .before in
+    (omega arith, at-entry .pre .2 .a-there _ (c .before .before .loop-test .taken))
 
 load-moved-requires-2 : tie.Need-load-moved-requires-2 Inv-loop μ-loop
-load-moved-requires-2 c κs = (omega (arith, c .before .before .before .before .before .before .before .pre .0, c .before .before .before .before .before .loop .inv), c .before .before .before .before .before .before .before .pre .2 .b-there _ (c .before .before .before .before .loop-test .taken))
+load-moved-requires-2 c κs =
+    let at-test = c .before .before .before .before in let at-entry = at-test .before .before .before in
+    (omega arith, at-entry .pre .2 .b-there _ (at-test .loop-test .taken))
 
 mul-write-equality-rows : tie.Need-mul-write-equality-rows Inv-loop μ-loop
 mul-write-equality-rows c = omega arith
@@ -47,7 +60,17 @@ enum-known-m : tie.Need-enum-known-m Inv-loop μ-loop
 enum-known-m c = search needs
 
 add-n : tie.Need-add-n Inv-loop μ-loop
-add-n c = omega (arith, c .before .before .before .before .before .before .before .before .before .before .before .before .before .loop .inv, c .before .before .before .before .before .before .before .before .before .before .before .before .loop-test .taken, c .before .before .before .before .before .before .before .before .before .before .before .before .before .before .before .pre .2 .few, written-most (c .before .before .before .before .before .write-equality-rows .ensures) _ (c .before .m .given .1))
+add-n c =
+    let at-write-equality-rows = c .before .before .before .before .before in
+    let at-joint = at-write-equality-rows .before .before .before .before .before .before in let at-test = at-joint .before in
+    let at-loop = at-test .before in let at-entry = at-loop .before .before in
+    omega (
+      arith,
+      at-loop .loop .inv,
+      at-test .loop-test .taken,
+      at-entry .pre .2 .few,
+      written-most (at-write-equality-rows .write-equality-rows .ensures) _ (c .before .m .given .1),
+    )
 
 enum-told : tie.Need-enum-told Inv-loop μ-loop
 enum-told c = search needs
@@ -56,7 +79,14 @@ same-length : tie.Need-same-length Inv-loop μ-loop
 same-length c = omega arith
 
 returns : tie.Need-returns Inv-loop μ-loop
-returns c = λ size J ia ib S. wrote-nonconvergent (c .before .before .before .before .before .before .before .before .before .before .before .before .before .before .args .t2) (c .before .before .before .before .before .before .before .before .before .before .before .before .before .before .args .count) (c .before .before .before .before .before .before .before .before .before .before .before .before .before .before .args .moved) (c .before .before .before .before .before .before .before .before .before .before .before .before .before .before .args .rows) _ size J ia ib S (c .before .before .before .before .before .before .before .before .before .before .before .before .loop .k) _ _ (c .before .before .before .before .before .before .before .before .before .before .before .before .loop .inv .4 size J ia ib S) (c .before .before .before .before .before .before .before .before .before .before .before .loop-test .taken) (omega (arith, c .before .before .before .before .before .before .before .before .before .before .before .before .loop .inv, c .before .before .before .before .before .before .before .before .before .before .before .loop-test .taken, c .before .before .before .before .before .before .before .before .before .before .before .before .before .before .pre .2 .few)) (c .before .before .before .before .before .before .before .before .before .before .before .before .before .before .pre .1) (c .before .before .before .before .before .before .before .before .before .before .before .before .loop .inv .3) (c .before .before .before .before .before .before .before .before .load-moved .ensures) (c .before .before .before .before .before .before .load-moved2 .ensures) _ (c .before .before .before .before .write-equality-rows .ensures) (c .enum-told .given .1)
+returns c =
+    let at-write-equality-rows = c .before .before .before .before in let at-load-moved2 = at-write-equality-rows .before .before in
+    let at-load-moved = at-load-moved2 .before .before in let at-test = at-load-moved .before .before .before in let at-loop = at-test .before in
+    let at-entry = at-loop .before .before in
+    λ size J ia ib S. wrote-nonconvergent (at-entry .args .t2) (at-entry .args .count) (at-entry .args .moved) (at-entry .args .rows) _ size J ia ib
+    S (at-loop .loop .k) _ _ (at-loop .loop .inv .4 size J ia ib S) (at-test .loop-test .taken) (omega arith) (at-entry .pre .1)
+    (at-loop .loop .inv .3) (at-load-moved .load-moved .ensures) (at-load-moved2 .load-moved2 .ensures) _
+    (at-write-equality-rows .write-equality-rows .ensures) (c .enum-told .given .1)
 
 enum-told-2 : tie.Need-enum-told-2 Inv-loop μ-loop
 enum-told-2 c = search needs
@@ -65,22 +95,55 @@ same-length-2 : tie.Need-same-length-2 Inv-loop μ-loop
 same-length-2 c = omega arith
 
 returns-2 : tie.Need-returns-2 Inv-loop μ-loop
-returns-2 c = λ size J ia ib S. wrote-overflow (c .before .before .before .before .before .before .before .before .before .before .before .before .before .before .args .t2) (c .before .before .before .before .before .before .before .before .before .before .before .before .before .before .args .count) (c .before .before .before .before .before .before .before .before .before .before .before .before .before .before .args .moved) (c .before .before .before .before .before .before .before .before .before .before .before .before .before .before .args .rows) _ size J ia ib S (c .before .before .before .before .before .before .before .before .before .before .before .before .loop .k) _ _ (c .before .before .before .before .before .before .before .before .before .before .before .before .loop .inv .4 size J ia ib S) (c .before .before .before .before .before .before .before .before .before .before .before .loop-test .taken) (omega (arith, c .before .before .before .before .before .before .before .before .before .before .before .before .loop .inv, c .before .before .before .before .before .before .before .before .before .before .before .loop-test .taken, c .before .before .before .before .before .before .before .before .before .before .before .before .before .before .pre .2 .few)) (c .before .before .before .before .before .before .before .before .before .before .before .before .before .before .pre .1) (c .before .before .before .before .before .before .before .before .before .before .before .before .loop .inv .3) (c .before .before .before .before .before .before .before .before .load-moved .ensures) (c .before .before .before .before .before .before .load-moved2 .ensures) _ (c .before .before .before .before .write-equality-rows .ensures) (c .enum-told2 .given .1)
+returns-2 c =
+    let at-write-equality-rows = c .before .before .before .before in let at-load-moved2 = at-write-equality-rows .before .before in
+    let at-load-moved = at-load-moved2 .before .before in let at-test = at-load-moved .before .before .before in let at-loop = at-test .before in
+    let at-entry = at-loop .before .before in
+    λ size J ia ib S. wrote-overflow (at-entry .args .t2) (at-entry .args .count) (at-entry .args .moved) (at-entry .args .rows) _ size J ia ib S
+    (at-loop .loop .k) _ _ (at-loop .loop .inv .4 size J ia ib S) (at-test .loop-test .taken) (omega arith) (at-entry .pre .1)
+    (at-loop .loop .inv .3) (at-load-moved .load-moved .ensures) (at-load-moved2 .load-moved2 .ensures) _
+    (at-write-equality-rows .write-equality-rows .ensures) (c .enum-told2 .given .1)
 
 add-k : tie.Need-add-k Inv-loop μ-loop
-add-k c = omega (arith, c .before .before .before .before .before .before .before .before .before .before .before .before .before .loop .inv, c .before .before .before .before .before .before .before .before .before .before .before .before .loop-test .taken, c .before .before .before .before .before .before .before .before .before .before .before .before .before .before .before .pre)
+add-k c =
+    let at-write-equality-rows-arg = c .before .before .before .before .before .before in
+    let at-test = at-write-equality-rows-arg .before .before .before .before .before .before in let at-loop = at-test .before in
+    let at-entry = at-loop .before .before in
+    omega (arith, at-loop .loop .inv, at-test .loop-test .taken, at-entry .pre)
 
 loop-less : tie.Need-loop-less Inv-loop μ-loop
 loop-less c = omega arith
 
 loop-again : tie.Need-loop-again Inv-loop μ-loop
-loop-again c = (omega (arith, c .before .before .before .before .before .before .before .before .before .before .before .before .loop-test .taken), omega (arith, c .before .before .before .before .before .before .before .before .before .before .before .before .before .loop .inv .1, c .before .before .before .before .before .before .before .before .before .before .before .before .loop-test .taken, c .before .before .before .before .before .before .before .before .before .before .before .before .before .before .before .pre .2 .few, written-most (c .before .before .before .before .before .write-equality-rows .ensures) _ (c .before .m .given .1)), omega (arith, c .before .before .before .before .before .before .before .before .before .before .before .before .before .loop .inv .2, c .before .before .before .before .before .write-equality-rows .ensures .kept .size), wrote-rows (c .before .before .before .before .before .before .before .before .before .before .before .before .before .before .before .args .t2) (c .before .before .before .before .before .before .before .before .before .before .before .before .before .loop .k) _ (c .before .before .before .before .before .before .before .before .before .before .before .before .before .loop .inv .3) (c .before .before .before .before .before .write-equality-rows .ensures) _ (c .before .m .given .1), λ size J ia ib S. wrote-again (c .before .before .before .before .before .before .before .before .before .before .before .before .before .before .before .args .t2) (c .before .before .before .before .before .before .before .before .before .before .before .before .before .before .before .args .count) (c .before .before .before .before .before .before .before .before .before .before .before .before .before .before .before .args .moved) (c .before .before .before .before .before .before .before .before .before .before .before .before .before .before .before .args .rows) _ size J ia ib S (c .before .before .before .before .before .before .before .before .before .before .before .before .before .loop .k) _ _ (c .before .before .before .before .before .before .before .before .before .before .before .before .before .loop .inv .4 size J ia ib S) (c .before .before .before .before .before .before .before .before .before .before .before .before .loop-test .taken) (omega (arith, c .before .before .before .before .before .before .before .before .before .before .before .before .before .loop .inv .1, c .before .before .before .before .before .before .before .before .before .before .before .before .loop-test .taken, c .before .before .before .before .before .before .before .before .before .before .before .before .before .before .before .pre .2 .few)) (c .before .before .before .before .before .before .before .before .before .before .before .before .before .before .before .pre .1) (c .before .before .before .before .before .before .before .before .before .before .before .before .before .loop .inv .3) (c .before .before .before .before .before .before .before .before .before .load-moved .ensures) (c .before .before .before .before .before .before .before .load-moved2 .ensures) _ (c .before .before .before .before .before .write-equality-rows .ensures) (c .before .m .given .1))
+loop-again c =
+    let at-write-equality-rows = c .before .before .before .before .before in let at-load-moved2 = at-write-equality-rows .before .before in
+    let at-load-moved = at-load-moved2 .before .before in let at-test = at-load-moved .before .before .before in let at-loop = at-test .before in
+    let at-entry = at-loop .before .before in (
+      omega arith,
+      omega (
+        arith,
+        at-loop .loop .inv .1,
+        at-test .loop-test .taken,
+        at-entry .pre .2 .few,
+        written-most (at-write-equality-rows .write-equality-rows .ensures) _ (c .before .m .given .1),
+      ),
+      omega arith,
+      wrote-rows (at-entry .args .t2) (at-loop .loop .k) _ (at-loop .loop .inv .3) (at-write-equality-rows .write-equality-rows .ensures) _
+          (c .before .m .given .1),
+      λ size J ia ib S. wrote-again (at-entry .args .t2) (at-entry .args .count) (at-entry .args .moved) (at-entry .args .rows) _ size J ia ib S
+          (at-loop .loop .k) _ _ (at-loop .loop .inv .4 size J ia ib S) (at-test .loop-test .taken) (omega arith) (at-entry .pre .1)
+          (at-loop .loop .inv .3) (at-load-moved .load-moved .ensures) (at-load-moved2 .load-moved2 .ensures) _
+          (at-write-equality-rows .write-equality-rows .ensures) (c .before .m .given .1),
+    )
 
 same-length-3 : tie.Need-same-length-3 Inv-loop μ-loop
 same-length-3 c = omega arith
 
 returns-3 : tie.Need-returns-3 Inv-loop μ-loop
-returns-3 c = λ size J ia ib S. wrote-ends (c .before .before .before .args .t2) (c .before .before .before .args .count) (c .before .before .before .args .moved) (c .before .before .before .args .rows) _ size J ia ib S (c .before .loop .k) _ _ (c .before .loop .inv .4 size J ia ib S) (c .before .loop .inv .3) (omega arith) (c .loop-test .left)
+returns-3 c =
+    let at-entry = c .before .before .before in
+    λ size J ia ib S. wrote-ends (at-entry .args .t2) (at-entry .args .count) (at-entry .args .moved) (at-entry .args .rows) _ size J ia ib S
+    (c .before .loop .k) _ _ (c .before .loop .inv .4 size J ia ib S) (c .before .loop .inv .3) (omega arith) (c .loop-test .left)
 
 pub write-rows-spec : {M : Type 1} → statement M
 write-rows-spec =

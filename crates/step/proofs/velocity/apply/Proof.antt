@@ -1,3 +1,4 @@
+-- `apply` is `reactionOf`: the shares by `transpose`, then the kicks (VelocityLaws).
 use borrow.Author.Needs.{needs}
 use native.Mathlib.Omega.{arith}
 use mathlib.Core.Path.{_∙_}
@@ -12,22 +13,32 @@ enum-told : tie.Need-enum-told
 enum-told c = search needs
 
 same-length : tie.Need-same-length
-same-length c = c .before .before .before .before .transpose .ensures .0 .kept .size
+same-length c =
+    let at-transpose = c .before .before .before .before in
+    at-transpose .transpose .ensures .0 .kept .size
 
 returns : tie.Need-returns
-returns c = apply-stops (c .before .before .before .before .before .before .before .pre) _ (c .before .before .before .before .transpose .ensures .0) (c .enum-told .given .1)
+returns c =
+    let at-transpose = c .before .before .before .before in let at-entry = at-transpose .before .before .before in
+    apply-stops (at-entry .pre) _ (at-transpose .transpose .ensures .0) (c .enum-told .given .1)
 
 enum-told-2 : tie.Need-enum-told-2
 enum-told-2 c = search needs
 
 kick-candidates-requires : tie.Need-kick-candidates-requires
-kick-candidates-requires c κs = omega (arith, c .before .before .before .before .before .transpose .ensures .0 .kept .size, c .before .before .before .before .before .before .before .before .pre .whole, c .before .before .before .before .before .before .before .before .pre .bodies)
+kick-candidates-requires c κs = omega arith
 
 same-length-2 : tie.Need-same-length-2
-same-length-2 c = c .before .before .kick-candidates .ensures .kept .size ∙ c .before .before .before .before .before .before .before .before .transpose .ensures .0 .kept .size
+same-length-2 c =
+    let at-slice-known2 = c .before .before .before .before .before .before in let at-transpose = at-slice-known2 .before .before in
+    c .before .before .kick-candidates .ensures .kept .size ∙ at-transpose .transpose .ensures .0 .kept .size
 
 returns-2 : tie.Need-returns-2
-returns-2 c = apply-then (c .before .before .before .before .before .before .before .before .before .before .before .pre) _ (c .before .before .before .before .before .before .before .before .transpose .ensures .0) (c .before .before .before .before .enum-told2 .given .1) (c .before .before .kick-candidates .ensures)
+returns-2 c =
+    let at-enum-told2 = c .before .before .before .before in let at-transpose = at-enum-told2 .before .before .before .before in
+    let at-entry = at-transpose .before .before .before in
+    apply-then (at-entry .pre) _ (at-transpose .transpose .ensures .0) (at-enum-told2 .enum-told2 .given .1)
+    (c .before .before .kick-candidates .ensures)
 
 pub apply-spec : {M : Type 1} → statement M
 apply-spec =

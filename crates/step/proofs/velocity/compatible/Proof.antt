@@ -1,3 +1,4 @@
+-- `compatible` is `compatibleOf`: before turn k the first k right sides passed.
 use native.Mathlib.Omega.{arith}
 use mathlib.Core.Path.{_≡_}
 use Prim.Native.Nat.{_≤_, _-_}
@@ -31,7 +32,10 @@ abs-requires : tie.Need-abs-requires Inv-loop μ-loop
 abs-requires c κs = omega arith
 
 returns : tie.Need-returns Inv-loop μ-loop
-returns c = compatible-fails (now (c .before .before .before .before .before .before .args .s)) _ (c .before .before .before .loop-test .taken) (small-is (now (c .before .before .before .before .before .before .args .s)) _ (c .before .before .before .loop-test .taken) (c .before .abs .ensures) tenth-12 (c .if1 .left))
+returns c =
+    let at-test = c .before .before .before in let at-entry = at-test .before .before .before in
+    compatible-fails (now (at-entry .args .s)) _ (at-test .loop-test .taken)
+    (small-is (now (at-entry .args .s)) _ (at-test .loop-test .taken) (c .before .abs .ensures) tenth-12 (c .if1 .left))
 
 add-k : tie.Need-add-k Inv-loop μ-loop
 add-k c = omega arith
@@ -40,10 +44,17 @@ loop-less : tie.Need-loop-less Inv-loop μ-loop
 loop-less c = omega arith
 
 loop-again : tie.Need-loop-again Inv-loop μ-loop
-loop-again c = (omega arith, every-more (small (now (c .before .before .before .before .before .before .args .s)) (c .before .before .before .before .before .before .args .n)) (c .before .before .before .before .loop .inv .1) (small-is (now (c .before .before .before .before .before .before .args .s)) _ (c .before .before .before .loop-test .taken) (c .before .abs .ensures) tenth-12 (c .if1 .taken)))
+loop-again c =
+    let at-test = c .before .before .before in let at-loop = at-test .before in let at-entry = at-loop .before .before in (
+      omega arith,
+      every-more (small (now (at-entry .args .s)) (at-entry .args .n)) (at-loop .loop .inv .1)
+          (small-is (now (at-entry .args .s)) _ (at-test .loop-test .taken) (c .before .abs .ensures) tenth-12 (c .if1 .taken)),
+    )
 
 returns-2 : tie.Need-returns-2 Inv-loop μ-loop
-returns-2 c = compatible-ends (now (c .before .before .before .args .s)) _ (c .before .loop .inv .0) (c .loop-test .left) (c .before .loop .inv .1)
+returns-2 c =
+    let at-entry = c .before .before .before in
+    compatible-ends (now (at-entry .args .s)) _ (c .before .loop .inv .0) (c .loop-test .left) (c .before .loop .inv .1)
 
 pub compatible-spec : {M : Type 1} → statement M
 compatible-spec =

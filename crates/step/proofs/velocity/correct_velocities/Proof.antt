@@ -2,7 +2,6 @@ use mathlib.Core.Path.{_∙_}
 use Rattle.step.proofs.StepLaws.{rows-same}
 use Rattle.step.proofs.VelocityLaws.{reacted-next, reacted-nonconvergent, reacted-overflow, solve-overflow, solve-nonconvergent, solve-declined}
 use Rattle.step.proofs.PassLaws.{passed-is}
-use denote.Ref.{now}
 use Rattle.step.specs.View.{candidatesAt}
 use borrow.Author.Needs.{needs}
 use Rattle.step.proofs.velocity.correct_velocities.Statement.{statement}

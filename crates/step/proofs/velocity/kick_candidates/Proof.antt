@@ -1,3 +1,4 @@
+-- `kick_candidates` is `kickBodies`: before turn k the first k candidates are kicked (VelocityLaws `Kicked`).
 use borrow.Author.Needs.{needs}
 use native.Mathlib.Omega.{arith}
 use mathlib.Core.Path.{_≡_, refl}
@@ -39,7 +40,11 @@ same-length : tie.Need-same-length Inv-loop μ-loop
 same-length c = omega arith
 
 returns : tie.Need-returns Inv-loop μ-loop
-returns c = kick-stops _ _ (c .before .before .before .before .before .before .before .before .loop .inv .2) (c .before .before .before .before .before .before .before .loop-test .taken) (c .before .before .before .before .before .before .before .before .before .before .pre .1) (c .before .before .before .before .before .load-generalized .ensures) (c .before .before .before .load-candidate .ensures) refl (answer-nonconvergent _ _ (c .before .before .kick .ensures) (c .enum-told2 .given .1))
+returns c =
+    let at-load-candidate = c .before .before .before in let at-load-generalized = at-load-candidate .before .before in
+    let at-test = at-load-generalized .before .before in let at-loop = at-test .before in let at-entry = at-loop .before .before in
+    kick-stops _ _ (at-loop .loop .inv .2) (at-test .loop-test .taken) (at-entry .pre .1) (at-load-generalized .load-generalized .ensures)
+    (at-load-candidate .load-candidate .ensures) refl (answer-nonconvergent _ _ (c .before .before .kick .ensures) (c .enum-told2 .given .1))
 
 enum-told-3 : tie.Need-enum-told-3 Inv-loop μ-loop
 enum-told-3 c = search needs
@@ -48,7 +53,11 @@ same-length-2 : tie.Need-same-length-2 Inv-loop μ-loop
 same-length-2 c = omega arith
 
 returns-2 : tie.Need-returns-2 Inv-loop μ-loop
-returns-2 c = kick-stops _ _ (c .before .before .before .before .before .before .before .before .loop .inv .2) (c .before .before .before .before .before .before .before .loop-test .taken) (c .before .before .before .before .before .before .before .before .before .before .pre .1) (c .before .before .before .before .before .load-generalized .ensures) (c .before .before .before .load-candidate .ensures) refl (answer-overflow _ _ (c .before .before .kick .ensures) (c .enum-told3 .given .1))
+returns-2 c =
+    let at-load-candidate = c .before .before .before in let at-load-generalized = at-load-candidate .before .before in
+    let at-test = at-load-generalized .before .before in let at-loop = at-test .before in let at-entry = at-loop .before .before in
+    kick-stops _ _ (at-loop .loop .inv .2) (at-test .loop-test .taken) (at-entry .pre .1) (at-load-generalized .load-generalized .ensures)
+    (at-load-candidate .load-candidate .ensures) refl (answer-overflow _ _ (c .before .before .kick .ensures) (c .enum-told3 .given .1))
 
 add-k : tie.Need-add-k Inv-loop μ-loop
 add-k c = omega arith
@@ -57,13 +66,24 @@ loop-less : tie.Need-loop-less Inv-loop μ-loop
 loop-less c = omega arith
 
 loop-again : tie.Need-loop-again Inv-loop μ-loop
-loop-again c = (omega (arith, c .before .before .before .before .before .before .before .before .before .before .before .loop-test .taken), omega (arith, c .before .before .store-candidate .ensures .0 .size, c .before .before .before .before .before .before .before .before .before .before .before .before .loop .inv .1), kick-again _ _ (c .before .before .before .before .before .before .before .before .before .before .before .before .loop .inv .2) (c .before .before .before .before .before .before .before .before .before .before .before .loop-test .taken) (c .before .before .before .before .before .before .before .before .before .before .before .before .before .before .pre .1) (c .before .before .before .before .before .before .before .before .before .load-generalized .ensures) (c .before .before .before .before .before .before .before .load-candidate .ensures) refl (answer-done _ _ (c .before .before .before .before .before .before .kick .ensures) (c .before .before .before .before .enum-told .given .1)) (c .before .before .store-candidate .ensures))
+loop-again c =
+    let at-enum-told = c .before .before .before .before in let at-kick = at-enum-told .before .before in let at-load-candidate = at-kick .before in
+    let at-load-generalized = at-load-candidate .before .before in let at-test = at-load-generalized .before .before in
+    let at-loop = at-test .before in let at-entry = at-loop .before .before in (
+      omega arith,
+      omega arith,
+      kick-again _ _ (at-loop .loop .inv .2) (at-test .loop-test .taken) (at-entry .pre .1) (at-load-generalized .load-generalized .ensures)
+          (at-load-candidate .load-candidate .ensures) refl (answer-done _ _ (at-kick .kick .ensures) (at-enum-told .enum-told .given .1))
+          (c .before .before .store-candidate .ensures),
+    )
 
 same-length-3 : tie.Need-same-length-3 Inv-loop μ-loop
 same-length-3 c = omega arith
 
 returns-3 : tie.Need-returns-3 Inv-loop μ-loop
-returns-3 c = kick-ends _ _ (c .before .loop .inv .2) (omega arith) (c .loop-test .left) (c .before .before .before .pre .1)
+returns-3 c =
+    let at-entry = c .before .before .before in
+    kick-ends _ _ (c .before .loop .inv .2) (omega arith) (c .loop-test .left) (at-entry .pre .1)
 
 pub kick-candidates-spec : {M : Type 1} → statement M
 kick-candidates-spec =

@@ -1,30 +1,56 @@
+-- `velocity_rhs` opposes the rate of each row: before turn k the first k are made, and both kept motions are those of the candidates that they name.
 use borrow.Author.Needs.{needs}
 use native.Mathlib.Omega.{arith}
 use mathlib.Core.Path.{_≡_, refl}
 use Prim.Native.Nat.{_≤_, _-_}
 use lib.ListN.{length, length-set}
 use Rattle.solves.specs.DoesLaws.{sum-there, sum-over}
-use Rattle.step.proofs.VelocityLaws.{Opposed, rhs-none, row-a, row-b, rhs-again, rhs-stops, rhs-ends}
+use Rattle.step.specs.RunView.{Remembers}
+use Rattle.step.proofs.VelocityLaws.{Opposed, rhs-none, row-a, row-b, no-body-remembered, motion-remembered, rhs-again, rhs-stops, rhs-ends}
 use Rattle.step.proofs.velocity.velocity_rhs.Statement.{statement}
 use Rattle.step.proofs.velocity.velocity_rhs.Tie as tie
 
 abbrev Inv-loop : tie.InvT-loop
-Inv-loop s₀ ia ib n bodies k₀ s k = (k ≤ n) × (length s ≡ length s₀) × (Opposed ia ib n bodies s₀ k s)
+Inv-loop s₀ ia ib n bodies a₀ b₀ k₀ s a b k = (k ≤ n) × (length s ≡ length s₀) × (Opposed ia ib n bodies s₀ k s) × (Remembers s a) × (Remembers s b)
 
 abbrev μ-loop : tie.MeasureT-loop
-μ-loop s₀ ia ib n bodies k₀ s k = n - k
+μ-loop s₀ ia ib n bodies a₀ b₀ k₀ s a b k = n - k
+
+no-motion-requires : tie.Need-no-motion-requires Inv-loop μ-loop
+no-motion-requires c κs = omega arith
+
+no-motion-requires-2 : tie.Need-no-motion-requires-2 Inv-loop μ-loop
+no-motion-requires-2 c κs = omega arith
 
 loop-holds : tie.Need-loop-holds Inv-loop μ-loop
-loop-holds c = (omega arith, refl, rhs-none (c .before .pre))
+loop-holds c =
+    let at-entry = c .before .before .before in (
+      omega arith,
+      refl,
+      rhs-none (at-entry .pre),
+      no-body-remembered _ (c .before .no-motion .ensures),
+      no-body-remembered _ (c .no-motion2 .ensures),
+    )
 
 load-row-requires : tie.Need-load-row-requires Inv-loop μ-loop
 load-row-requires c κs = omega arith
 
-load-candidate-requires : tie.Need-load-candidate-requires Inv-loop μ-loop
-load-candidate-requires c κs = (omega (arith, c .before .before .before .before .loop .inv .1, c .before .before .before .before .before .before .pre .whole), omega (arith, row-a (c .before .before .before .before .before .before .pre) (c .before .before .before .loop-test .taken) (c .before .before .before .before .loop .s) (c .before .load-row .ensures), c .before .before .before .before .before .before .pre .bodies))
+motion-again-requires : tie.Need-motion-again-requires Inv-loop μ-loop
+motion-again-requires c κs =
+    let at-test = c .before .before .before in let at-loop = at-test .before in let at-entry = at-loop .before .before .before .before in (
+      omega (arith, at-loop .loop .inv .1, at-entry .pre .whole),
+      omega (arith, row-a (at-entry .pre) (at-test .loop-test .taken) (at-loop .loop .s) (c .before .load-row .ensures), at-entry .pre .bodies),
+      at-loop .loop .inv .3,
+    )
 
-load-candidate-requires-2 : tie.Need-load-candidate-requires-2 Inv-loop μ-loop
-load-candidate-requires-2 c κs = (omega (arith, c .before .before .before .before .before .before .loop .inv .1, c .before .before .before .before .before .before .before .before .pre .whole), omega (arith, row-b (c .before .before .before .before .before .before .before .before .pre) (c .before .before .before .before .before .loop-test .taken) (c .before .before .before .before .before .before .loop .s) (c .before .before .before .load-row .ensures), c .before .before .before .before .before .before .before .before .pre .bodies))
+motion-again-requires-2 : tie.Need-motion-again-requires-2 Inv-loop μ-loop
+motion-again-requires-2 c κs =
+    let at-load-row = c .before .before .before in let at-test = at-load-row .before .before in let at-loop = at-test .before in
+    let at-entry = at-loop .before .before .before .before in (
+      omega (arith, at-loop .loop .inv .1, at-entry .pre .whole),
+      omega (arith, row-b (at-entry .pre) (at-test .loop-test .taken) (at-loop .loop .s) (at-load-row .load-row .ensures), at-entry .pre .bodies),
+      at-loop .loop .inv .4,
+    )
 
 velocity-requires : tie.Need-velocity-requires Inv-loop μ-loop
 velocity-requires c κs = omega arith
@@ -36,34 +62,70 @@ enum-told : tie.Need-enum-told Inv-loop μ-loop
 enum-told c = search needs
 
 same-length : tie.Need-same-length Inv-loop μ-loop
-same-length c = c .before .before .before .before .before .before .before .before .before .before .loop .inv .1
+same-length c =
+    let at-loaded = c .before .before .before .before .before .before .before in let at-loop = at-loaded .before .before .before in
+    at-loop .loop .inv .1
 
 returns : tie.Need-returns Inv-loop μ-loop
-returns c = rhs-stops (c .before .before .before .before .before .before .before .before .before .before .before .before .pre) (c .before .before .before .before .before .before .before .before .before .before .loop .inv .2) (c .before .before .before .before .before .before .before .before .before .loop-test .taken) (c .before .before .before .before .before .before .before .load-row .ensures) (c .before .before .before .before .before .load-candidate .ensures) (c .before .before .before .load-candidate2 .ensures) (sum-over (c .before .before .velocity .ensures) (c .enum-told .given .1))
+returns c =
+    let at-motion-again2 = c .before .before .before in let at-motion-again = at-motion-again2 .before .before in
+    let at-load-row = at-motion-again .before .before in let at-test = at-load-row .before .before in let at-loop = at-test .before in
+    let at-entry = at-loop .before .before .before .before in
+    rhs-stops (at-entry .pre) (at-loop .loop .inv .2) (at-test .loop-test .taken) (at-load-row .load-row .ensures)
+    (sum-over
+    (c .before .before .velocity .ensures _ _ (at-motion-again .motion-again .ensures .moves) (at-motion-again2 .motion-again2 .ensures .moves))
+    (c .enum-told .given .1))
 
 add-s : tie.Need-add-s Inv-loop μ-loop
-add-s c = omega (arith, c .before .before .before .before .before .before .before .before .before .before .loop-test .taken, c .before .before .before .before .before .before .before .before .before .before .before .loop .inv .1, c .before .before .before .before .before .before .before .before .before .before .before .before .before .pre .whole, c .before .before .before .before .before .before .before .before .before .before .before .before .before .pre .most)
+add-s c =
+    let at-motion-again = c .before .before .before .before .before .before in let at-test = at-motion-again .before .before .before .before in
+    let at-loop = at-test .before in let at-entry = at-loop .before .before .before .before in
+    omega (arith, at-test .loop-test .taken, at-loop .loop .inv .1, at-entry .pre .whole, at-entry .pre .most)
 
 mul-s : tie.Need-mul-s Inv-loop μ-loop
-mul-s c = omega (arith, c .before .before .before .before .before .before .before .before .before .before .loop-test .taken, c .before .before .before .before .before .before .before .before .before .before .before .loop .inv .1, c .before .before .before .before .before .before .before .before .before .before .before .before .before .pre .whole, c .before .before .before .before .before .before .before .before .before .before .before .before .before .pre .most)
+mul-s c =
+    let at-motion-again = c .before .before .before .before .before .before in let at-test = at-motion-again .before .before .before .before in
+    let at-loop = at-test .before in let at-entry = at-loop .before .before .before .before in
+    omega (arith, at-test .loop-test .taken, at-loop .loop .inv .1, at-entry .pre .whole, at-entry .pre .most)
 
 slice-write-s : tie.Need-slice-write-s Inv-loop μ-loop
-slice-write-s c = omega (arith, c .before .before .before .before .before .before .before .before .before .before .loop-test .taken, c .before .before .before .before .before .before .before .before .before .before .before .loop .inv .1, c .before .before .before .before .before .before .before .before .before .before .before .before .before .pre .whole, c .before .before .before .before .before .before .before .before .before .before .before .before .before .pre .most)
+slice-write-s c =
+    let at-motion-again = c .before .before .before .before .before .before in let at-test = at-motion-again .before .before .before .before in
+    let at-loop = at-test .before in let at-entry = at-loop .before .before .before .before in
+    omega (arith, at-test .loop-test .taken, at-loop .loop .inv .1, at-entry .pre .whole, at-entry .pre .most)
 
 add-k : tie.Need-add-k Inv-loop μ-loop
-add-k c = omega (arith, c .before .before .before .before .before .before .before .before .before .before .loop-test .taken, c .before .before .before .before .before .before .before .before .before .before .before .loop .inv .1, c .before .before .before .before .before .before .before .before .before .before .before .before .before .pre .whole, c .before .before .before .before .before .before .before .before .before .before .before .before .before .pre .most)
+add-k c =
+    let at-motion-again = c .before .before .before .before .before .before in let at-test = at-motion-again .before .before .before .before in
+    let at-entry = at-test .before .before .before .before .before in
+    omega (arith, at-test .loop-test .taken, at-entry .pre .most)
 
 loop-less : tie.Need-loop-less Inv-loop μ-loop
-loop-less c = omega (arith, c .before .before .before .before .before .before .before .before .before .before .loop-test .taken, c .before .before .before .before .before .before .before .before .before .before .before .loop .inv .1, c .before .before .before .before .before .before .before .before .before .before .before .before .before .pre .whole, c .before .before .before .before .before .before .before .before .before .before .before .before .before .pre .most)
+loop-less c =
+    let at-motion-again = c .before .before .before .before .before .before in let at-test = at-motion-again .before .before .before .before in
+    omega (arith, at-test .loop-test .taken)
 
 loop-again : tie.Need-loop-again Inv-loop μ-loop
-loop-again c = (omega (arith, c .before .before .before .before .before .before .before .before .before .before .loop-test .taken, c .before .before .before .before .before .before .before .before .before .before .before .loop .inv .1, c .before .before .before .before .before .before .before .before .before .before .before .before .before .pre .whole, c .before .before .before .before .before .before .before .before .before .before .before .before .before .pre .most), simp length-set (c .before .before .before .before .before .before .before .before .before .before .before .loop .inv .1), rhs-again (c .before .before .before .before .before .before .before .before .before .before .before .before .before .pre) (c .before .before .before .before .before .before .before .before .before .before .before .loop .inv .2) (c .before .before .before .before .before .before .before .before .before .before .loop-test .taken) (c .before .before .before .before .before .before .before .before .load-row .ensures) (c .before .before .before .before .before .before .load-candidate .ensures) (c .before .before .before .before .load-candidate2 .ensures) (sum-there (c .before .before .before .velocity .ensures) (c .before .value .given .1)))
+loop-again c =
+    let at-velocity = c .before .before .before in let at-motion-again2 = at-velocity .before in
+    let at-motion-again = at-motion-again2 .before .before in let at-load-row = at-motion-again .before .before in
+    let at-test = at-load-row .before .before in let at-loop = at-test .before in let at-entry = at-loop .before .before .before .before in (
+      omega (arith, at-test .loop-test .taken),
+      simp length-set (at-loop .loop .inv .1),
+      rhs-again (at-entry .pre) (at-loop .loop .inv .2) (at-test .loop-test .taken) (at-load-row .load-row .ensures)
+          (sum-there (at-velocity .velocity .ensures _ _ (at-motion-again .motion-again .ensures .moves) (at-motion-again2 .motion-again2 .ensures .moves)) (c .before .value .given .1)),
+      motion-remembered (at-loop .loop .k) _ (omega (arith, at-test .loop-test .taken, at-entry .pre .most)) (at-motion-again .motion-again .ensures),
+      motion-remembered (at-loop .loop .k) _ (omega (arith, at-test .loop-test .taken, at-entry .pre .most))
+          (at-motion-again2 .motion-again2 .ensures),
+    )
 
 same-length-2 : tie.Need-same-length-2 Inv-loop μ-loop
 same-length-2 c = omega arith
 
 returns-2 : tie.Need-returns-2 Inv-loop μ-loop
-returns-2 c = rhs-ends (c .before .before .before .pre) (c .before .loop .inv .2) (omega arith) (c .loop-test .left)
+returns-2 c =
+    let at-entry = c .before .before .before .before .before in
+    rhs-ends (at-entry .pre) (c .before .loop .inv .2) (omega arith) (c .loop-test .left)
 
 pub velocity-rhs-spec : {M : Type 1} → statement M
 velocity-rhs-spec =
@@ -71,10 +133,12 @@ velocity-rhs-spec =
     (tie.spec
     Inv-loop
     μ-loop
+    no-motion-requires
+    no-motion-requires-2
     loop-holds
     load-row-requires
-    load-candidate-requires
-    load-candidate-requires-2
+    motion-again-requires
+    motion-again-requires-2
     velocity-requires
     enum-known-value
     enum-told

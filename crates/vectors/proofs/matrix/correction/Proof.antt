@@ -52,7 +52,12 @@ loop-less : tie.Need-loop-less Inv-loop μ-loop
 loop-less c = omega arith
 
 loop-again : tie.Need-loop-again Inv-loop μ-loop
-loop-again c = (omega arith, turns-more (plusProduct (now (c .before .before .before .before .args .lower)) (c .before .before .before .before .args .row) (c .before .before .before .before .args .column)) (c .before .before .before .loop .k) (ratio 0 1) (c .before .before .before .loop .inv .1))
+loop-again c =
+    let at-loop = c .before .before .before in (
+      omega arith,
+      turns-more (plusProduct (now (at-loop .before .args .lower)) (at-loop .before .args .row)
+          (at-loop .before .args .column)) (at-loop .loop .k) (ratio 0 1) (at-loop .loop .inv .1),
+    )
 
 returns : tie.Need-returns Inv-loop μ-loop
 unfolding correctionOf

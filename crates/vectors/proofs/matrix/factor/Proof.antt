@@ -24,7 +24,11 @@ factor-row-requires c κs = omega arith
 
 returns : tie.Need-returns Inv-loop μ-loop
 unfolding factorOf
-returns c = loop-stop (factorRowOf (now (c .before .before .before .before .before .args .n))) (now (c .before .before .before .before .before .args .lower)) _ (c .before .before .before .loop-test .taken) (c .before .before .before .before .loop .inv .1) (was-no (c .before .factor-row .result) (c .before .factor-row .ensures) (c .if1 .taken))
+returns c =
+    let at-loop-test = c .before .before .before in
+    loop-stop (factorRowOf (now (at-loop-test .before .before .args .n)))
+    (now (at-loop-test .before .before .args .lower)) _ (at-loop-test .loop-test .taken)
+    (at-loop-test .before .loop .inv .1) (was-no (c .before .factor-row .result) (c .before .factor-row .ensures) (c .if1 .taken))
 
 add-row : tie.Need-add-row Inv-loop μ-loop
 add-row c = omega arith
@@ -33,11 +37,18 @@ loop-less : tie.Need-loop-less Inv-loop μ-loop
 loop-less c = omega arith
 
 loop-again : tie.Need-loop-again Inv-loop μ-loop
-loop-again c = (omega arith, loop-more (factorRowOf (now (c .before .before .before .before .before .args .n))) (now (c .before .before .before .before .before .args .lower)) (c .before .before .before .before .loop .inv .1) (was-yes (c .before .factor-row .result) (c .before .factor-row .ensures) (c .if1 .left)))
+loop-again c =
+    let at-loop = c .before .before .before .before in (
+      omega arith,
+      loop-more (factorRowOf (now (at-loop .before .args .n))) (now (at-loop .before .args .lower))
+          (at-loop .loop .inv .1) (was-yes (c .before .factor-row .result) (c .before .factor-row .ensures) (c .if1 .left)),
+    )
 
 returns-2 : tie.Need-returns-2 Inv-loop μ-loop
 unfolding factorOf
-returns-2 c = loop-end (factorRowOf (now (c .before .before .args .n))) (now (c .before .before .args .lower)) (c .before .loop .inv .0) (c .loop-test .left) (c .before .loop .inv .1)
+returns-2 c =
+    loop-end (factorRowOf (now (c .before .before .args .n))) (now (c .before .before .args .lower))
+    (c .before .loop .inv .0) (c .loop-test .left) (c .before .loop .inv .1)
 
 pub factor-spec : {M : Type 1} → statement M
 factor-spec =

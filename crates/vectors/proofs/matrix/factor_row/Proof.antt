@@ -27,7 +27,11 @@ place-requires c κs = omega arith
 
 returns : tie.Need-returns Inv-loop μ-loop
 unfolding factorRowOf
-returns c = loop-stop (placeOf (now (c .before .before .before .before .before .args .n)) (c .before .before .before .before .before .args .row)) (now (c .before .before .before .before .before .args .lower)) _ (c .before .before .before .loop-test .taken) (c .before .before .before .before .loop .inv .1) (was-no (c .before .place .result) (c .before .place .ensures) (c .if1 .taken))
+returns c =
+    let at-loop-test = c .before .before .before in
+    loop-stop (placeOf (now (at-loop-test .before .before .args .n)) (at-loop-test .before .before .args .row))
+    (now (at-loop-test .before .before .args .lower)) _ (at-loop-test .loop-test .taken) (at-loop-test .before .loop .inv .1)
+    (was-no (c .before .place .result) (c .before .place .ensures) (c .if1 .taken))
 
 add-column : tie.Need-add-column Inv-loop μ-loop
 add-column c = omega arith
@@ -36,11 +40,18 @@ loop-less : tie.Need-loop-less Inv-loop μ-loop
 loop-less c = omega arith
 
 loop-again : tie.Need-loop-again Inv-loop μ-loop
-loop-again c = (omega arith, loop-more (placeOf (now (c .before .before .before .before .before .args .n)) (c .before .before .before .before .before .args .row)) (now (c .before .before .before .before .before .args .lower)) (c .before .before .before .before .loop .inv .1) (was-yes (c .before .place .result) (c .before .place .ensures) (c .if1 .left)))
+loop-again c =
+    let at-loop = c .before .before .before .before in (
+      omega arith,
+      loop-more (placeOf (now (at-loop .before .args .n)) (at-loop .before .args .row)) (now (at-loop .before .args .lower))
+          (at-loop .loop .inv .1) (was-yes (c .before .place .result) (c .before .place .ensures) (c .if1 .left)),
+    )
 
 returns-2 : tie.Need-returns-2 Inv-loop μ-loop
 unfolding factorRowOf
-returns-2 c = loop-end (placeOf (now (c .before .before .args .n)) (c .before .before .args .row)) (now (c .before .before .args .lower)) (c .before .loop .inv .0) (c .loop-test .left) (c .before .loop .inv .1)
+returns-2 c =
+    loop-end (placeOf (now (c .before .before .args .n)) (c .before .before .args .row))
+    (now (c .before .before .args .lower)) (c .before .loop .inv .0) (c .loop-test .left) (c .before .loop .inv .1)
 
 pub factor-row-spec : {M : Type 1} → statement M
 factor-row-spec =

@@ -22,7 +22,16 @@ max-requires-3 : tie.Need-max-requires-3
 max-requires-3 c κs = search needs
 
 returns : tie.Need-returns
-returns c = simp (c .max3 .ensures, c .before .abs3 .ensures, c .before .before .max2 .ensures, c .before .before .before .abs2 .ensures, c .before .before .before .before .max .ensures, c .before .before .before .before .before .abs .ensures)
+returns c =
+    let at-abs2 = c .before .before .before in
+    simp (
+      c .max3 .ensures,
+      c .before .abs3 .ensures,
+      c .before .before .max2 .ensures,
+      at-abs2 .abs2 .ensures,
+      at-abs2 .before .max .ensures,
+      at-abs2 .before .before .abs .ensures,
+    )
 
 pub larger-spec : {M : Type 1} → statement M
 larger-spec =

@@ -38,7 +38,10 @@ index-2-lower : tie.Need-index-2-lower
 index-2-lower c = search needs
 
 returns : tie.Need-returns
-returns c = place-root _ _ _ _ (c .before .before .before .before .correction .ensures) (c .before .before .before .if1 .taken) (c .before .before .above-zero .ensures) (c .before .if2 .taken) (c .sqrt .ensures .is)
+returns c =
+    let at-if1 = c .before .before .before in
+    place-root _ _ _ _ (at-if1 .before .correction .ensures) (at-if1 .if1 .taken)
+    (c .before .before .above-zero .ensures) (c .before .if2 .taken) (c .sqrt .ensures .is)
 
 returns-2 : tie.Need-returns-2
 returns-2 c = place-not _ _ _ _ (c .before .before .before .correction .ensures) (c .before .before .if1 .taken) (c .before .above-zero .ensures) (c .if2 .left)

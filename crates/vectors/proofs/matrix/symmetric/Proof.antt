@@ -38,7 +38,9 @@ uneven-requires-2 : tie.Need-uneven-requires-2
 uneven-requires-2 c κs = search needs
 
 returns-2 : tie.Need-returns-2
-returns-2 c = uneven-second _ _ _ (c .before .before .before .before .before .uneven .ensures) (c .before .before .before .before .if1 .left) (c .before .uneven2 .ensures) (c .if2 .taken)
+returns-2 c =
+    let at-if1 = c .before .before .before .before in
+    uneven-second _ _ _ (at-if1 .before .uneven .ensures) (at-if1 .if1 .left) (c .before .uneven2 .ensures) (c .if2 .taken)
 
 index-1-uneven-5 : tie.Need-index-1-uneven-5
 index-1-uneven-5 c = search needs
@@ -56,7 +58,11 @@ uneven-requires-3 : tie.Need-uneven-requires-3
 uneven-requires-3 c κs = search needs
 
 returns-3 : tie.Need-returns-3
-returns-3 c = uneven-third _ _ _ (c .before .before .before .before .before .before .before .before .uneven .ensures) (c .before .before .before .before .before .before .before .if1 .left) (c .before .before .before .before .uneven2 .ensures) (c .before .before .before .if2 .left) (c .uneven3 .ensures)
+returns-3 c =
+    let at-if2 = c .before .before .before in
+    let at-if1 = at-if2 .before .before .before .before in
+    uneven-third _ _ _ (at-if1 .before .uneven .ensures) (at-if1 .if1 .left)
+    (at-if2 .before .uneven2 .ensures) (at-if2 .if2 .left) (c .uneven3 .ensures)
 
 pub symmetric-spec : {M : Type 1} → statement M
 symmetric-spec =

@@ -1,5 +1,5 @@
--- `body::MomentumBody::anchor` meets its contract.
-use Rattle.rows.proofs.BodyLaws.{anchor-1, anchor-2}
+-- `body::MomentumBody::anchor` meets its contract: one law of `BodyLaws` for each return.
+use Rattle.rows.proofs.BodyLaws.{anchor-lost, anchored}
 use Rattle.rows.specs.AnswerLaws.{none-stop, some-go}
 use Rattle.rows.specs.Fault.{arithmeticOverflow}
 use borrow.Author.Needs.{needs}
@@ -26,13 +26,17 @@ enum-told c = search needs
 
 returns : tie.Need-returns
 returns c =
-    anchor-2 _ _
-    (c .before .before .before .before .before .before .sub .ensures)
-    (some-go arithmeticOverflow (c .before .before .before .before .before .rotate-vector .ensures) (c .before .before .before .arm .given .1))
+    let at-arm = c .before .before .before in
+    let at-rotate-vector = at-arm .before .before in
+    let at-sub = at-rotate-vector .before in
+    anchored _ _ (at-sub .sub .ensures) (some-go arithmeticOverflow (at-rotate-vector .rotate-vector .ensures) (at-arm .arm .given .1))
     (c .before .add .ensures) (c .finite .ensures)
 
 returns-2 : tie.Need-returns-2
-returns-2 c = anchor-1 _ _ (c .before .before .before .sub .ensures) (none-stop arithmeticOverflow (c .before .before .rotate-vector .ensures) (c .enum-told .given .1))
+returns-2 c =
+    let at-rotate-vector = c .before .before in
+    let at-sub = at-rotate-vector .before in
+    anchor-lost _ _ (at-sub .sub .ensures) (none-stop arithmeticOverflow (at-rotate-vector .rotate-vector .ensures) (c .enum-told .given .1))
 
 pub anchor-spec : {M : Type 1} → statement M
 anchor-spec =

@@ -1,9 +1,10 @@
--- `body::MomentumBody::drift` meets its contract.
-use Rattle.rows.proofs.BodyLaws.{drift-1, drift-2, drift-3, drift-4, drift-5, found, lost, pass-as}
+-- `body::MomentumBody::drift` meets its contract: one law of `BodyLaws` for each return.
+use Rattle.rows.proofs.BodyLaws.{found, lost, pass-as, drift-center-lost, drift-without-unit, drift-omega-lost, drifted, drift-endless, drift-turn-lost}
+use Rattle.rows.proofs.UnitLaws.{unit-of}
 use Rattle.rows.specs.Answer.{answerOf}
 use Rattle.rows.specs.AnswerLaws.{vector-go, vector-stop}
 use borrow.Author.Needs.{needs}
-use mathlib.Core.Path.{ap, refl}
+use mathlib.Core.Path.{refl, sym, _∙_}
 use Rattle.rows.proofs.body.MomentumBody.drift.Statement.{statement}
 use Rattle.rows.proofs.body.MomentumBody.drift.Tie as tie
 
@@ -28,14 +29,17 @@ overflow-requires c κs = search needs
 returns : tie.Need-returns
 unfolding answerOf
 returns c =
+    let at-finite = c .before .before .before in
+    let at-add = at-finite .before in
+    let at-scale = at-add .before in
     lost _ (c .overflow .ensures) refl
-    (drift-1 _ _ (c .before .before .before .before .before .scale .ensures) (c .before .before .before .before .add .ensures) (vector-stop (c .before .before .before .finite .ensures) (c .before .enum-told .given .1)))
+    (drift-center-lost _ _ (at-scale .scale .ensures) (at-add .add .ensures) (vector-stop (at-finite .finite .ensures) (c .before .enum-told .given .1)))
 
-omega-requires : tie.Need-omega-requires
-omega-requires c κs = search needs
+try-normalize-requires : tie.Need-try-normalize-requires
+try-normalize-requires c κs = search needs
 
-enum-known-omega : tie.Need-enum-known-omega
-enum-known-omega c = search needs
+enum-known-unit : tie.Need-enum-known-unit
+enum-known-unit c = search needs
 
 enum-told-2 : tie.Need-enum-told-2
 enum-told-2 c = search needs
@@ -44,25 +48,25 @@ overflow-requires-2 : tie.Need-overflow-requires-2
 overflow-requires-2 c κs = search needs
 
 returns-2 : tie.Need-returns-2
+unfolding answerOf
 returns-2 c =
-    let c₆ = c .before .before .before .before .before .before in
+    let at-try-normalize = c .before .before .before in
+    let at-center = at-try-normalize .before .before in
+    let at-finite = at-center .before .before in
+    let at-add = at-finite .before in
+    let at-scale = at-add .before in
     lost _ (c .overflow2 .ensures) refl
-    (drift-2 _ _ (c₆ .before .before .before .scale .ensures) (c₆ .before .before .add .ensures) (vector-go (c₆ .before .finite .ensures) (c .before .before .before .before .before .center .given .1)) (vector-stop (c .before .before .before .omega .ensures) (c .before .enum-told2 .given .1)))
+    (drift-without-unit _ _ (at-scale .scale .ensures) (at-add .add .ensures) (vector-go (at-finite .finite .ensures) (at-center .center .given .1))
+    (sym (at-try-normalize .try-normalize .ensures) ∙ c .before .enum-told2 .given .1))
 
-passes-requires : tie.Need-passes-requires
-passes-requires c κs = search needs
+in-frame-requires : tie.Need-in-frame-requires
+in-frame-requires c κs = search needs
 
-enum-known-rotation : tie.Need-enum-known-rotation
-enum-known-rotation c = search needs
-
-turned-requires : tie.Need-turned-requires
-turned-requires c κs = search needs
+enum-known-omega : tie.Need-enum-known-omega
+enum-known-omega c = search needs
 
 enum-told-3 : tie.Need-enum-told-3
 enum-told-3 c = search needs
-
-enum-told-4 : tie.Need-enum-told-4
-enum-told-4 c = search needs
 
 overflow-requires-3 : tie.Need-overflow-requires-3
 overflow-requires-3 c κs = search needs
@@ -70,25 +74,90 @@ overflow-requires-3 c κs = search needs
 returns-3 : tie.Need-returns-3
 unfolding answerOf
 returns-3 c =
-    let c₆ = c .before .before .before .before .before .before in
-    let c₁₂ = c₆ .before .before .before .before .before .before in
-    found _ _
-    (drift-3 _ _ (c₁₂ .before .before .scale .ensures) (c₁₂ .before .add .ensures) (vector-go (c₆ .before .before .before .before .before .before .finite .ensures) (c₆ .before .before .before .before .center .given .1)) (vector-go (c₆ .before .before .omega .ensures) (c .before .before .before .before .before .before .omega2 .given .1)) (pass-as (c .before .before .before .before .passes .ensures) (c .before .before .rotation .given .1)) (c .turned .ensures))
+    let at-in-frame = c .before .before .before in
+    let at-unit = at-in-frame .before .before in
+    let at-try-normalize = at-unit .before .before in
+    let at-center = at-try-normalize .before .before in
+    let at-finite = at-center .before .before in
+    let at-add = at-finite .before in
+    let at-scale = at-add .before in
+    lost _ (c .overflow3 .ensures) refl
+    (drift-omega-lost _ _ (at-scale .scale .ensures) (at-add .add .ensures) (vector-go (at-finite .finite .ensures) (at-center .center .given .1))
+    (unit-of (at-try-normalize .try-normalize .ensures) (at-unit .unit .given .1))
+    (vector-stop (at-in-frame .in-frame .ensures) (c .before .enum-told3 .given .1)))
+
+passes-requires : tie.Need-passes-requires
+passes-requires c κs =
+    let at-unit = c .before .before .before .before .before in
+    let at-try-normalize = at-unit .before .before in
+    unit-of (at-try-normalize .try-normalize .ensures) (at-unit .unit .given .1)
+
+enum-known-rotation : tie.Need-enum-known-rotation
+enum-known-rotation c = search needs
+
+turned-requires : tie.Need-turned-requires
+turned-requires c κs = search needs
+
+enum-told-4 : tie.Need-enum-told-4
+enum-told-4 c = search needs
+
+enum-told-5 : tie.Need-enum-told-5
+enum-told-5 c = search needs
+
+overflow-requires-4 : tie.Need-overflow-requires-4
+overflow-requires-4 c κs = search needs
 
 returns-4 : tie.Need-returns-4
 unfolding answerOf
 returns-4 c =
-    let c₆ = c .before .before .before .before .before .before in
+    let at-rotation = c .before .before in
+    let at-passes = at-rotation .before .before in
+    let at-omega = at-passes .before .before in
+    let at-in-frame = at-omega .before .before in
+    let at-unit = at-in-frame .before .before in
+    let at-try-normalize = at-unit .before .before in
+    let at-center = at-try-normalize .before .before in
+    let at-finite = at-center .before .before in
+    let at-add = at-finite .before in
+    let at-scale = at-add .before in
     found _ _
-    (drift-4 _ _ (c₆ .before .before .before .before .before .before .scale .ensures) (c₆ .before .before .before .before .before .add .ensures) (vector-go (c₆ .before .before .before .before .finite .ensures) (c₆ .before .before .center .given .1)) (vector-go (c .before .before .before .before .before .before .omega .ensures) (c .before .before .before .before .omega2 .given .1)) (pass-as (c .before .before .passes .ensures) (c .enum-told3 .given .1)))
+    (drifted _ _ (at-scale .scale .ensures) (at-add .add .ensures) (vector-go (at-finite .finite .ensures) (at-center .center .given .1))
+    (unit-of (at-try-normalize .try-normalize .ensures) (at-unit .unit .given .1)) (vector-go (at-in-frame .in-frame .ensures) (at-omega .omega .given .1))
+    (pass-as (at-passes .passes .ensures) (at-rotation .rotation .given .1)) (c .turned .ensures))
 
 returns-5 : tie.Need-returns-5
 unfolding answerOf
 returns-5 c =
-    let c₆ = c .before .before .before .before .before .before in
-    let c₁₂ = c₆ .before .before .before .before .before .before in
-    lost _ (c .overflow3 .ensures) refl
-    (drift-5 _ _ (c₁₂ .before .scale .ensures) (c₆ .before .before .before .before .before .before .add .ensures) (vector-go (c₆ .before .before .before .before .before .finite .ensures) (c₆ .before .before .before .center .given .1)) (vector-go (c₆ .before .omega .ensures) (c .before .before .before .before .before .omega2 .given .1)) (pass-as (c .before .before .before .passes .ensures) (c .before .enum-told4 .given .1)))
+    let at-passes = c .before .before in
+    let at-omega = at-passes .before .before in
+    let at-in-frame = at-omega .before .before in
+    let at-unit = at-in-frame .before .before in
+    let at-try-normalize = at-unit .before .before in
+    let at-center = at-try-normalize .before .before in
+    let at-finite = at-center .before .before in
+    let at-add = at-finite .before in
+    let at-scale = at-add .before in
+    found _ _
+    (drift-endless _ _ (at-scale .scale .ensures) (at-add .add .ensures) (vector-go (at-finite .finite .ensures) (at-center .center .given .1))
+    (unit-of (at-try-normalize .try-normalize .ensures) (at-unit .unit .given .1)) (vector-go (at-in-frame .in-frame .ensures) (at-omega .omega .given .1))
+    (pass-as (at-passes .passes .ensures) (c .enum-told4 .given .1)))
+
+returns-6 : tie.Need-returns-6
+unfolding answerOf
+returns-6 c =
+    let at-passes = c .before .before .before in
+    let at-omega = at-passes .before .before in
+    let at-in-frame = at-omega .before .before in
+    let at-unit = at-in-frame .before .before in
+    let at-try-normalize = at-unit .before .before in
+    let at-center = at-try-normalize .before .before in
+    let at-finite = at-center .before .before in
+    let at-add = at-finite .before in
+    let at-scale = at-add .before in
+    lost _ (c .overflow4 .ensures) refl
+    (drift-turn-lost _ _ (at-scale .scale .ensures) (at-add .add .ensures) (vector-go (at-finite .finite .ensures) (at-center .center .given .1))
+    (unit-of (at-try-normalize .try-normalize .ensures) (at-unit .unit .given .1)) (vector-go (at-in-frame .in-frame .ensures) (at-omega .omega .given .1))
+    (pass-as (at-passes .passes .ensures) (c .before .enum-told5 .given .1)))
 
 pub drift-spec : {M : Type 1} → statement M
 drift-spec =
@@ -101,17 +170,22 @@ drift-spec =
     enum-told
     overflow-requires
     returns
-    omega-requires
-    enum-known-omega
+    try-normalize-requires
+    enum-known-unit
     enum-told-2
     overflow-requires-2
     returns-2
+    in-frame-requires
+    enum-known-omega
+    enum-told-3
+    overflow-requires-3
+    returns-3
     passes-requires
     enum-known-rotation
     turned-requires
-    enum-told-3
     enum-told-4
-    overflow-requires-3
-    returns-3
+    enum-told-5
+    overflow-requires-4
     returns-4
-    returns-5)
+    returns-5
+    returns-6)

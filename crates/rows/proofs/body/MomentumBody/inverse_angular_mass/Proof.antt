@@ -1,51 +1,35 @@
--- `body::MomentumBody::inverse_angular_mass` meets its contract.
-use Rattle.rows.proofs.BodyLaws.{angular-1, angular-2}
-use Rattle.rows.specs.AnswerLaws.{none-stop, some-go}
-use Rattle.rows.specs.Fault.{arithmeticOverflow, vectorOr}
+-- `body::MomentumBody::inverse_angular_mass` meets its contract: one law of `BodyLaws` for each return.
+use Rattle.rows.proofs.BodyLaws.{mass-by-unit, mass-without-unit}
+use Rattle.rows.proofs.UnitLaws.{unit-of}
 use borrow.Author.Needs.{needs}
-use mathlib.Core.Path.{ap}
+use mathlib.Core.Path.{sym, _∙_}
 use Rattle.rows.proofs.body.MomentumBody.inverse_angular_mass.Statement.{statement}
 use Rattle.rows.proofs.body.MomentumBody.inverse_angular_mass.Tie as tie
 
-conjugate-requires : tie.Need-conjugate-requires
-conjugate-requires c κs = search needs
+try-normalize-requires : tie.Need-try-normalize-requires
+try-normalize-requires c κs = search needs
 
-rotate-vector-requires : tie.Need-rotate-vector-requires
-rotate-vector-requires c κs = search needs
+enum-known-unit : tie.Need-enum-known-unit
+enum-known-unit c = search needs
 
-enum-known-local : tie.Need-enum-known-local
-enum-known-local c = search needs
-
-apply-requires : tie.Need-apply-requires
-apply-requires c κs = search needs
-
-rotate-vector-requires-2 : tie.Need-rotate-vector-requires-2
-rotate-vector-requires-2 c κs = search needs
+in-frame-requires : tie.Need-in-frame-requires
+in-frame-requires c κs = search needs
 
 enum-told : tie.Need-enum-told
 enum-told c = search needs
 
 returns : tie.Need-returns
 returns c =
-    angular-2 _ _
-    (c .before .before .before .before .before .before .conjugate .ensures)
-    (some-go arithmeticOverflow (c .before .before .before .before .before .rotate-vector .ensures) (c .before .before .before .local .given .1))
-    (c .before .apply .ensures) (ap (vectorOr arithmeticOverflow) (c .rotate-vector2 .ensures))
+    let at-unit = c .before .before in
+    let at-try-normalize = at-unit .before .before in
+    c .in-frame .ensures ∙ mass-by-unit _ _ (unit-of (at-try-normalize .try-normalize .ensures) (at-unit .unit .given .1))
 
 returns-2 : tie.Need-returns-2
 returns-2 c =
-    angular-1 _ _
-    (c .before .before .before .conjugate .ensures) (none-stop arithmeticOverflow (c .before .before .rotate-vector .ensures) (c .enum-told .given .1))
+    let at-try-normalize = c .before .before in
+    mass-without-unit _ _ (sym (at-try-normalize .try-normalize .ensures) ∙ c .enum-told .given .1)
 
 pub inverse-angular-mass-spec : {M : Type 1} → statement M
 inverse-angular-mass-spec =
     tie.close
-    (tie.spec
-    conjugate-requires
-    rotate-vector-requires
-    enum-known-local
-    apply-requires
-    rotate-vector-requires-2
-    enum-told
-    returns
-    returns-2)
+    (tie.spec try-normalize-requires enum-known-unit in-frame-requires enum-told returns returns-2)

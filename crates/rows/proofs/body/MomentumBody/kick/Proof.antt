@@ -1,9 +1,9 @@
--- `body::MomentumBody::kick` meets its contract.
-use Rattle.rows.proofs.BodyLaws.{kick-1, kick-2, kick-3, found, lost}
+-- `body::MomentumBody::kick` meets its contract: one law of `BodyLaws` for each return.
+use Rattle.rows.proofs.BodyLaws.{found, lost, kick-momentum-lost, kick-spin-lost, kicked}
 use Rattle.rows.specs.Answer.{answerOf}
 use Rattle.rows.specs.AnswerLaws.{vector-go, vector-stop}
 use borrow.Author.Needs.{needs}
-use mathlib.Core.Path.{ap, refl}
+use mathlib.Core.Path.{refl}
 use Rattle.rows.proofs.body.MomentumBody.kick.Statement.{statement}
 use Rattle.rows.proofs.body.MomentumBody.kick.Tie as tie
 
@@ -25,8 +25,10 @@ overflow-requires c κs = search needs
 returns : tie.Need-returns
 unfolding answerOf
 returns c =
+    let at-finite = c .before .before .before in
+    let at-add = at-finite .before in
     lost _ (c .overflow .ensures) refl
-    (kick-1 _ _ _ (c .before .before .before .before .add .ensures) (vector-stop (c .before .before .before .finite .ensures) (c .before .enum-told .given .1)))
+    (kick-momentum-lost _ _ _ (at-add .add .ensures) (vector-stop (at-finite .finite .ensures) (c .before .enum-told .given .1)))
 
 add-requires-2 : tie.Need-add-requires-2
 add-requires-2 c κs = search needs
@@ -45,16 +47,26 @@ overflow-requires-2 c κs = search needs
 
 returns-2 : tie.Need-returns-2
 returns-2 c =
-    let c₆ = c .before .before .before .before .before .before in
+    let at-finite2 = c .before .before .before in
+    let at-add2 = at-finite2 .before in
+    let at-momentum = at-add2 .before .before in
+    let at-finite = at-momentum .before .before in
+    let at-add = at-finite .before in
     lost _ (c .overflow2 .ensures) refl
-    (kick-2 _ _ _ (c₆ .before .before .before .add .ensures) (vector-go (c₆ .before .before .finite .ensures) (c .before .before .before .before .before .before .momentum .given .1)) (c .before .before .before .before .add2 .ensures) (vector-stop (c .before .before .before .finite2 .ensures) (c .before .enum-told2 .given .1)))
+    (kick-spin-lost _ _ _ (at-add .add .ensures) (vector-go (at-finite .finite .ensures) (at-momentum .momentum .given .1)) (at-add2 .add2 .ensures)
+    (vector-stop (at-finite2 .finite2 .ensures) (c .before .enum-told2 .given .1)))
 
 returns-3 : tie.Need-returns-3
 unfolding answerOf
 returns-3 c =
-    let c₆ = c .before .before .before .before .before .before in
+    let at-finite2 = c .before .before .before in
+    let at-add2 = at-finite2 .before in
+    let at-momentum = at-add2 .before .before in
+    let at-finite = at-momentum .before .before in
+    let at-add = at-finite .before in
     found _ _
-    (kick-3 _ _ _ (c₆ .before .before .before .add .ensures) (vector-go (c₆ .before .before .finite .ensures) (c .before .before .before .before .before .before .momentum .given .1)) (c .before .before .before .before .add2 .ensures) (vector-go (c .before .before .before .finite2 .ensures) (c .before .spin .given .1)))
+    (kicked _ _ _ (at-add .add .ensures) (vector-go (at-finite .finite .ensures) (at-momentum .momentum .given .1)) (at-add2 .add2 .ensures)
+    (vector-go (at-finite2 .finite2 .ensures) (c .before .spin .given .1)))
 
 pub kick-spec : {M : Type 1} → statement M
 kick-spec =

@@ -1,21 +1,18 @@
--- `body::MomentumBody::new` meets its contract.
-use Rattle.rows.proofs.BodyLaws.{found, lost, new-1, new-2, new-3, new-4, new-5}
+-- `body::MomentumBody::new` meets its contract: one law of `BodyLaws` for each return.
+use Rattle.rows.proofs.BodyLaws.{found, lost, new-without-unit, new-spin-lost, new-momentum-lost, new-center-lost, new-made}
+use Rattle.rows.proofs.UnitLaws.{unit-of}
 use Rattle.rows.specs.Answer.{answerOf}
-use Rattle.rows.specs.AnswerLaws.{none-stop, some-go, vector-go, vector-stop}
-use Rattle.rows.specs.Fault.{arithmeticOverflow}
+use Rattle.rows.specs.AnswerLaws.{vector-go, vector-stop}
 use borrow.Author.Needs.{needs}
-use mathlib.Core.Path.{ap}
+use mathlib.Core.Path.{sym, _∙_}
 use Rattle.rows.proofs.body.MomentumBody.new.Statement.{statement}
 use Rattle.rows.proofs.body.MomentumBody.new.Tie as tie
 
-conjugate-requires : tie.Need-conjugate-requires
-conjugate-requires c κs = search needs
+try-normalize-requires : tie.Need-try-normalize-requires
+try-normalize-requires c κs = search needs
 
-rotate-vector-requires : tie.Need-rotate-vector-requires
-rotate-vector-requires c κs = search needs
-
-enum-known-local : tie.Need-enum-known-local
-enum-known-local c = search needs
+enum-known-unit : tie.Need-enum-known-unit
+enum-known-unit c = search needs
 
 enum-told : tie.Need-enum-told
 enum-told c = search needs
@@ -29,14 +26,13 @@ overflow-requires c κs = search needs
 returns : tie.Need-returns
 unfolding answerOf
 returns c =
+    let at-enum-told = c .before .before in
+    let at-try-normalize = at-enum-told .before .before in
     lost _ (c .overflow .ensures) (c .before .standing .ensures)
-    (new-1 _ _ (c .before .before .before .before .before .conjugate .ensures) (none-stop arithmeticOverflow (c .before .before .before .before .rotate-vector .ensures) (c .before .before .enum-told .given .1)))
+    (new-without-unit _ _ (sym (at-try-normalize .try-normalize .ensures) ∙ at-enum-told .enum-told .given .1))
 
-apply-requires : tie.Need-apply-requires
-apply-requires c κs = search needs
-
-rotate-vector-requires-2 : tie.Need-rotate-vector-requires-2
-rotate-vector-requires-2 c κs = search needs
+in-frame-requires : tie.Need-in-frame-requires
+in-frame-requires c κs = search needs
 
 enum-known-spin : tie.Need-enum-known-spin
 enum-known-spin c = search needs
@@ -51,11 +47,15 @@ overflow-requires-2 : tie.Need-overflow-requires-2
 overflow-requires-2 c κs = search needs
 
 returns-2 : tie.Need-returns-2
+unfolding answerOf
 returns-2 c =
-    let c₆ = c .before .before .before .before .before .before in
-    lost _ (c .overflow2 .ensures)
-    (c .before .standing2 .ensures)
-    (new-2 _ _ (c₆ .before .before .before .before .conjugate .ensures) (some-go arithmeticOverflow (c₆ .before .before .before .rotate-vector .ensures) (c₆ .before .local .given .1)) (c .before .before .before .before .before .apply .ensures) (none-stop arithmeticOverflow (c .before .before .before .before .rotate-vector2 .ensures) (c .before .before .enum-told2 .given .1)))
+    let at-enum-told2 = c .before .before in
+    let at-in-frame = at-enum-told2 .before .before in
+    let at-unit = at-in-frame .before .before in
+    let at-try-normalize = at-unit .before .before in
+    lost _ (c .overflow2 .ensures) (c .before .standing2 .ensures)
+    (new-spin-lost _ _ (unit-of (at-try-normalize .try-normalize .ensures) (at-unit .unit .given .1))
+    (vector-stop (at-in-frame .in-frame .ensures) (at-enum-told2 .enum-told2 .given .1)))
 
 scale-requires : tie.Need-scale-requires
 scale-requires c κs = search needs
@@ -78,11 +78,17 @@ overflow-requires-3 c κs = search needs
 returns-3 : tie.Need-returns-3
 unfolding answerOf
 returns-3 c =
-    let c₆ = c .before .before .before .before .before .before in
-    let c₁₂ = c₆ .before .before .before .before .before .before in
-    lost _ (c .overflow3 .ensures)
-    (c .before .standing3 .ensures)
-    (new-3 _ _ (c₁₂ .before .before .before .conjugate .ensures) (some-go arithmeticOverflow (c₁₂ .before .before .rotate-vector .ensures) (c₆ .before .before .before .before .before .before .local .given .1)) (c₆ .before .before .before .before .apply .ensures) (some-go arithmeticOverflow (c₆ .before .before .before .rotate-vector2 .ensures) (c₆ .before .spin .given .1)) (c .before .before .before .before .before .scale .ensures) (vector-stop (c .before .before .before .before .finite .ensures) (c .before .before .enum-told3 .given .1)))
+    let at-enum-told3 = c .before .before in
+    let at-finite = at-enum-told3 .before .before in
+    let at-scale = at-finite .before in
+    let at-spin = at-scale .before .before in
+    let at-in-frame = at-spin .before .before in
+    let at-unit = at-in-frame .before .before in
+    let at-try-normalize = at-unit .before .before in
+    lost _ (c .overflow3 .ensures) (c .before .standing3 .ensures)
+    (new-momentum-lost _ _ (unit-of (at-try-normalize .try-normalize .ensures) (at-unit .unit .given .1))
+    (vector-go (at-in-frame .in-frame .ensures) (at-spin .spin .given .1)) (at-scale .scale .ensures)
+    (vector-stop (at-finite .finite .ensures) (at-enum-told3 .enum-told3 .given .1)))
 
 world-center-of-mass-requires : tie.Need-world-center-of-mass-requires
 world-center-of-mass-requires c κs = search needs
@@ -102,35 +108,50 @@ overflow-requires-4 c κs = search needs
 returns-4 : tie.Need-returns-4
 unfolding answerOf
 returns-4 c =
-    let c₆ = c .before .before .before .before .before .before in
-    let c₁₂ = c₆ .before .before .before .before .before .before in
-    let c₁₈ = c₁₂ .before .before .before .before .before .before in
-    lost _ (c .overflow4 .ensures)
-    (c .before .standing4 .ensures)
-    (new-4 _ _ (c₁₈ .before .conjugate .ensures) (some-go arithmeticOverflow (c₁₂ .before .before .before .before .before .before .rotate-vector .ensures) (c₁₂ .before .before .before .before .local .given .1)) (c₁₂ .before .before .apply .ensures) (some-go arithmeticOverflow (c₁₂ .before .rotate-vector2 .ensures) (c₆ .before .before .before .before .before .spin .given .1)) (c₆ .before .before .before .scale .ensures) (vector-go (c₆ .before .before .finite .ensures) (c .before .before .before .before .before .before .momentum .given .1)) (vector-stop (c .before .before .before .before .world-center-of-mass .ensures) (c .before .before .enum-told4 .given .1)))
+    let at-enum-told4 = c .before .before in
+    let at-world-center-of-mass = at-enum-told4 .before .before in
+    let at-momentum = at-world-center-of-mass .before .before in
+    let at-finite = at-momentum .before .before in
+    let at-scale = at-finite .before in
+    let at-spin = at-scale .before .before in
+    let at-in-frame = at-spin .before .before in
+    let at-unit = at-in-frame .before .before in
+    let at-try-normalize = at-unit .before .before in
+    lost _ (c .overflow4 .ensures) (c .before .standing4 .ensures)
+    (new-center-lost _ _ (unit-of (at-try-normalize .try-normalize .ensures) (at-unit .unit .given .1))
+    (vector-go (at-in-frame .in-frame .ensures) (at-spin .spin .given .1)) (at-scale .scale .ensures)
+    (vector-go (at-finite .finite .ensures) (at-momentum .momentum .given .1))
+    (vector-stop (at-world-center-of-mass .world-center-of-mass .ensures) (at-enum-told4 .enum-told4 .given .1)))
 
 returns-5 : tie.Need-returns-5
 unfolding answerOf
 returns-5 c =
-    let c₆ = c .before .before .before .before .before .before in
-    let c₁₂ = c₆ .before .before .before .before .before .before in
-    let c₁₈ = c₁₂ .before .before .before .before .before .before in
+    let at-center = c .before .before in
+    let at-world-center-of-mass = at-center .before .before in
+    let at-momentum = at-world-center-of-mass .before .before in
+    let at-finite = at-momentum .before .before in
+    let at-scale = at-finite .before in
+    let at-spin = at-scale .before .before in
+    let at-in-frame = at-spin .before .before in
+    let at-unit = at-in-frame .before .before in
+    let at-try-normalize = at-unit .before .before in
     found _ _
-    (new-5 _ _ (c₁₈ .before .conjugate .ensures) (some-go arithmeticOverflow (c₁₂ .before .before .before .before .before .before .rotate-vector .ensures) (c₁₂ .before .before .before .before .local .given .1)) (c₁₂ .before .before .apply .ensures) (some-go arithmeticOverflow (c₁₂ .before .rotate-vector2 .ensures) (c₆ .before .before .before .before .before .spin .given .1)) (c₆ .before .before .before .scale .ensures) (vector-go (c₆ .before .before .finite .ensures) (c .before .before .before .before .before .before .momentum .given .1)) (vector-go (c .before .before .before .before .world-center-of-mass .ensures) (c .before .before .center .given .1)))
+    (new-made _ _ (unit-of (at-try-normalize .try-normalize .ensures) (at-unit .unit .given .1))
+    (vector-go (at-in-frame .in-frame .ensures) (at-spin .spin .given .1)) (at-scale .scale .ensures)
+    (vector-go (at-finite .finite .ensures) (at-momentum .momentum .given .1))
+    (vector-go (at-world-center-of-mass .world-center-of-mass .ensures) (at-center .center .given .1)))
 
 pub new-spec : {M : Type 1} → statement M
 new-spec =
     tie.close
     (tie.spec
-    conjugate-requires
-    rotate-vector-requires
-    enum-known-local
+    try-normalize-requires
+    enum-known-unit
     enum-told
     standing-requires
     overflow-requires
     returns
-    apply-requires
-    rotate-vector-requires-2
+    in-frame-requires
     enum-known-spin
     enum-told-2
     standing-requires-2

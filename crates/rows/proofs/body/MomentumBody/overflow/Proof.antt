@@ -1,5 +1,5 @@
-use borrow.Author.Needs.{needs}
-use mathlib.Core.Path.{_≡_, refl, sym, _∙_, ap}
+-- `body::MomentumBody::overflow` meets its contract: the answer is the definition's.
+use mathlib.Core.Path.{refl}
 use Rattle.rows.specs.Answer.{answerOf}
 use Rattle.rows.proofs.body.MomentumBody.overflow.Statement.{statement}
 use Rattle.rows.proofs.body.MomentumBody.overflow.Tie as tie

@@ -1,13 +1,13 @@
--- `body::MomentumBody::pass` meets its contract.
-use Rattle.rows.proofs.BodyLaws.{half-turn, pass-1, pass-2, pass-3, pass-4, pass-5, pass-6}
+-- `body::MomentumBody::pass` meets its contract: one law of `BodyLaws` for each return.
+use Rattle.rows.proofs.BodyLaws.{half-turn, pass-half-lost, pass-omega-lost, pass-residual-lost, pass-size-lost, pass-settles, pass-goes-on}
 use Rattle.rows.specs.AnswerLaws.{number-go, number-stop, quat-go, quat-stop, vector-go, vector-stop}
 use Rattle.rows.specs.Fault.{arithmeticOverflow}
 use borrow.Author.Needs.{needs}
 use Rattle.rows.proofs.body.MomentumBody.pass.Statement.{statement}
 use Rattle.rows.proofs.body.MomentumBody.pass.Tie as tie
 
-integrate-world-angular-velocity-requires : tie.Need-integrate-world-angular-velocity-requires
-integrate-world-angular-velocity-requires c κs = search needs
+integrate-as-unit-requires : tie.Need-integrate-as-unit-requires
+integrate-as-unit-requires c κs = search needs
 
 enum-known-half : tie.Need-enum-known-half
 enum-known-half c = search needs
@@ -16,7 +16,11 @@ enum-told : tie.Need-enum-told
 enum-told c = search needs
 
 returns : tie.Need-returns
-returns c = pass-1 _ _ _ (quat-stop arithmeticOverflow (half-turn _ _ _ (c .before .before .integrate-world-angular-velocity .ensures)) (c .enum-told .given .1))
+returns c =
+    let at-integrate-as-unit = c .before .before in
+    let at-entry = at-integrate-as-unit .before in
+    pass-half-lost _ _ _
+    (quat-stop arithmeticOverflow (half-turn _ _ _ (at-entry .pre) (at-integrate-as-unit .integrate-as-unit .ensures)) (c .enum-told .given .1))
 
 turned-requires : tie.Need-turned-requires
 turned-requires c κs = search needs
@@ -32,10 +36,14 @@ enum-told-2 c = search needs
 
 returns-2 : tie.Need-returns-2
 returns-2 c =
-    let c₆ = c .before .before .before .before .before .before in
-    pass-2 _ _ _
-    (quat-go arithmeticOverflow (half-turn _ _ _ (c₆ .before .integrate-world-angular-velocity .ensures)) (c .before .before .before .before .before .half .given .1))
-    (c .before .before .before .turned .ensures) (vector-stop (c .before .before .omega .ensures) (c .enum-told2 .given .1))
+    let at-omega = c .before .before in
+    let at-turned = at-omega .before in
+    let at-half = at-turned .before .before in
+    let at-integrate-as-unit = at-half .before .before in
+    let at-entry = at-integrate-as-unit .before in
+    pass-omega-lost _ _ _
+    (quat-go arithmeticOverflow (half-turn _ _ _ (at-entry .pre) (at-integrate-as-unit .integrate-as-unit .ensures)) (at-half .half .given .1))
+    (at-turned .turned .ensures) (vector-stop (at-omega .omega .ensures) (c .enum-told2 .given .1))
 
 sub-requires : tie.Need-sub-requires
 sub-requires c κs = search needs
@@ -51,11 +59,18 @@ enum-told-3 c = search needs
 
 returns-3 : tie.Need-returns-3
 returns-3 c =
-    let c₆ = c .before .before .before .before .before .before in
-    pass-3 _ _ _
-    (quat-go arithmeticOverflow (half-turn _ _ _ (c₆ .before .before .before .before .before .before .integrate-world-angular-velocity .ensures)) (c₆ .before .before .before .before .half .given .1))
-    (c₆ .before .before .turned .ensures) (vector-go (c₆ .before .omega .ensures) (c .before .before .before .before .before .next .given .1))
-    (c .before .before .before .sub .ensures) (number-stop arithmeticOverflow (c .before .before .checked-length .ensures) (c .enum-told3 .given .1))
+    let at-checked-length = c .before .before in
+    let at-sub = at-checked-length .before in
+    let at-next = at-sub .before .before in
+    let at-omega = at-next .before .before in
+    let at-turned = at-omega .before in
+    let at-half = at-turned .before .before in
+    let at-integrate-as-unit = at-half .before .before in
+    let at-entry = at-integrate-as-unit .before in
+    pass-residual-lost _ _ _
+    (quat-go arithmeticOverflow (half-turn _ _ _ (at-entry .pre) (at-integrate-as-unit .integrate-as-unit .ensures)) (at-half .half .given .1))
+    (at-turned .turned .ensures) (vector-go (at-omega .omega .ensures) (at-next .next .given .1)) (at-sub .sub .ensures)
+    (number-stop arithmeticOverflow (at-checked-length .checked-length .ensures) (c .enum-told3 .given .1))
 
 checked-length-requires-2 : tie.Need-checked-length-requires-2
 checked-length-requires-2 c κs = search needs
@@ -68,48 +83,70 @@ enum-told-4 c = search needs
 
 returns-4 : tie.Need-returns-4
 returns-4 c =
-    let c₆ = c .before .before .before .before .before .before in
-    let c₁₂ = c₆ .before .before .before .before .before .before in
-    pass-4 _ _ _
-    (quat-go arithmeticOverflow (half-turn _ _ _ (c₁₂ .before .before .before .before .integrate-world-angular-velocity .ensures)) (c₁₂ .before .before .half .given .1))
-    (c₆ .before .before .before .before .before .before .turned .ensures)
-    (vector-go (c₆ .before .before .before .before .before .omega .ensures) (c₆ .before .before .before .next .given .1)) (c₆ .before .sub .ensures)
-    (number-go arithmeticOverflow (c .before .before .before .before .before .before .checked-length .ensures) (c .before .before .before .before .residual .given .1))
-    (number-stop arithmeticOverflow (c .before .before .checked-length2 .ensures) (c .enum-told4 .given .1))
+    let at-checked-length2 = c .before .before in
+    let at-residual = at-checked-length2 .before .before in
+    let at-checked-length = at-residual .before .before in
+    let at-sub = at-checked-length .before in
+    let at-next = at-sub .before .before in
+    let at-omega = at-next .before .before in
+    let at-turned = at-omega .before in
+    let at-half = at-turned .before .before in
+    let at-integrate-as-unit = at-half .before .before in
+    let at-entry = at-integrate-as-unit .before in
+    pass-size-lost _ _ _
+    (quat-go arithmeticOverflow (half-turn _ _ _ (at-entry .pre) (at-integrate-as-unit .integrate-as-unit .ensures)) (at-half .half .given .1))
+    (at-turned .turned .ensures) (vector-go (at-omega .omega .ensures) (at-next .next .given .1)) (at-sub .sub .ensures)
+    (number-go arithmeticOverflow (at-checked-length .checked-length .ensures) (at-residual .residual .given .1))
+    (number-stop arithmeticOverflow (at-checked-length2 .checked-length2 .ensures) (c .enum-told4 .given .1))
 
 settled-requires : tie.Need-settled-requires
 settled-requires c κs = search needs
 
 returns-5 : tie.Need-returns-5
 returns-5 c =
-    let c₆ = c .before .before .before .before .before .before in
-    let c₁₂ = c₆ .before .before .before .before .before .before in
-    let c₁₈ = c₁₂ .before .before .before .before .before .before in
-    pass-5 _ _ _
-    (quat-go arithmeticOverflow (half-turn _ _ _ (c₁₈ .before .integrate-world-angular-velocity .ensures)) (c₁₂ .before .before .before .before .before .half .given .1))
-    (c₁₂ .before .before .before .turned .ensures)
-    (vector-go (c₁₂ .before .before .omega .ensures) (c₆ .before .before .before .before .before .before .next .given .1))
-    (c₆ .before .before .before .before .sub .ensures)
-    (number-go arithmeticOverflow (c₆ .before .before .before .checked-length .ensures) (c₆ .before .residual .given .1))
-    (number-go arithmeticOverflow (c .before .before .before .before .before .checked-length2 .ensures) (c .before .before .before .size .given .1))
-    (c .before .if1 .taken) (c .settled .ensures)
+    let at-size = c .before .before .before in
+    let at-checked-length2 = at-size .before .before in
+    let at-residual = at-checked-length2 .before .before in
+    let at-checked-length = at-residual .before .before in
+    let at-sub = at-checked-length .before in
+    let at-next = at-sub .before .before in
+    let at-omega = at-next .before .before in
+    let at-turned = at-omega .before in
+    let at-half = at-turned .before .before in
+    let at-integrate-as-unit = at-half .before .before in
+    let at-entry = at-integrate-as-unit .before in
+    pass-settles _ _ _
+    (quat-go arithmeticOverflow (half-turn _ _ _ (at-entry .pre) (at-integrate-as-unit .integrate-as-unit .ensures)) (at-half .half .given .1))
+    (at-turned .turned .ensures) (vector-go (at-omega .omega .ensures) (at-next .next .given .1)) (at-sub .sub .ensures)
+    (number-go arithmeticOverflow (at-checked-length .checked-length .ensures) (at-residual .residual .given .1))
+    (number-go arithmeticOverflow (at-checked-length2 .checked-length2 .ensures) (at-size .size .given .1))
+    (at-entry .pre) (c .before .if1 .taken) (c .settled .ensures)
 
 returns-6 : tie.Need-returns-6
 returns-6 c =
-    let c₆ = c .before .before .before .before .before .before in
-    let c₁₂ = c₆ .before .before .before .before .before .before in
-    pass-6 _ _ _
-    (quat-go arithmeticOverflow (half-turn _ _ _ (c₁₂ .before .before .before .before .before .before .integrate-world-angular-velocity .ensures)) (c₁₂ .before .before .before .before .half .given .1))
-    (c₁₂ .before .before .turned .ensures) (vector-go (c₁₂ .before .omega .ensures) (c₆ .before .before .before .before .before .next .given .1))
-    (c₆ .before .before .before .sub .ensures)
-    (number-go arithmeticOverflow (c₆ .before .before .checked-length .ensures) (c .before .before .before .before .before .before .residual .given .1))
-    (number-go arithmeticOverflow (c .before .before .before .before .checked-length2 .ensures) (c .before .before .size .given .1)) (c .if1 .left)
+    let at-size = c .before .before in
+    let at-checked-length2 = at-size .before .before in
+    let at-residual = at-checked-length2 .before .before in
+    let at-checked-length = at-residual .before .before in
+    let at-sub = at-checked-length .before in
+    let at-next = at-sub .before .before in
+    let at-omega = at-next .before .before in
+    let at-turned = at-omega .before in
+    let at-half = at-turned .before .before in
+    let at-integrate-as-unit = at-half .before .before in
+    let at-entry = at-integrate-as-unit .before in
+    pass-goes-on _ _ _
+    (quat-go arithmeticOverflow (half-turn _ _ _ (at-entry .pre) (at-integrate-as-unit .integrate-as-unit .ensures)) (at-half .half .given .1))
+    (at-turned .turned .ensures) (vector-go (at-omega .omega .ensures) (at-next .next .given .1)) (at-sub .sub .ensures)
+    (number-go arithmeticOverflow (at-checked-length .checked-length .ensures) (at-residual .residual .given .1))
+    (number-go arithmeticOverflow (at-checked-length2 .checked-length2 .ensures) (at-size .size .given .1))
+    (c .if1 .left)
 
 pub pass-spec : {M : Type 1} → statement M
 pass-spec =
     tie.close
     (tie.spec
-    integrate-world-angular-velocity-requires
+    integrate-as-unit-requires
     enum-known-half
     enum-told
     returns

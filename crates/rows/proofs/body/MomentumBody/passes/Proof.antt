@@ -1,4 +1,4 @@
--- `body::MomentumBody::passes` meets its contract.
+-- `body::MomentumBody::passes` meets its contract: the loop of the definition, turn by turn.
 use Prim.Native.Nat.{_-_, _≤_, ℕ}
 use Rattle.arith.specs.Flow.{go, loop}
 use Rattle.arith.specs.FlowLaws.{loop-end, loop-more, loop-none, loop-stop}
@@ -11,10 +11,10 @@ use Rattle.rows.proofs.body.MomentumBody.passes.Statement.{statement}
 use Rattle.rows.proofs.body.MomentumBody.passes.Tie as tie
 
 abbrev Inv-loop : tie.InvT-loop
-Inv-loop self dt omega₀ k₀ omega k = (k ≤ 32) × (go omega ≡ loop k (λ (j : ℕ). passOf self dt) omega₀)
+Inv-loop self unit dt omega₀ k₀ omega k = (k ≤ 32) × (go omega ≡ loop k (λ (j : ℕ). passOf self dt) omega₀)
 
 abbrev μ-loop : tie.MeasureT-loop
-μ-loop self dt omega₀ k₀ omega k = 32 - k
+μ-loop self unit dt omega₀ k₀ omega k = 32 - k
 
 loop-holds : tie.Need-loop-holds Inv-loop μ-loop
 loop-holds c = (omega arith, loop-none _ _)
@@ -30,18 +30,20 @@ enum-known-rotation c = search needs
 
 returns : tie.Need-returns Inv-loop μ-loop
 returns c =
-    loop-stop _ _ 32
-    (c .before .before .before .before .loop-test .taken) (c .before .before .before .before .before .loop .inv .1)
-    (pass-as (c .before .before .before .pass .ensures) (c .before .rotation .given .1))
+    let at-pass = c .before .before .before in
+    let at-loop-test = at-pass .before in
+    let at-loop = at-loop-test .before in
+    loop-stop _ _ 32 (at-loop-test .loop-test .taken) (at-loop .loop .inv .1) (pass-as (at-pass .pass .ensures) (c .before .rotation .given .1))
 
 enum-told : tie.Need-enum-told Inv-loop μ-loop
 enum-told c = search needs
 
 returns-2 : tie.Need-returns-2 Inv-loop μ-loop
 returns-2 c =
-    loop-stop _ _ 32
-    (c .before .before .before .loop-test .taken) (c .before .before .before .before .loop .inv .1)
-    (pass-as (c .before .before .pass .ensures) (c .enum-told .given .1))
+    let at-pass = c .before .before in
+    let at-loop-test = at-pass .before in
+    let at-loop = at-loop-test .before in
+    loop-stop _ _ 32 (at-loop-test .loop-test .taken) (at-loop .loop .inv .1) (pass-as (at-pass .pass .ensures) (c .enum-told .given .1))
 
 add-k : tie.Need-add-k Inv-loop μ-loop
 add-k c = omega arith
@@ -51,10 +53,14 @@ loop-less c = omega arith
 
 loop-again : tie.Need-loop-again Inv-loop μ-loop
 loop-again c =
-    (omega arith, loop-more _ _ (c .before .before .before .before .before .loop .inv .1) (pass-as (c .before .before .before .pass .ensures) (c .before .next .given .1)))
+    let at-pass = c .before .before .before in
+    let at-loop = at-pass .before .before in
+    (omega arith, loop-more _ _ (at-loop .loop .inv .1) (pass-as (at-pass .pass .ensures) (c .before .next .given .1)))
 
 returns-3 : tie.Need-returns-3 Inv-loop μ-loop
-returns-3 c = loop-end _ _ (c .before .loop .inv .0) (c .loop-test .left) (c .before .loop .inv .1)
+returns-3 c =
+    let at-loop = c .before in
+    loop-end _ _ (at-loop .loop .inv .0) (c .loop-test .left) (at-loop .loop .inv .1)
 
 pub passes-spec : {M : Type 1} → statement M
 passes-spec =

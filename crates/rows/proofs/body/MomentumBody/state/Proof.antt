@@ -1,21 +1,41 @@
--- `body::MomentumBody::state` meets its contract.
-use Rattle.rows.proofs.BodyLaws.{state-1, state-2, state-3, state-4, state-5}
+-- `body::MomentumBody::state` meets its contract: one law of `BodyLaws` for each return.
+use Rattle.rows.proofs.BodyLaws.{state-without-unit, state-origin-lost, state-linear-lost, state-angular-lost, state-found}
+use Rattle.rows.proofs.UnitLaws.{unit-of}
 use Rattle.rows.specs.AnswerLaws.{state-answered, vector-go, vector-stop}
 use borrow.Author.Needs.{needs}
+use mathlib.Core.Path.{sym, _∙_}
 use Rattle.rows.proofs.body.MomentumBody.state.Statement.{statement}
 use Rattle.rows.proofs.body.MomentumBody.state.Tie as tie
 
-origin-requires : tie.Need-origin-requires
-origin-requires c κs = search needs
+try-normalize-requires : tie.Need-try-normalize-requires
+try-normalize-requires c κs = search needs
 
-enum-known-origin : tie.Need-enum-known-origin
-enum-known-origin c = search needs
+enum-known-unit : tie.Need-enum-known-unit
+enum-known-unit c = search needs
 
 enum-told : tie.Need-enum-told
 enum-told c = search needs
 
 returns : tie.Need-returns
-returns c = state-answered _ (state-1 _ _ (vector-stop (c .before .before .origin .ensures) (c .enum-told .given .1)))
+returns c =
+    let at-try-normalize = c .before .before in
+    state-answered _ (state-without-unit _ _ (sym (at-try-normalize .try-normalize .ensures) ∙ c .enum-told .given .1))
+
+origin-requires : tie.Need-origin-requires
+origin-requires c κs =
+    let at-try-normalize = c .before .before .before in
+    unit-of (at-try-normalize .try-normalize .ensures) (c .before .unit .given .1)
+
+enum-known-origin : tie.Need-enum-known-origin
+enum-known-origin c = search needs
+
+enum-told-2 : tie.Need-enum-told-2
+enum-told-2 c = search needs
+
+returns-2 : tie.Need-returns-2
+returns-2 c =
+    let at-origin = c .before .before in
+    state-answered _ (state-origin-lost _ _ (vector-stop (at-origin .origin .ensures) (c .enum-told2 .given .1)))
 
 div-requires : tie.Need-div-requires
 div-requires c κs = search needs
@@ -26,77 +46,101 @@ finite-requires c κs = search needs
 enum-known-linear : tie.Need-enum-known-linear
 enum-known-linear c = search needs
 
-enum-told-2 : tie.Need-enum-told-2
-enum-told-2 c = search needs
-
-returns-2 : tie.Need-returns-2
-returns-2 c =
-    let c₆ = c .before .before .before .before .before .before in
-    state-answered _
-    (state-2 _ _
-    (vector-go (c₆ .before .origin .ensures) (c .before .before .before .before .before .origin2 .given .1)) (c .before .before .before .div .ensures)
-    (vector-stop (c .before .before .finite .ensures) (c .enum-told2 .given .1)))
-
-omega-requires : tie.Need-omega-requires
-omega-requires c κs = search needs
-
-enum-known-angular : tie.Need-enum-known-angular
-enum-known-angular c = search needs
-
 enum-told-3 : tie.Need-enum-told-3
 enum-told-3 c = search needs
 
 returns-3 : tie.Need-returns-3
 returns-3 c =
-    let c₆ = c .before .before .before .before .before .before in
+    let at-finite = c .before .before in
+    let at-div = at-finite .before in
+    let at-origin2 = at-div .before .before in
+    let at-origin = at-origin2 .before .before in
     state-answered _
-    (state-3 _ _
-    (vector-go (c₆ .before .before .before .before .before .origin .ensures) (c₆ .before .before .before .origin2 .given .1)) (c₆ .before .div .ensures)
-    (vector-go (c .before .before .before .before .before .before .finite .ensures) (c .before .before .before .before .linear .given .1))
-    (vector-stop (c .before .before .omega .ensures) (c .enum-told3 .given .1)))
+    (state-linear-lost _ _ (vector-go (at-origin .origin .ensures) (at-origin2 .origin2 .given .1)) (at-div .div .ensures)
+    (vector-stop (at-finite .finite .ensures) (c .enum-told3 .given .1)))
+
+in-frame-requires : tie.Need-in-frame-requires
+in-frame-requires c κs = search needs
+
+enum-known-angular : tie.Need-enum-known-angular
+enum-known-angular c = search needs
+
+enum-told-4 : tie.Need-enum-told-4
+enum-told-4 c = search needs
+
+returns-4 : tie.Need-returns-4
+returns-4 c =
+    let at-in-frame = c .before .before in
+    let at-linear = at-in-frame .before .before in
+    let at-finite = at-linear .before .before in
+    let at-div = at-finite .before in
+    let at-origin2 = at-div .before .before in
+    let at-origin = at-origin2 .before .before in
+    let at-unit = at-origin .before .before in
+    let at-try-normalize = at-unit .before .before in
+    state-answered _
+    (state-angular-lost _ _ (vector-go (at-origin .origin .ensures) (at-origin2 .origin2 .given .1)) (at-div .div .ensures)
+    (vector-go (at-finite .finite .ensures) (at-linear .linear .given .1))
+    (unit-of (at-try-normalize .try-normalize .ensures) (at-unit .unit .given .1)) (vector-stop (at-in-frame .in-frame .ensures) (c .enum-told4 .given .1)))
 
 same-transform-requires : tie.Need-same-transform-requires
 same-transform-requires c κs = search needs
 
-returns-4 : tie.Need-returns-4
-returns-4 c =
-    let c₆ = c .before .before .before .before .before .before in
-    let c₁₂ = c₆ .before .before .before .before .before .before in
-    state-answered _
-    (state-4 _ _
-    (vector-go (c₁₂ .before .before .before .before .before .origin .ensures) (c₁₂ .before .before .before .origin2 .given .1)) (c₁₂ .before .div .ensures)
-    (vector-go (c₆ .before .before .before .before .before .before .finite .ensures) (c₆ .before .before .before .before .linear .given .1))
-    (vector-go (c₆ .before .before .omega .ensures) (c .before .before .before .before .before .before .angular .given .1))
-    (c .before .same-transform .ensures) (c .if1 .taken))
-
 returns-5 : tie.Need-returns-5
 returns-5 c =
-    let c₆ = c .before .before .before .before .before .before in
-    let c₁₂ = c₆ .before .before .before .before .before .before in
+    let at-angular = c .before .before .before .before .before .before in
+    let at-in-frame = at-angular .before .before in
+    let at-linear = at-in-frame .before .before in
+    let at-finite = at-linear .before .before in
+    let at-div = at-finite .before in
+    let at-origin2 = at-div .before .before in
+    let at-origin = at-origin2 .before .before in
+    let at-unit = at-origin .before .before in
+    let at-try-normalize = at-unit .before .before in
     state-answered _
-    (state-5 _ _
-    (vector-go (c₁₂ .before .before .before .before .before .origin .ensures) (c₁₂ .before .before .before .origin2 .given .1)) (c₁₂ .before .div .ensures)
-    (vector-go (c₆ .before .before .before .before .before .before .finite .ensures) (c₆ .before .before .before .before .linear .given .1))
-    (vector-go (c₆ .before .before .omega .ensures) (c .before .before .before .before .before .before .angular .given .1))
+    (state-found _ _ (vector-go (at-origin .origin .ensures) (at-origin2 .origin2 .given .1)) (at-div .div .ensures)
+    (vector-go (at-finite .finite .ensures) (at-linear .linear .given .1))
+    (unit-of (at-try-normalize .try-normalize .ensures) (at-unit .unit .given .1)) (vector-go (at-in-frame .in-frame .ensures) (at-angular .angular .given .1))
+    (c .before .same-transform .ensures) (c .if1 .taken))
+
+returns-6 : tie.Need-returns-6
+returns-6 c =
+    let at-angular = c .before .before .before .before .before .before in
+    let at-in-frame = at-angular .before .before in
+    let at-linear = at-in-frame .before .before in
+    let at-finite = at-linear .before .before in
+    let at-div = at-finite .before in
+    let at-origin2 = at-div .before .before in
+    let at-origin = at-origin2 .before .before in
+    let at-unit = at-origin .before .before in
+    let at-try-normalize = at-unit .before .before in
+    state-answered _
+    (state-found _ _ (vector-go (at-origin .origin .ensures) (at-origin2 .origin2 .given .1)) (at-div .div .ensures)
+    (vector-go (at-finite .finite .ensures) (at-linear .linear .given .1))
+    (unit-of (at-try-normalize .try-normalize .ensures) (at-unit .unit .given .1)) (vector-go (at-in-frame .in-frame .ensures) (at-angular .angular .given .1))
     (c .before .same-transform .ensures) (c .if1 .left))
 
 pub state-spec : {M : Type 1} → statement M
 state-spec =
     tie.close
     (tie.spec
-    origin-requires
-    enum-known-origin
+    try-normalize-requires
+    enum-known-unit
     enum-told
     returns
+    origin-requires
+    enum-known-origin
+    enum-told-2
+    returns-2
     div-requires
     finite-requires
     enum-known-linear
-    enum-told-2
-    returns-2
-    omega-requires
-    enum-known-angular
     enum-told-3
     returns-3
-    same-transform-requires
+    in-frame-requires
+    enum-known-angular
+    enum-told-4
     returns-4
-    returns-5)
+    same-transform-requires
+    returns-5
+    returns-6)

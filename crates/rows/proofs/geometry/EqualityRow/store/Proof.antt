@@ -1,4 +1,4 @@
--- `geometry::EqualityRow::store` meets its contract.
+-- `geometry::EqualityRow::store` meets its contract: five writes side by side, by `stored-row`.
 use Rattle.rows.proofs.PlaceLaws.{stored-row}
 use borrow.Author.Needs.{needs}
 use Rattle.rows.proofs.geometry.EqualityRow.store.Statement.{statement}
@@ -36,14 +36,15 @@ same-length c = search needs
 
 returns : tie.Need-returns
 returns c =
-    let c₆ = c .before .before .before .before .before .before in
-    let c₁₂ = c₆ .before .before .before .before .before .before in
-    let c₁₈ = c₁₂ .before .before .before .before .before .before in
+    let at-five = c .before .before in
+    let at-four = at-five .before .before .before .before in
+    let at-three = at-four .before .before .before .before in
+    let at-two = at-three .before .before .before .before in
+    let at-one = at-two .before .before .before .before in
+    let at-start = at-one .before .before .before in
     stored-row
-    (c₁₈ .before .before .before .args .at) (c₁₈ .before .before .before .args .self)
-    (c₁₂ .before .before .before .before .before .before .store3 .ensures) (c₁₂ .before .before .store32 .ensures)
-    (c₆ .before .before .before .before .store33 .ensures) (c .before .before .before .before .before .before .store34 .ensures)
-    (c .before .before .store2 .ensures)
+    (at-start .args .at) (at-start .args .self) (at-one .store3 .ensures) (at-two .store32 .ensures) (at-three .store33 .ensures)
+    (at-four .store34 .ensures) (at-five .store2 .ensures)
 
 pub store-spec : {M : Type 1} → statement M
 store-spec =

@@ -23,7 +23,10 @@ unsolved-requires-2 : tie.Need-unsolved-requires-2
 unsolved-requires-2 c κs = search needs
 
 returns-2 : tie.Need-returns-2
-returns-2 c = solve-large _ _ (c .before .before .before .before .before .is-finite .ensures) (c .before .before .before .before .if1 .left) (c .before .before .before .div .ensures) (c .before .before .is-finite2 .ensures) (c .before .if2 .taken) (c .unsolved2 .ensures)
+returns-2 c =
+    let at-div = c .before .before .before in
+    solve-large _ _ (at-div .before .before .is-finite .ensures) (at-div .before .if1 .left) (at-div .div .ensures)
+    (c .before .before .is-finite2 .ensures) (c .before .if2 .taken) (c .unsolved2 .ensures)
 
 to-rows-requires : tie.Need-to-rows-requires
 to-rows-requires c κs = search needs
@@ -38,13 +41,26 @@ is-finite-requires-3 : tie.Need-is-finite-requires-3
 is-finite-requires-3 c κs = search needs
 
 returns-3 : tie.Need-returns-3
-returns-3 c = solve-done _ _ (c .before .before .before .before .before .before .before .before .before .before .before .is-finite .ensures) (c .before .before .before .before .before .before .before .before .before .before .if1 .left) (c .before .before .before .before .before .before .before .before .before .div .ensures) (c .before .before .before .before .before .before .before .before .is-finite2 .ensures) (c .before .before .before .before .before .before .before .if2 .left) (c .before .before .before .before .before .before .to-rows .ensures) (c .before .before .before .forward .ensures) (c .before .before .backward .ensures) (c .before .is-finite3 .ensures) (c .if3 .taken)
+returns-3 c =
+    let at-forward = c .before .before .before in
+    let at-to-rows = at-forward .before .before .before in
+    let at-div = at-to-rows .before .before .before in
+    solve-done _ _ (at-div .before .before .is-finite .ensures) (at-div .before .if1 .left) (at-div .div .ensures)
+    (at-to-rows .before .before .is-finite2 .ensures) (at-to-rows .before .if2 .left) (at-to-rows .to-rows .ensures)
+    (at-forward .forward .ensures) (c .before .before .backward .ensures) (c .before .is-finite3 .ensures) (c .if3 .taken)
 
 unsolved-requires-3 : tie.Need-unsolved-requires-3
 unsolved-requires-3 c κs = search needs
 
 returns-4 : tie.Need-returns-4
-returns-4 c = solve-far _ _ (c .before .before .before .before .before .before .before .before .before .before .before .before .is-finite .ensures) (c .before .before .before .before .before .before .before .before .before .before .before .if1 .left) (c .before .before .before .before .before .before .before .before .before .before .div .ensures) (c .before .before .before .before .before .before .before .before .before .is-finite2 .ensures) (c .before .before .before .before .before .before .before .before .if2 .left) (c .before .before .before .before .before .before .before .to-rows .ensures) (c .before .before .before .before .forward .ensures) (c .before .before .before .backward .ensures) (c .before .before .is-finite3 .ensures) (c .before .if3 .left) (c .unsolved3 .ensures)
+returns-4 c =
+    let at-backward = c .before .before .before in
+    let at-to-rows = at-backward .before .before .before .before in
+    let at-div = at-to-rows .before .before .before in
+    solve-far _ _ (at-div .before .before .is-finite .ensures) (at-div .before .if1 .left) (at-div .div .ensures)
+    (at-to-rows .before .before .is-finite2 .ensures) (at-to-rows .before .if2 .left) (at-to-rows .to-rows .ensures)
+    (at-backward .before .forward .ensures) (at-backward .backward .ensures) (c .before .before .is-finite3 .ensures)
+    (c .before .if3 .left) (c .unsolved3 .ensures)
 
 pub solve-spec : {M : Type 1} → statement M
 solve-spec =

@@ -61,7 +61,11 @@ index-2-t62 : tie.Need-index-2-t62
 index-2-t62 c = search needs
 
 returns : tie.Need-returns
-returns c = simp (c .before .before .before .before .before .before .before .before .before .before .before .before .before .before .before .before .before .before .to-columns .ensures)
+returns c =
+    let at-z = c .before .before .before .before .before .before in
+    let at-y = at-z .before .before .before .before .before .before in
+    let at-x = at-y .before .before .before .before .before .before in
+    simp (at-x .to-columns .ensures)
 
 pub apply-spec : {M : Type 1} → statement M
 apply-spec =

@@ -22,7 +22,10 @@ unfactored-requires-2 : tie.Need-unfactored-requires-2
 unfactored-requires-2 c κs = search needs
 
 returns-2 : tie.Need-returns-2
-returns-2 c = factor-zero _ (c .before .before .before .before .is-finite .ensures) (c .before .before .before .if1 .left) (c .before .before .largest .ensures) zero-is (c .before .if2 .taken) (c .unfactored2 .ensures)
+returns-2 c =
+    let at-if1 = c .before .before .before in
+    factor-zero _ (at-if1 .before .is-finite .ensures) (at-if1 .if1 .left)
+    (c .before .before .largest .ensures) zero-is (c .before .if2 .taken) (c .unfactored2 .ensures)
 
 to-rows-requires : tie.Need-to-rows-requires
 to-rows-requires c κs = search needs
@@ -37,7 +40,12 @@ unfactored-requires-3 : tie.Need-unfactored-requires-3
 unfactored-requires-3 c κs = search needs
 
 returns-3 : tie.Need-returns-3
-returns-3 c = factor-uneven _ (c .before .before .before .before .before .before .before .before .before .is-finite .ensures) (c .before .before .before .before .before .before .before .before .if1 .left) (c .before .before .before .before .before .before .before .largest .ensures) zero-is (c .before .before .before .before .before .before .if2 .left) (c .before .before .before .before .before .to-rows .ensures) (c .before .before .before .before .divided .ensures) (c .before .before .symmetric .ensures) (c .before .if3 .taken) (c .unfactored3 .ensures)
+returns-3 c =
+    let at-divided = c .before .before .before .before in
+    let at-largest = at-divided .before .before .before in
+    factor-uneven _ (at-largest .before .before .is-finite .ensures) (at-largest .before .if1 .left)
+    (at-largest .largest .ensures) zero-is (at-divided .before .before .if2 .left) (at-divided .before .to-rows .ensures)
+    (at-divided .divided .ensures) (c .before .before .symmetric .ensures) (c .before .if3 .taken) (c .unfactored3 .ensures)
 
 factor-requires : tie.Need-factor-requires
 factor-requires c κs = search needs
@@ -47,14 +55,28 @@ from-rows-requires c κs = search needs
 
 returns-4 : tie.Need-returns-4
 unfolding ofBits round
-returns-4 c = factor-done _ (c .before .before .before .before .before .before .before .before .before .before .before .before .before .is-finite .ensures) (c .before .before .before .before .before .before .before .before .before .before .before .before .if1 .left) (c .before .before .before .before .before .before .before .before .before .before .before .largest .ensures) zero-is (c .before .before .before .before .before .before .before .before .before .before .if2 .left) (c .before .before .before .before .before .before .before .before .before .to-rows .ensures) (c .before .before .before .before .before .before .before .before .divided .ensures) (c .before .before .before .before .before .before .symmetric .ensures) (c .before .before .before .before .before .if3 .left) (c .before .before .factor .result) _ (c .before .before .factor .ensures) (c .before .if4 .taken) (c .from-rows .ensures)
+returns-4 c =
+    let at-if3 = c .before .before .before .before .before in
+    let at-divided = at-if3 .before .before .before in
+    let at-largest = at-divided .before .before .before in
+    factor-done _ (at-largest .before .before .is-finite .ensures) (at-largest .before .if1 .left)
+    (at-largest .largest .ensures) zero-is (at-divided .before .before .if2 .left) (at-divided .before .to-rows .ensures)
+    (at-divided .divided .ensures) (at-if3 .before .symmetric .ensures) (at-if3 .if3 .left) (c .before .before .factor .result) _
+    (c .before .before .factor .ensures) (c .before .if4 .taken) (c .from-rows .ensures)
 
 unfactored-requires-4 : tie.Need-unfactored-requires-4
 unfactored-requires-4 c κs = search needs
 
 returns-5 : tie.Need-returns-5
 unfolding ofBits round
-returns-5 c = factor-not _ (c .before .before .before .before .before .before .before .before .before .before .before .before .before .is-finite .ensures) (c .before .before .before .before .before .before .before .before .before .before .before .before .if1 .left) (c .before .before .before .before .before .before .before .before .before .before .before .largest .ensures) zero-is (c .before .before .before .before .before .before .before .before .before .before .if2 .left) (c .before .before .before .before .before .before .before .before .before .to-rows .ensures) (c .before .before .before .before .before .before .before .before .divided .ensures) (c .before .before .before .before .before .before .symmetric .ensures) (c .before .before .before .before .before .if3 .left) (c .before .before .factor .result) _ (c .before .before .factor .ensures) (c .before .if4 .left) (c .unfactored4 .ensures)
+returns-5 c =
+    let at-if3 = c .before .before .before .before .before in
+    let at-divided = at-if3 .before .before .before in
+    let at-largest = at-divided .before .before .before in
+    factor-not _ (at-largest .before .before .is-finite .ensures) (at-largest .before .if1 .left)
+    (at-largest .largest .ensures) zero-is (at-divided .before .before .if2 .left) (at-divided .before .to-rows .ensures)
+    (at-divided .divided .ensures) (at-if3 .before .symmetric .ensures) (at-if3 .if3 .left) (c .before .before .factor .result) _
+    (c .before .before .factor .ensures) (c .before .if4 .left) (c .unfactored4 .ensures)
 
 pub factor-spd-spec : {M : Type 1} → statement M
 factor-spd-spec =

@@ -24,7 +24,16 @@ larger-requires-3 c κs = search needs
 
 returns : tie.Need-returns
 unfolding ofBits round
-returns c = simp (c .larger3 .ensures, c .before .column3 .ensures, c .before .before .larger2 .ensures, c .before .before .before .column2 .ensures, c .before .before .before .before .larger .ensures, c .before .before .before .before .before .column .ensures)
+returns c =
+    let at-column2 = c .before .before .before in
+    simp (
+      c .larger3 .ensures,
+      c .before .column3 .ensures,
+      c .before .before .larger2 .ensures,
+      at-column2 .column2 .ensures,
+      at-column2 .before .larger .ensures,
+      at-column2 .before .before .column .ensures,
+    )
 
 pub largest-spec : {M : Type 1} → statement M
 largest-spec =

@@ -27,7 +27,18 @@ from-cols-requires c κs = search needs
 
 returns : tie.Need-returns
 unfolding matProductOf
-returns c = simp (c .from-cols .ensures, c .before .apply3 .ensures, c .before .before .column3 .ensures, c .before .before .before .apply2 .ensures, c .before .before .before .before .column2 .ensures, c .before .before .before .before .before .apply .ensures, c .before .before .before .before .before .before .column .ensures)
+returns c =
+    let at-apply2 = c .before .before .before in
+    let at-column = at-apply2 .before .before .before in
+    simp (
+      c .from-cols .ensures,
+      c .before .apply3 .ensures,
+      c .before .before .column3 .ensures,
+      at-apply2 .apply2 .ensures,
+      at-apply2 .before .column2 .ensures,
+      at-apply2 .before .before .apply .ensures,
+      at-column .column .ensures,
+    )
 
 pub product-spec : {M : Type 1} → statement M
 product-spec =

@@ -25,7 +25,18 @@ max-requires-3 : tie.Need-max-requires-3
 max-requires-3 c κs = search needs
 
 returns : tie.Need-returns
-returns c = simp (c .max3 .ensures, c .before .abs4 .ensures, c .before .before .max2 .ensures, c .before .before .before .abs3 .ensures, c .before .before .before .before .max .ensures, c .before .before .before .before .before .abs2 .ensures, c .before .before .before .before .before .before .abs .ensures)
+returns c =
+    let at-abs3 = c .before .before .before in
+    let at-abs = at-abs3 .before .before .before in
+    simp (
+      c .max3 .ensures,
+      c .before .abs4 .ensures,
+      c .before .before .max2 .ensures,
+      at-abs3 .abs3 .ensures,
+      at-abs3 .before .max .ensures,
+      at-abs3 .before .before .abs2 .ensures,
+      at-abs .abs .ensures,
+    )
 
 pub largest-spec : {M : Type 1} → statement M
 largest-spec =

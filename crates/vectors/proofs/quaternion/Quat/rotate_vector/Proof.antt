@@ -1,5 +1,5 @@
 -- `vectors::quaternion::Quat::rotate_vector` meets its contract: one law of `Ways` for each return.
-use Rattle.vectors.proofs.Ways.{rotate-wild, rotate-none, rotate-some, rotate-out}
+use Rattle.vectors.proofs.Ways.{rotate-wild, rotate-none, rotate-by}
 use borrow.Author.Needs.{needs}
 use Rattle.vectors.proofs.quaternion.Quat.rotate_vector.Statement.{statement}
 use Rattle.vectors.proofs.quaternion.Quat.rotate_vector.Tie as tie
@@ -16,23 +16,23 @@ try-normalize-requires c κs = search needs
 enum-known-rotation : tie.Need-enum-known-rotation
 enum-known-rotation c = search needs
 
+rotated-requires : tie.Need-rotated-requires
+rotated-requires c κs = search needs
+
 enum-told : tie.Need-enum-told
 enum-told c = search needs
 
 returns-2 : tie.Need-returns-2
-returns-2 c = rotate-none _ _ (c .before .before .before .before .is-finite .ensures) (c .before .before .before .if1 .left) (c .before .before .try-normalize .ensures) (c .enum-told .given .1)
-
-turned-requires : tie.Need-turned-requires
-turned-requires c κs = search needs
-
-is-finite-requires-2 : tie.Need-is-finite-requires-2
-is-finite-requires-2 c κs = search needs
+returns-2 c =
+    let at-try-normalize = c .before .before .before .before in
+    rotate-by _ _ (at-try-normalize .before .before .is-finite .ensures) (at-try-normalize .before .if1 .left)
+    (at-try-normalize .try-normalize .ensures) (c .before .before .rotation .given .1) (c .rotated .ensures)
 
 returns-3 : tie.Need-returns-3
-returns-3 c = rotate-some _ _ (c .before .before .before .before .before .before .before .before .is-finite .ensures) (c .before .before .before .before .before .before .before .if1 .left) (c .before .before .before .before .before .before .try-normalize .ensures) (c .before .before .before .before .rotation .given .1) (c .before .before .turned .ensures) (c .before .is-finite2 .ensures) (c .if2 .taken)
-
-returns-4 : tie.Need-returns-4
-returns-4 c = rotate-out _ _ (c .before .before .before .before .before .before .before .before .is-finite .ensures) (c .before .before .before .before .before .before .before .if1 .left) (c .before .before .before .before .before .before .try-normalize .ensures) (c .before .before .before .before .rotation .given .1) (c .before .before .turned .ensures) (c .before .is-finite2 .ensures) (c .if2 .left)
+returns-3 c =
+    let at-if1 = c .before .before .before in
+    rotate-none _ _ (at-if1 .before .is-finite .ensures) (at-if1 .if1 .left)
+    (c .before .before .try-normalize .ensures) (c .enum-told .given .1)
 
 pub rotate-vector-spec : {M : Type 1} → statement M
 rotate-vector-spec =
@@ -42,9 +42,7 @@ rotate-vector-spec =
     returns
     try-normalize-requires
     enum-known-rotation
+    rotated-requires
     enum-told
     returns-2
-    turned-requires
-    is-finite-requires-2
-    returns-3
-    returns-4)
+    returns-3)

@@ -27,7 +27,18 @@ add-requires-2 c κs = search needs
 
 returns : tie.Need-returns
 unfolding ofBits round
-returns c = simp (c .add2 .ensures, c .before .scale2 .ensures, c .before .before .cross2 .ensures, c .before .before .before .add .ensures, c .before .before .before .before .scale .ensures, c .before .before .before .before .before .before .cross .ensures, c .before .before .before .before .before .before .before .new .ensures)
+returns c =
+    let at-add = c .before .before .before in
+    let at-cross = at-add .before .before .before in
+    simp (
+      c .add2 .ensures,
+      c .before .scale2 .ensures,
+      c .before .before .cross2 .ensures,
+      at-add .add .ensures,
+      at-add .before .scale .ensures,
+      at-cross .cross .ensures,
+      at-cross .before .new .ensures,
+    )
 
 pub turned-spec : {M : Type 1} → statement M
 turned-spec =

@@ -1,34 +1,10 @@
--- `vectors::vector::Vec3::is_finite` meets its contract, by what its callees ensure.
-use mathlib.Core.Path.{sym, _∙_}
-use borrow.Author.Needs.{needs}
+-- `vectors::vector::Vec3::is_finite` meets its contract: the sum's law of `Ways`.
+use Rattle.vectors.proofs.Ways.{finite-sum}
 use Rattle.vectors.proofs.vector.Vec3.is_finite.Statement.{statement}
 use Rattle.vectors.proofs.vector.Vec3.is_finite.Tie as tie
 
-is-finite-requires : tie.Need-is-finite-requires
-is-finite-requires c κs = search needs
-
-is-finite-requires-2 : tie.Need-is-finite-requires-2
-is-finite-requires-2 c κs = search needs
-
-is-finite-requires-3 : tie.Need-is-finite-requires-3
-is-finite-requires-3 c κs = search needs
-
 returns : tie.Need-returns
-returns c = simp (c .is-finite3 .ensures, sym (c .before .before .is-finite2 .ensures) ∙ c .before .if2 .taken, sym (c .before .before .before .before .is-finite .ensures) ∙ c .before .before .before .if1 .taken)
-
-returns-2 : tie.Need-returns-2
-returns-2 c = simp (sym (c .before .is-finite2 .ensures) ∙ c .if2 .left, sym (c .before .before .before .is-finite .ensures) ∙ c .before .before .if1 .taken)
-
-returns-3 : tie.Need-returns-3
-returns-3 c = simp (sym (c .before .is-finite .ensures) ∙ c .if1 .left)
+returns c = finite-sum _ _ _
 
 pub is-finite-spec : {M : Type 1} → statement M
-is-finite-spec =
-    tie.close
-    (tie.spec
-    is-finite-requires
-    is-finite-requires-2
-    is-finite-requires-3
-    returns
-    returns-2
-    returns-3)
+is-finite-spec = tie.close (tie.spec returns)

@@ -19,7 +19,15 @@ max-requires-2 : tie.Need-max-requires-2
 max-requires-2 c κs = search needs
 
 returns : tie.Need-returns
-returns c = simp (c .max2 .ensures, c .before .abs3 .ensures, c .before .before .max .ensures, c .before .before .before .abs2 .ensures, c .before .before .before .before .abs .ensures)
+returns c =
+    let at-abs2 = c .before .before .before in
+    simp (
+      c .max2 .ensures,
+      c .before .abs3 .ensures,
+      c .before .before .max .ensures,
+      at-abs2 .abs2 .ensures,
+      at-abs2 .before .abs .ensures,
+    )
 
 pub largest-spec : {M : Type 1} → statement M
 largest-spec =

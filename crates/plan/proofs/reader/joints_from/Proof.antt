@@ -1,0 +1,95 @@
+-- `joints_from`: after k turns the table has the first k joints.
+use denote.Ref.{now}
+use native.Mathlib.Omega.{arith}
+use Prim.Native.Nat.{_-_, _≤_}
+use mathlib.Core.Path.{_≡_}
+use lib.ListN.{getD}
+use Rattle.arith.specs.FlowLaws.{turns-none, turns-end}
+use Rattle.plan.specs.Noting.{jointsFrom}
+use Rattle.plan.proofs.Readings.{joint-within, joint-there, joints-more}
+use Rattle.plan.proofs.reader.joints_from.Statement.{statement}
+use Rattle.plan.proofs.reader.joints_from.Tie as tie
+
+abbrev Inv-loop : tie.InvT-loop
+Inv-loop file count places joints₀ k₀ joints k = (k ≤ count) × (joints ≡ jointsFrom file places k joints₀)
+
+abbrev μ-loop : tie.MeasureT-loop
+μ-loop file count places joints₀ k₀ joints k = count - k
+
+loop-holds : tie.Need-loop-holds Inv-loop μ-loop
+loop-holds c = (omega arith, turns-none _ _)
+
+mul-at : tie.Need-mul-at Inv-loop μ-loop
+mul-at c = omega arith
+
+array-read-at : tie.Need-array-read-at Inv-loop μ-loop
+array-read-at c = omega arith
+
+sub-joint-at : tie.Need-sub-joint-at Inv-loop μ-loop
+sub-joint-at c =
+    let at-loop = c .before in
+    let start = at-loop .before .before in
+    joint-within (now (start .args .file)) _ (start .pre .1 (at-loop .loop .k) (c .loop-test .taken))
+
+part-joint-at-start : tie.Need-part-joint-at-start Inv-loop μ-loop
+part-joint-at-start c =
+    let at-loop = c .before in
+    let start = at-loop .before .before in
+    let k = at-loop .loop .k in
+    omega (arith, joint-within (now (start .args .file)) (getD (start .args .t3) k 0) (start .pre .1 k (c .loop-test .taken)))
+
+part-joint-at-end : tie.Need-part-joint-at-end Inv-loop μ-loop
+part-joint-at-end c = omega arith
+
+joint-at-requires : tie.Need-joint-at-requires Inv-loop μ-loop
+joint-at-requires c κs =
+    let at-test = c .before in
+    let at-loop = at-test .before in
+    let start = at-loop .before .before in
+    let k = at-loop .loop .k in
+    joint-there (now (start .args .file)) (getD (start .args .t3) k 0) (start .pre .1 k (at-test .loop-test .taken))
+
+mul-joints : tie.Need-mul-joints Inv-loop μ-loop
+mul-joints c = omega arith
+
+array-set-from-joints : tie.Need-array-set-from-joints Inv-loop μ-loop
+array-set-from-joints c = omega arith
+
+add-k : tie.Need-add-k Inv-loop μ-loop
+add-k c = omega arith
+
+loop-less : tie.Need-loop-less Inv-loop μ-loop
+loop-less c = omega arith
+
+loop-again : tie.Need-loop-again Inv-loop μ-loop
+loop-again c =
+    let at-test = c .before .before in
+    let at-loop = at-test .before in
+    let start = at-loop .before .before in
+    let inv = at-loop .loop .inv in
+    (omega arith, joints-more (now (start .args .file)) (start .args .t3) (at-loop .loop .k) (start .args .table) (inv .1) (c .joint-at .ensures))
+
+returns : tie.Need-returns Inv-loop μ-loop
+returns c =
+    let inv = c .before .loop .inv in
+    turns-end _ _ (inv .0) (c .loop-test .left) (inv .1)
+
+pub joints-from-spec : {M : Type 1} → statement M
+joints-from-spec =
+    tie.close
+    (tie.spec
+    Inv-loop
+    μ-loop
+    loop-holds
+    mul-at
+    array-read-at
+    sub-joint-at
+    part-joint-at-start
+    part-joint-at-end
+    joint-at-requires
+    mul-joints
+    array-set-from-joints
+    add-k
+    loop-less
+    loop-again
+    returns)

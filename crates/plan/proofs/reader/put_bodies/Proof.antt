@@ -1,0 +1,100 @@
+-- `put_bodies`: after k turns the table has the first k bodies.
+use denote.Ref.{now}
+use native.Mathlib.Omega.{arith}
+use Prim.Native.Nat.{_-_, _≤_}
+use mathlib.Core.Path.{_≡_, _∙_}
+use lib.ListN.{length, getD}
+use Rattle.arith.specs.FlowLaws.{turns-none, turns-end}
+use Rattle.plan.specs.Noting.{bodiesFrom}
+use Rattle.plan.proofs.Readings.{body-within, body-there, bodies-more}
+use Rattle.plan.proofs.reader.put_bodies.Statement.{statement}
+use Rattle.plan.proofs.reader.put_bodies.Tie as tie
+
+abbrev Inv-loop : tie.InvT-loop
+Inv-loop table₀ file count places k₀ table k = (k ≤ count) × (length table ≡ 416) × (table ≡ bodiesFrom file places k table₀)
+
+abbrev μ-loop : tie.MeasureT-loop
+μ-loop table₀ file count places k₀ table k = count - k
+
+loop-holds : tie.Need-loop-holds Inv-loop μ-loop
+loop-holds c = (omega arith, c .before .before .pre .0 .1, turns-none _ _)
+
+mul-at : tie.Need-mul-at Inv-loop μ-loop
+mul-at c = omega arith
+
+array-read-at : tie.Need-array-read-at Inv-loop μ-loop
+array-read-at c = omega arith
+
+mul-put-body : tie.Need-mul-put-body Inv-loop μ-loop
+mul-put-body c = omega arith
+
+sub-put-body : tie.Need-sub-put-body Inv-loop μ-loop
+sub-put-body c =
+    let at-loop = c .before .before in
+    let start = at-loop .before .before .before in
+    body-within _ _ (start .pre .1 (at-loop .loop .k) (c .before .loop-test .taken))
+
+part-put-body-start : tie.Need-part-put-body-start Inv-loop μ-loop
+part-put-body-start c =
+    let at-loop = c .before .before in
+    let start = at-loop .before .before .before in
+    let k = at-loop .loop .k in
+    omega (arith, body-within (now (start .args .file)) (getD (start .args .t3) k 0) (start .pre .1 k (c .before .loop-test .taken)))
+
+part-put-body-end : tie.Need-part-put-body-end Inv-loop μ-loop
+part-put-body-end c = omega arith
+
+put-body-requires : tie.Need-put-body-requires Inv-loop μ-loop
+put-body-requires c κs =
+    let at-test = c .before .before in
+    let at-loop = at-test .before in
+    let start = at-loop .before .before .before in
+    let k = at-loop .loop .k in
+    let there = body-there (now (start .args .file)) (getD (start .args .t3) k 0) (start .pre .1 k (at-test .loop-test .taken)) in
+    (there, omega (arith, at-loop .loop .inv .1))
+
+add-k : tie.Need-add-k Inv-loop μ-loop
+add-k c = omega arith
+
+loop-less : tie.Need-loop-less Inv-loop μ-loop
+loop-less c = omega arith
+
+loop-again : tie.Need-loop-again Inv-loop μ-loop
+loop-again c =
+    let at-put = c .before .before in
+    let at-test = at-put .before .before .before in
+    let at-loop = at-test .before in
+    let start = at-loop .before .before .before in
+    let inv = at-loop .loop .inv in (
+      omega (arith, at-test .loop-test .taken),
+      at-put .put-body .kept .0 ∙ inv .1,
+      bodies-more (now (start .args .file)) (start .args .t3) (at-loop .loop .k) (now (start .args .table)) (inv .2) (at-put .put-body .ensures),
+    )
+
+same-length : tie.Need-same-length Inv-loop μ-loop
+same-length c = omega arith
+
+returns : tie.Need-returns Inv-loop μ-loop
+returns c =
+    let inv = c .before .loop .inv in
+    turns-end _ _ (inv .0) (c .loop-test .left) (inv .2)
+
+pub put-bodies-spec : {M : Type 1} → statement M
+put-bodies-spec =
+    tie.close
+    (tie.spec
+    Inv-loop
+    μ-loop
+    loop-holds
+    mul-at
+    array-read-at
+    mul-put-body
+    sub-put-body
+    part-put-body-start
+    part-put-body-end
+    put-body-requires
+    add-k
+    loop-less
+    loop-again
+    same-length
+    returns)

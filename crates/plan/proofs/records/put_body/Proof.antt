@@ -1,0 +1,85 @@
+-- `put_body`: after i turns the table has i of the body's doubles.
+use denote.Ref.{now}
+use native.Mathlib.Omega.{arith}
+use Rattle.plan.proofs.RecordLaws.{put-none, put-more, put-end}
+use Prim.Native.Nat.{_-_, _≤_}
+use mathlib.Core.Path.{_≡_, refl}
+use lib.ListN.{length, length-set}
+use lib.Seq.{paste}
+use Rattle.plan.specs.File.{bodyOf}
+use Rattle.plan.proofs.records.put_body.Statement.{statement}
+use Rattle.plan.proofs.records.put_body.Tie as tie
+
+abbrev Inv-loop : tie.InvT-loop
+Inv-loop bodies₀ at file i₀ bodies i = (i ≤ 26) × (length bodies ≡ length bodies₀) × (bodies ≡ paste bodies₀ at (bodyOf file) i)
+
+abbrev μ-loop : tie.MeasureT-loop
+μ-loop bodies₀ at file i₀ bodies i = 26 - i
+
+loop-holds : tie.Need-loop-holds Inv-loop μ-loop
+loop-holds c = (omega arith, refl, put-none (now (c .before .before .args .bodies)) (c .before .before .args .at) (now (c .before .before .args .file)))
+
+mul-double-at : tie.Need-mul-double-at Inv-loop μ-loop
+mul-double-at c = omega arith
+
+add-double-at : tie.Need-add-double-at Inv-loop μ-loop
+add-double-at c = omega arith
+
+double-at-requires : tie.Need-double-at-requires Inv-loop μ-loop
+double-at-requires c κs = omega arith
+
+add-bodies : tie.Need-add-bodies Inv-loop μ-loop
+add-bodies c = omega arith
+
+mul-bodies : tie.Need-mul-bodies Inv-loop μ-loop
+mul-bodies c = omega arith
+
+slice-write-bodies : tie.Need-slice-write-bodies Inv-loop μ-loop
+slice-write-bodies c = omega arith
+
+add-i : tie.Need-add-i Inv-loop μ-loop
+add-i c = omega arith
+
+loop-less : tie.Need-loop-less Inv-loop μ-loop
+loop-less c = omega arith
+
+loop-again : tie.Need-loop-again Inv-loop μ-loop
+loop-again c =
+    let at-loop-test = c .before in
+    let at-loop = at-loop-test .before in
+    let start = at-loop .before .before .before in
+    let inv = at-loop .loop .inv in (
+      omega arith,
+      simp length-set (inv .1),
+      put-more (now (start .args .bodies)) (start .args .at) (now (start .args .file)) (at-loop .loop .i) (omega arith)
+          (at-loop-test .loop-test .taken) (inv .2) (c .double-at .ensures),
+    )
+
+same-length : tie.Need-same-length Inv-loop μ-loop
+same-length c = omega arith
+
+returns : tie.Need-returns Inv-loop μ-loop
+returns c =
+    let at-loop = c .before in
+    let start = at-loop .before .before .before in
+    put-end (now (start .args .bodies)) (start .args .at) (now (start .args .file)) (at-loop .loop .i) (at-loop .loop .inv .0) (c .loop-test .left)
+    (at-loop .loop .inv .2)
+
+pub put-body-spec : {M : Type 1} → statement M
+put-body-spec =
+    tie.close
+    (tie.spec
+    Inv-loop
+    μ-loop
+    loop-holds
+    mul-double-at
+    add-double-at
+    double-at-requires
+    add-bodies
+    mul-bodies
+    slice-write-bodies
+    add-i
+    loop-less
+    loop-again
+    same-length
+    returns)

@@ -1,0 +1,92 @@
+-- `pose`: no room, a plan that was read, or a refusal. A plan that was read counts at most sixteen bodies.
+use denote.Ref.{now}
+use mathlib.Core.Path.{refl, _∙_, ap}
+use Rattle.plan.specs.File.{readOf}
+use Rattle.plan.specs.FileLaws.{read-few}
+use Rattle.report.proofs.Poses.{poses-none, poses-read, poses-refused}
+use borrow.Author.Needs.{needs}
+use Rattle.report.proofs.pose.Statement.{statement}
+use Rattle.report.proofs.pose.Tie as tie
+
+returns : tie.Need-returns
+returns c =
+    let start = c .before .before .before .before in
+    poses-none (now (start .args .file)) (now (start .args .scratch)) (now (start .args .out)) (c .if1 .taken)
+
+empty-requires : tie.Need-empty-requires
+empty-requires c κs = search needs
+
+read-requires : tie.Need-read-requires
+read-requires c κs = search needs
+
+number-requires : tie.Need-number-requires
+number-requires c κs = search needs
+
+step-and-report-requires : tie.Need-step-and-report-requires
+step-and-report-requires c κs =
+    let at-if2 = c .before .before in
+    let at-number = at-if2 .before in
+    let at-read = at-number .before in
+    let at-empty = at-read .before in
+    let at-if1 = at-empty .before in
+    let start = at-if1 .before .before .before .before in
+    let reading = at-read .read .ensures ∙ ap (readOf (now (start .args .file))) (at-empty .empty .ensures) in
+    (read-few _ reading (at-number .number .ensures) (at-if2 .if2 .taken) .0, at-if1 .if1 .left)
+
+same-length : tie.Need-same-length
+same-length c = search needs
+
+same-length-2 : tie.Need-same-length-2
+same-length-2 c = search needs
+
+returns-2 : tie.Need-returns-2
+returns-2 c =
+    let at-step = c .before .before .before .before in
+    let at-if2 = at-step .before .before .before in
+    let at-number = at-if2 .before in
+    let at-read = at-number .before in
+    let at-empty = at-read .before in
+    let at-if1 = at-empty .before in
+    let start = at-if1 .before .before .before .before in
+    poses-read (now (start .args .file)) (now (start .args .scratch)) (now (start .args .out)) (at-if1 .if1 .left)
+    (at-read .read .ensures ∙ ap (readOf (now (start .args .file))) (at-empty .empty .ensures)) (at-number .number .ensures) (at-if2 .if2 .taken)
+    (at-step .step-and-report .ensures .0) (at-step .step-and-report .ensures .1)
+
+slice-aggregate-report : tie.Need-slice-aggregate-report
+slice-aggregate-report c = search needs
+
+report-requires : tie.Need-report-requires
+report-requires c κs = search needs
+
+same-length-3 : tie.Need-same-length-3
+same-length-3 c = search needs
+
+returns-3 : tie.Need-returns-3
+returns-3 c =
+    let at-report = c .before .before in
+    let at-if2 = at-report .before .before .before in
+    let at-number = at-if2 .before in
+    let at-read = at-number .before in
+    let at-empty = at-read .before in
+    let at-if1 = at-empty .before in
+    let start = at-if1 .before .before .before .before in
+    poses-refused (now (start .args .file)) (now (start .args .scratch)) (now (start .args .out)) (at-if1 .if1 .left)
+    (at-read .read .ensures ∙ ap (readOf (now (start .args .file))) (at-empty .empty .ensures)) (at-number .number .ensures) (at-if2 .if2 .left)
+    (at-report .report .ensures) refl
+
+pub pose-spec : {M : Type 1} → statement M
+pose-spec =
+    tie.close
+    (tie.spec
+    returns
+    empty-requires
+    read-requires
+    number-requires
+    step-and-report-requires
+    same-length
+    same-length-2
+    returns-2
+    slice-aggregate-report
+    report-requires
+    same-length-3
+    returns-3)

@@ -1,0 +1,53 @@
+-- `put_body`: three pieces one after the other.
+use denote.Ref.{now}
+use native.Mathlib.Omega.{arith}
+use Rattle.report.proofs.Texts.{line-1, line-2, line-puts}
+use borrow.Author.Needs.{needs}
+use Rattle.report.proofs.text.put_body.Statement.{statement}
+use Rattle.report.proofs.text.put_body.Tie as tie
+
+put-decimal-requires : tie.Need-put-decimal-requires
+put-decimal-requires c κs = search needs
+
+mul-put-state : tie.Need-mul-put-state
+mul-put-state c = search needs
+
+put-state-requires : tie.Need-put-state-requires
+put-state-requires c κs =
+    let at-put-decimal = c .before .before .before in
+    let start = at-put-decimal .before .before .before .before in
+    (line-1 (now (start .args .bodies)) (start .args .i) (start .pre .0) (at-put-decimal .put-decimal .ensures), omega arith)
+
+slice-aggregate-put : tie.Need-slice-aggregate-put
+slice-aggregate-put c = search needs
+
+put-requires : tie.Need-put-requires
+put-requires c κs =
+    let at-put-state = c .before .before .before .before in
+    let at-put-decimal = at-put-state .before .before .before .before in
+    let start = at-put-decimal .before .before .before .before in
+    line-2 (now (start .args .bodies)) (start .args .i) (start .pre .0) (at-put-decimal .put-decimal .ensures) (at-put-state .put-state .ensures)
+
+same-length : tie.Need-same-length
+same-length c = search needs
+
+returns : tie.Need-returns
+returns c =
+    let at-put = c .before .before in
+    let at-put-state = at-put .before .before .before .before .before in
+    let at-put-decimal = at-put-state .before .before .before .before in
+    let start = at-put-decimal .before .before .before .before in
+    line-puts (now (start .args .bodies)) (start .args .i) (start .pre .0) (at-put-decimal .put-decimal .ensures) (at-put-state .put-state .ensures)
+    (at-put .put .ensures)
+
+pub put-body-spec : {M : Type 1} → statement M
+put-body-spec =
+    tie.close
+    (tie.spec
+    put-decimal-requires
+    mul-put-state
+    put-state-requires
+    slice-aggregate-put
+    put-requires
+    same-length
+    returns)

@@ -1,0 +1,124 @@
+-- The path's integers in the lent arrays as plain values, and what its functions say of them.
+use Prim.Native.Nat.{ℕ, zero, suc, _+_, _*_, _-_, _≤_, _<_, min}
+use mathlib.Core.Path.{_≡_}
+use mathlib.Core.Bool.{Bool, true, false, cond}
+use mathlib.Core.List.{List, _++_}
+use lib.ListN.{length, getD}
+use Rattle.arith.specs.Flow.{Turn, go, stop}
+use Rattle.solves.specs.declared.path.Order.{Order}
+use Rattle.solves.specs.Path.{none, pathStarts, blockEdges, Seen, run, walk, walkFrom, isEnd, pathWalks}
+use Rattle.solves.specs.Answer.{orderIn}
+use Rattle.solves.specs.View.{listAt, orderOf}
+
+-- the first n rows are on bodies below 16
+abbrev pub Bodies : List ℕ → ℕ → Type 0
+Bodies l n = (k : ℕ) → k < n → getD l k 0 < 16
+
+-- ---- blocks
+-- the first row of each block; after the last block stands the number of rows
+pub record Blocks : Type 0 where
+  pub starts : List ℕ
+  pub count : ℕ
+
+abbrev pub blocksAt : List ℕ → ℕ → Blocks
+blocksAt starts count = record { starts = starts; count = count }
+
+abbrev pub startsOf : Blocks → List ℕ
+startsOf blocks = listAt (blocks .starts) (blocks .count)
+
+abbrev pub rowsOf : Blocks → ℕ
+rowsOf blocks = getD (blocks .starts) (blocks .count) 0
+
+abbrev pub sizeOf : Blocks → ℕ → ℕ
+sizeOf blocks k = getD (blocks .starts) (k + 1) 0 - getD (blocks .starts) k 0
+
+pub record Blocked (ia ib : List ℕ) (blocks : Blocks) : Type 0 where
+  pub most : rowsOf blocks ≤ 96
+  pub few : blocks .count ≤ rowsOf blocks
+  pub inside : (k : ℕ) → k < blocks .count → getD (blocks .starts) k 0 < rowsOf blocks
+  pub ends : (k : ℕ) → k < blocks .count → getD (blocks .starts) (k + 1) 0 ≤ rowsOf blocks
+  pub rising : (k : ℕ) → k < blocks .count → getD (blocks .starts) k 0 ≤ getD (blocks .starts) (k + 1) 0
+  pub a-there : Bodies ia (rowsOf blocks)
+  pub b-there : Bodies ib (rowsOf blocks)
+
+-- `path_blocks` of n rows: the blocks stand in the array, and behind them it is as it was
+pub record Parted (ia ib : List ℕ) (n : ℕ) (before after : List ℕ) (blocks : ℕ) : Type 0 where
+  pub are : Blocked ia ib (blocksAt after blocks)
+  pub rows : rowsOf (blocksAt after blocks) ≡ n
+  pub is : startsOf (blocksAt after blocks) ≡ pathStarts (listAt ia n) (listAt ib n) n
+  pub rest : (k : ℕ) → blocks < k → getD after k 0 ≡ getD before k 0
+
+-- ---- edges
+-- an edge: no block, or one below m
+pub record Linked (m x : ℕ) : Type 0 where
+  pub low : x ≤ none
+  pub block : min (suc x - m) (none - x) ≡ 0
+
+pub record Linking (m : ℕ) (edges : List ℕ) : Type 0 where
+  pub size : length edges ≡ 32
+  pub each : (i : ℕ) → i < 32 → Linked m (getD edges i 0)
+
+-- ---- the order
+abbrev pub orderAt : List ℕ → ℕ → Order
+orderAt rows count = record { rows = rows; count = count }
+
+abbrev pub seenOf : Order → List Bool → Seen
+seenOf order visited = record { order = orderOf order; visited = visited }
+
+-- what an order lists are rows below n; behind them its table is 0
+pub record Listed (order : Order) (n : ℕ) : Type 0 where
+  pub size : length (order .rows) ≡ 96
+  pub rows : (i : ℕ) → i < order .count → getD (order .rows) i 0 < n
+  pub blank : (i : ℕ) → order .count ≤ i → i < 96 → getD (order .rows) i 0 ≡ 0
+
+-- `append` of the rows from..to, when it is at i: they stand behind the order, and behind them the table is as it was
+pub record Appended (order : Order) (from to i : ℕ) (out : Order) : Type 0 where
+  pub size : length (out .rows) ≡ 96
+  pub count : out .count ≡ order .count + (i - from)
+  pub is : orderOf out ≡ orderOf order ++ run from i
+  pub rest : (j : ℕ) → out .count ≤ j → getD (out .rows) j 0 ≡ getD (order .rows) j 0
+  pub listed : (n : ℕ) → to ≤ n → Listed order n → Listed out n
+
+-- how many rows the blocks before k have that were not visited
+unfoldable pub room : Blocks → List Bool → ℕ → ℕ
+room blocks visited zero = 0
+room blocks visited (suc k) = room blocks visited k + cond (getD visited k false) 0 (sizeOf blocks k)
+
+-- an order and what was visited: there is room for the rows of all other blocks
+pub record Free (blocks : Blocks) (order : Order) (visited : List Bool) : Type 0 where
+  pub size : length visited ≡ 96
+  pub left : order .count + room blocks visited (blocks .count) ≤ 96
+  pub listed : Listed order (rowsOf blocks)
+
+-- ---- the definitions on the arrays
+module _ (ia ib : List ℕ) (blocks : Blocks) where
+  abbrev pub edgesOn : ℕ → List ℕ → Turn (List ℕ) (Unit {0})
+  edgesOn = blockEdges (listAt ia (rowsOf blocks)) (listAt ib (rowsOf blocks)) (startsOf blocks)
+
+  module _ (edges : List ℕ) where
+    abbrev pub walkOn : ℕ → Seen → Turn Seen (Unit {0})
+    walkOn = walk (listAt ia (rowsOf blocks)) (listAt ib (rowsOf blocks)) (rowsOf blocks) (startsOf blocks) edges
+
+    abbrev pub endOn : List Bool → ℕ → Bool
+    endOn = isEnd (listAt ia (rowsOf blocks)) (listAt ib (rowsOf blocks)) (rowsOf blocks) (startsOf blocks) edges
+
+    abbrev pub fromOn : ℕ → Seen → Turn Seen (Unit {0})
+    fromOn = walkFrom (listAt ia (rowsOf blocks)) (listAt ib (rowsOf blocks)) (rowsOf blocks) (startsOf blocks) edges
+
+    abbrev pub walksOn : Turn Seen (Unit {0})
+    walksOn = pathWalks (listAt ia (rowsOf blocks)) (listAt ib (rowsOf blocks)) (rowsOf blocks) (startsOf blocks) edges
+
+-- ---- how walks end
+-- what was found: x, or declined
+abbrev pub foundAs : {A : Type 0} → Bool → A → Turn A (Unit {0})
+foundAs found x = cond found (go x) (stop tt)
+
+-- One walk. Where it declines, what stands in the order and in `visited` is free: the whole search has failed then, and `path_order` answers `noPath`.
+pub record Walks (blocks : Blocks) (found : Bool) (order : Order) (visited : List Bool) (defined : Turn Seen (Unit {0})) : Type 0 where
+  pub is : foundAs found (seenOf order visited) ≡ defined
+  pub free : found ≡ true → Free blocks order visited
+
+-- All walks. Where one declines, the order is free for the same reason.
+pub record Orders (blocks : Blocks) (found : Bool) (order : Order) (defined : Turn Seen (Unit {0})) : Type 0 where
+  pub is : foundAs found (orderOf order) ≡ orderIn defined
+  pub listed : found ≡ true → Listed order (rowsOf blocks)
