@@ -82,7 +82,9 @@ fn pushed(body: Generalized, linear: Vec3, angular: Vec3, value: f64) -> General
 
 fn push_into(s: &mut [f64], index: usize, linear: Vec3, angular: Vec3, value: f64, bodies: usize)
     requires { ⌜ (END ≤ length (now s)) × (index < bodies) × (bodies ≤ BODIES-MOST) ⌝ }
-    ensures { λ _. ⌜ Does Shares (came s) (left s) (checked (sharesIn (left s) bodies)) (checkedThen (pushInto index linear angular value) (sharesIn (came s) bodies)) ⌝ }
+    ensures { λ _. ⌜
+        Does Shares (came s) (left s) (checked (sharesIn (left s) bodies))
+        (checkedThen (pushInto index linear angular value) (sharesIn (came s) bodies)) ⌝ }
 {
     let body = load_generalized(s, GENERALIZED, index);
     let share = pushed(body, linear, angular, value);

@@ -143,7 +143,8 @@ shares-finite-requires c κs =
 same-length : tie.Need-same-length Inv-loop μ-loop
 same-length c =
     let at-loop = c .before .before .before .before in
-    omega (arith, at-loop .before .before .before .clear .ensures .kept .size, at-loop .loop .inv .1)
+    let at-clear = at-loop .before .before .before in
+    omega (arith, at-clear .clear .ensures .kept .size, at-loop .loop .inv .1)
 
 returns : tie.Need-returns Inv-loop μ-loop
 returns c =
@@ -158,7 +159,8 @@ returns c =
 same-length-2 : tie.Need-same-length-2 Inv-loop μ-loop
 same-length-2 c =
     let at-loop = c .before .before .before .before in
-    omega (arith, at-loop .before .before .before .clear .ensures .kept .size, at-loop .loop .inv .1)
+    let at-clear = at-loop .before .before .before in
+    omega (arith, at-clear .clear .ensures .kept .size, at-loop .loop .inv .1)
 
 returns-2 : tie.Need-returns-2 Inv-loop μ-loop
 returns-2 c =
