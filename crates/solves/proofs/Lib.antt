@@ -1,5 +1,6 @@
 pub mod PlaceLaws
 pub mod VectorLaws
+pub mod CheckedLaws
 pub mod OperatorLaws
 pub mod SearchLaws
 pub mod LeastLaws

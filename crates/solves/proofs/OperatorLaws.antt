@@ -1,7 +1,7 @@
 -- `dot`, `transpose`, `operator` and `cross_mass`: from reads of the scratch to the definitions over lists.
 use Prim.Native.Nat.{ℕ, zero, _+_, _*_, _≤_, _<_}
 use mathlib.Core.Path.{_≡_, refl, sym, _∙_, ap, subst}
-use mathlib.Core.Bool.{Bool, true, false, cond}
+use mathlib.Core.Bool.{Bool, true, false, not, cond, _&&_}
 use mathlib.Core.List.{List}
 use native.Mathlib.Omega.{arith}
 use lib.Dec.{eqb}
@@ -9,11 +9,10 @@ use borrow.Author.Tests.{eq-eqb, ne-eqb}
 use lib.ListN.{length, set, replicate}
 use lib.Ieee.{Float}
 use Rattle.arith.specs.Real.{ratio, isFinite, _⊕_, _⊗_}
-use Rattle.arith.specs.Flow.{go, stop, turns, tab, loop, each}
-use Rattle.arith.specs.FlowLaws.{turns-more, cond-no, then-go, then-stop, loop-none, loop-more, loop-stop, loop-end, each-none, each-more, each-stop}
-use Rattle.arith.specs.FlowLaws.{each-end}
+use Rattle.arith.specs.Flow.{go, stop, _>>=_, turns, tab, loop, each, every}
+use Rattle.arith.specs.FlowLaws.{turns-more, cond-no, not-yes, not-no, loop-none, each-none, each-more, each-stop, each-end}
 use Rattle.vectors.specs.declared.vector.Vec3.{Vec3}
-use Rattle.vectors.specs.Vector.{dotOf}
+use Rattle.vectors.specs.Vector.{dotOf, finiteOf}
 use Rattle.vectors.specs.Matrix.{applyOf}
 use Rattle.rows.specs.declared.geometry.EqualityRow.{EqualityRow}
 use Rattle.rows.specs.Fault.{Fault, arithmeticOverflow, Result}
@@ -24,12 +23,14 @@ use Rattle.solves.specs.declared.places.MassResponse.{MassResponse}
 use Rattle.solves.specs.declared.Table.{Table}
 use Rattle.solves.specs.Region.{vecAt, Filled, Does}
 use Rattle.solves.specs.RegionLaws.{vec-at, vec-in, kept-vec, vec-more}
-use Rattle.solves.specs.Solver.{rowIn, generalizedIn, massIn, noGeneralized, noMass, tryNumber, sumProducts, dot, pushed, pushInto, pushRow}
-use Rattle.solves.specs.Solver.{transpose, scaled, scaleAll, rate, rates, operator, noShare, through, addThrough, crossEnd, crossMass}
+use Rattle.solves.specs.Solver.{rowIn, generalizedIn, massIn, noGeneralized, noMass, tryNumber, sumProducts, dot, pushInto, pushRow, transpose}
+use Rattle.solves.specs.Solver.{scaled, scaleAll, rate, rates, operator, noShare, through, addThrough, crossEnd, crossMass}
+use Rattle.solves.specs.Checked.{added, finiteShare, allFinite, checked}
 use Rattle.solves.specs.View.{rowOn, rowsOn, generalizedAt, sharesIn, massAt, massesAt, systemOn, Rows, Place, Shares, Beside, Moves}
 use Rattle.solves.specs.View.{BODIES-MOST, VECTOR, RHS, GENERALIZED, MASSES, END}
 use Rattle.solves.specs.DoesLaws.{number-yes, number-no, does-stop, does-then}
 use Rattle.solves.specs.ViewLaws.{out-within, kept-rows, kept-masses, row-in, share-in, mass-in, shares-set, shares-more, shares-none}
+use Rattle.solves.proofs.CheckedLaws.{then-then, loop-next, push-is, zeros-checked}
 
 -- dot
 abbrev pub dotTurn : List Float → List Float → ℕ → Float → Float
@@ -59,35 +60,54 @@ module _ (s : List Float) (index : ℕ) (linear angular : Vec3) (value : Float) 
   in-list : body ≡ generalizedIn (sharesIn s count) index
   in-list = eb ∙ sym (tab-at count (generalizedAt s GENERALIZED) noGeneralized index h)
 
-  pub into-done : {g : Generalized} {t : List Float} → go g ≡ pushed body linear angular value
+  pub into-done : {g : Generalized} {t : List Float} → g ≡ added body linear angular value
       → (Kept (λ j. Out (GENERALIZED + 6 * index) 6 j) s t) × (generalizedAt t GENERALIZED index ≡ g)
-      → Does Shares s t (go (sharesIn t count)) (pushInto index linear angular value (sharesIn s count))
-  unfolding pushInto
-  into-done ep st = record {
+      → Does Shares s t (checked (sharesIn t count)) (checked (sharesIn s count) >>= pushInto index linear angular value)
+  into-done eg st = record {
     kept = kept-more (st .0) (λ i q. omega arith);
-    is = sym (ap go (shares-set GENERALIZED count index h st)) ∙ then-go _ (ep ∙ ap (λ (b : Generalized). pushed b linear angular value) in-list);
+    is = ap checked
+        (sym (shares-set GENERALIZED count index h st)
+        ∙ ap (set (sharesIn s count) index) (eg ∙ ap (λ (b : Generalized). added b linear angular value) in-list))
+        ∙ push-is (sharesIn s count) index linear angular value
+        (subst (λ (m : ℕ). index < m) (sym (tab-length count (generalizedAt s GENERALIZED))) h);
   }
-
-  pub into-over : stop arithmeticOverflow ≡ pushed body linear angular value
-      → Does Shares s s (stop arithmeticOverflow) (pushInto index linear angular value (sharesIn s count))
-  unfolding pushInto
-  into-over ep = record { kept = kept-refl Shares s; is = then-stop _ (ep ∙ ap (λ (b : Generalized). pushed b linear angular value) in-list) }
 
 -- push_row
 module _ (count : ℕ) (row : EqualityRow) (value : Float) (s : List Float) where
-  abbrev OnA : Result (List Generalized)
-  OnA = pushInto (row .a) (row .«linear_a») (row .«angular_a») value (sharesIn s count)
+  pub row-then : {t u : List Float}
+      → Does Shares s t (checked (sharesIn t count)) (checked (sharesIn s count) >>= pushInto (row .a) (row .«linear_a») (row .«angular_a») value)
+      → Does Shares t u (checked (sharesIn u count)) (checked (sharesIn t count) >>= pushInto (row .b) (row .«linear_b») (row .«angular_b») value)
+      → Does Shares s u (checked (sharesIn u count)) (checked (sharesIn s count) >>= pushRow row value)
+  unfolding pushRow
+  row-then d e = record {
+    kept = kept-then (d .kept) (e .kept) (λ i q. q);
+    is = e .is
+        ∙ ap (λ (r : Result (List Generalized)). r >>= pushInto (row .b) (row .«linear_b») (row .«angular_b») value) (d .is)
+        ∙ then-then (checked (sharesIn s count)) _ _;
+  }
 
-  module _ {t : List Float} where
-    pub row-failed : {f : Fault} → Does Shares s t (stop f) OnA → Does Shares s t (stop f) (pushRow row value (sharesIn s count))
-    unfolding pushRow
-    row-failed d = does-stop _ (λ i q. q) d
+-- shares_finite
+module _ (s : List Float) (count : ℕ) where
+  abbrev pub shareTest : ℕ → Bool
+  shareTest k = finiteShare (generalizedIn (sharesIn s count) k)
 
-    pub row-then : {u : List Float} {y : Result (List Generalized)} → Does Shares s t (go (sharesIn t count)) OnA
-        → Does Shares t u y (pushInto (row .b) (row .«linear_b») (row .«angular_b») value (sharesIn t count))
-        → Does Shares s u y (pushRow row value (sharesIn s count))
-    unfolding pushRow
-    row-then d e = does-then _ (λ i q. q) (λ i q. q) d e
+  module _ {k : ℕ} {g : Generalized} (h : k < count) (eg : g ≡ generalizedAt s GENERALIZED k) where
+    share-is : finiteShare g ≡ shareTest k
+    share-is = ap finiteShare (eg ∙ sym (tab-at count (generalizedAt s GENERALIZED) noGeneralized k h))
+
+    pub linear-wild : {b : Bool} → b ≡ finiteOf (g .linear) → not b ≡ true → shareTest k ≡ false
+    linear-wild {b} e n = sym share-is ∙ ap (λ (x : Bool). x && finiteOf (g .angular)) (sym e ∙ not-yes b n)
+
+    pub angular-wild : {a b : Bool} → a ≡ finiteOf (g .linear) → not a ≡ false → b ≡ finiteOf (g .angular) → not b ≡ true → shareTest k ≡ false
+    angular-wild {a} {b} f m e n =
+        sym share-is ∙ ap (λ (x : Bool). x && finiteOf (g .angular)) (sym f ∙ not-no a m) ∙ sym e ∙ not-yes b n
+
+    pub share-fine : {a b : Bool} → a ≡ finiteOf (g .linear) → not a ≡ false → b ≡ finiteOf (g .angular) → not b ≡ false → shareTest k ≡ true
+    share-fine {a} {b} f m e n =
+        sym share-is ∙ ap (λ (x : Bool). x && finiteOf (g .angular)) (sym f ∙ not-no a m) ∙ sym e ∙ not-no b n
+
+  pub all-of : {r : Bool} → r ≡ every count shareTest → r ≡ allFinite (sharesIn s count)
+  all-of e = e ∙ ap (λ (m : ℕ). every m shareTest) (sym (tab-length count (generalizedAt s GENERALIZED)))
 
 -- transpose
 abbrev pub rowTurn : List EqualityRow → List Float → ℕ → List Generalized → Result (List Generalized)
@@ -101,34 +121,36 @@ module _ {z : List Float} {ia ib : List ℕ} {rows n count : ℕ} (pre : Rows z 
   Vs = vecAt s₀ values n
 
   abbrev pub TransposeSo : ℕ → List Float → Type 0
-  TransposeSo k s = Does Shares s₀ s (go (sharesIn s count)) (loop k (rowTurn R Vs) (sharesIn s₀ count))
+  TransposeSo k s = Does Shares s₀ s (checked (sharesIn s count)) (loop k (rowTurn R Vs) (sharesIn s₀ count))
 
-  pub transpose-none : TransposeSo 0 s₀
-  transpose-none = record { kept = kept-refl Shares s₀; is = loop-none (rowTurn R Vs) (sharesIn s₀ count) }
+  pub transpose-none : Filled GENERALIZED (6 * count) (λ _. ratio 0 1) z s₀ → TransposeSo 0 s₀
+  transpose-none f =
+      let zeros = shares-none GENERALIZED count f in
+      record {
+        kept = kept-refl Shares s₀;
+        is = ap checked zeros ∙ zeros-checked count ∙ ap go (sym zeros) ∙ loop-none (rowTurn R Vs) (sharesIn s₀ count);
+      }
 
-  module _ {k : ℕ} {s : List Float} {row : EqualityRow} {v : Float} (inv : TransposeSo k s) (h : k < n) (er : row ≡ rowOn ia ib s rows k)
-      (ev : v ≡ at s (values + k)) where
-    turn : pushRow row v (sharesIn s count) ≡ rowTurn R Vs k (sharesIn s count)
-    turn =
-        let a : row ≡ rowIn R k = row-in (inv .kept) ia ib rows n k (λ i x y. omega arith) h er in
-        let b : v ≡ at Vs k = vec-in (inv .kept) values n k (λ i x y. omega arith) h ev in
-        cc
+  pub transpose-again : {k : ℕ} {s t : List Float} {row : EqualityRow} {v : Float} → TransposeSo k s → k < n → row ≡ rowOn ia ib s rows k
+      → v ≡ at s (values + k) → Does Shares s t (checked (sharesIn t count)) (checked (sharesIn s count) >>= pushRow row v) → TransposeSo (k + 1) t
+  transpose-again {k} {s} {t} {row} {v} inv h er ev d =
+      let a : row ≡ rowIn R k = row-in (inv .kept) ia ib rows n k (λ i x y. omega arith) h er in
+      let b : v ≡ at Vs k = vec-in (inv .kept) values n k (λ i x y. omega arith) h ev in
+      record {
+        kept = kept-then (inv .kept) (d .kept) (λ i x. x);
+        is = d .is
+            ∙ ap (λ (y : EqualityRow). checked (sharesIn s count) >>= pushRow y v) a
+            ∙ ap (λ (y : Float). checked (sharesIn s count) >>= pushRow (rowIn R k) y) b
+            ∙ ap (λ (y : Result (List Generalized)). y >>= rowTurn R Vs k) (inv .is)
+            ∙ loop-next (rowTurn R Vs) (sharesIn s₀ count) k;
+      }
 
-    pub transpose-again : {t : List Float} → Does Shares s t (go (sharesIn t count)) (pushRow row v (sharesIn s count)) → TransposeSo (k + 1) t
-    transpose-again d = record {
-      kept = kept-then (inv .kept) (d .kept) (λ i x. x);
-      is = loop-more (rowTurn R Vs) (sharesIn s₀ count) (inv .is) (d .is ∙ turn);
-    }
-
-    pub transpose-failed : {t : List Float} {f : Fault} → Does Shares s t (stop f) (pushRow row v (sharesIn s count))
-        → Does Shares s₀ t (stop f) (loop n (rowTurn R Vs) (sharesIn s₀ count))
-    transpose-failed d = record {
-      kept = kept-then (inv .kept) (d .kept) (λ i x. x);
-      is = loop-stop (rowTurn R Vs) (sharesIn s₀ count) n h (inv .is) (d .is ∙ turn);
-    }
-
-  pub transpose-ends : {k : ℕ} {s : List Float} → TransposeSo k s → k ≤ n → n ≤ k → TransposeSo n s
-  transpose-ends inv a b = record { kept = inv .kept; is = loop-end (rowTurn R Vs) (sharesIn s₀ count) a b (inv .is) }
+  -- the end of the loop, and what the test of all shares says
+  pub transpose-ends : {k : ℕ} {s : List Float} {y : Result (List Generalized)} → y ≡ checked (sharesIn s count) → TransposeSo k s → k ≤ n → n ≤ k
+      → Does Shares s₀ s y (loop n (rowTurn R Vs) (sharesIn s₀ count))
+  transpose-ends {k} {s} e inv a b =
+      let same : k ≡ n = omega arith in
+      record { kept = inv .kept; is = e ∙ inv .is ∙ ap (λ (m : ℕ). loop m (rowTurn R Vs) (sharesIn s₀ count)) same }
 
   pub transpose-from : {t : List Float} {y : Result (List Generalized)} → Filled GENERALIZED (6 * count) (λ _. ratio 0 1) z s₀
       → Does Shares s₀ t y (loop n (rowTurn R Vs) (sharesIn s₀ count))

@@ -11,14 +11,14 @@ use Rattle.arith.specs.Flow.{go, stop}
 use Rattle.arith.specs.FlowLaws.{then-go, then-stop}
 use Rattle.vectors.specs.declared.vector.Vec3.{Vec3}
 use Rattle.vectors.specs.declared.matrix.Mat3.{Mat3}
-use Rattle.vectors.specs.Vector.{addOf, scaleOf, finiteOf}
+use Rattle.vectors.specs.Vector.{scaleOf, finiteOf}
 use Rattle.vectors.specs.Matrix.{fromCols, applyOf}
 use Rattle.rows.specs.Fault.{arithmeticOverflow}
 use Rattle.rows.specs.View.{at, vec3At, Out, Kept}
 use Rattle.rows.specs.Region.{kept-set, kept-then, kept-more, kept-vec3}
 use Rattle.solves.specs.declared.places.Generalized.{Generalized}
 use Rattle.solves.specs.declared.places.MassResponse.{MassResponse}
-use Rattle.solves.specs.Solver.{pushed, scaled}
+use Rattle.solves.specs.Solver.{scaled}
 use Rattle.solves.specs.View.{generalizedAt, massAt}
 use Rattle.solves.specs.DoesLaws.{finite-yes, finite-no}
 
@@ -69,21 +69,6 @@ mass-loaded s off k {m} {x} {y} {z} a b c e = λ j. record { linear = at s (off 
     cols = λ j. fromCols (a j) (b j) (c j)
 
 -- pure parts, by cases
-module _ (body : Generalized) (linear angular : Vec3) (value : Float) {p l : Vec3} {t : Bool}
-    (ep : p ≡ scaleOf linear value) (el : l ≡ addOf (body .linear) p) (et : t ≡ finiteOf l) where
-  pub pushed-1 : t ≡ false → stop arithmeticOverflow ≡ pushed body linear angular value
-  unfolding pushed
-  pushed-1 h = then-stop _ (finite-no (cc) et h)
-
-  module _ {q a : Vec3} {u : Bool} (ht : t ≡ true) (eq : q ≡ scaleOf angular value) (ea : a ≡ addOf (body .angular) q) (eu : u ≡ finiteOf a) where
-    pub pushed-2 : u ≡ false → stop arithmeticOverflow ≡ pushed body linear angular value
-    unfolding pushed
-    pushed-2 h = then-stop _ (finite-no (cc) eu h) ∙ then-go _ (finite-yes (cc) et ht)
-
-    pub pushed-3 : u ≡ true → go (record { linear = l; angular = a }) ≡ pushed body linear angular value
-    unfolding pushed
-    pushed-3 h = then-go _ (finite-yes (cc) eu h) ∙ then-go _ (finite-yes (cc) et ht)
-
 module _ (value : Generalized) (mass : MassResponse) {l : Vec3} {t : Bool} (el : l ≡ scaleOf (value .linear) (mass .linear)) (et : t ≡ finiteOf l) where
   pub scaled-1 : t ≡ false → stop arithmeticOverflow ≡ scaled value mass
   unfolding scaled

@@ -9,6 +9,7 @@ pub mod Layout
 pub mod Lent
 pub mod Region
 pub mod View
+pub mod Checked
 pub mod Answer
 pub mod PathView
 pub mod RegionLaws

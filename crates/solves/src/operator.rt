@@ -24,7 +24,8 @@ ghost use lib.ListN.{length};
 ghost use Rattle.solves.specs.Answer.{sumAs, shareAs, ranAs, Pushes};
 ghost use Rattle.solves.specs.Lent.{came, left};
 ghost use Rattle.solves.specs.Region.{vecAt, Does};
-ghost use Rattle.solves.specs.Solver.{sumProducts, dot as dotOf, toleranceFor, pushed as pushedOf, pushInto, pushRow, transpose as transposeOf};
+ghost use Rattle.solves.specs.Solver.{sumProducts, dot as dotOf, toleranceFor, pushInto, pushRow, transpose as transposeOf};
+ghost use Rattle.solves.specs.Checked.{added, allFinite, checked, checkedThen};
 ghost use Rattle.solves.specs.Solver.{scaled as scaledOf, scaleAll, rate as rateOf, rates as ratesOf, operator as operatorOf};
 ghost use Rattle.solves.specs.Solver.{through as throughOf, addThrough, crossEnd, crossMass};
 ghost use Rattle.solves.specs.View.{sharesIn, massesAt, systemIn, Ready, Place, Shares, Beside, Moves};
@@ -69,51 +70,50 @@ pub(crate) fn tolerance_for(s: &[f64], scale: f64, n: usize) -> Sum
     Sum::Value(scale * (1.0 + sqrt(square)))
 }
 
-// A body's share with that of one row more.
-fn pushed(body: Generalized, linear: Vec3, angular: Vec3, value: f64) -> Share
-    ensures { λ r. ⌜ shareAs r ≡ pushedOf body linear angular value ⌝ }
+// A body's share with that of one row more. It is tested when all rows are in: what is not finite stays so.
+fn pushed(body: Generalized, linear: Vec3, angular: Vec3, value: f64) -> Generalized
+    ensures { λ r. ⌜ r ≡ added body linear angular value ⌝ }
 {
-    let l = body.linear.add(linear.scale(value));
-    if l.is_finite() {
-        let a = body.angular.add(angular.scale(value));
-        if a.is_finite() {
-            return Share::Value(Generalized {
-                linear: l,
-                angular: a,
-            });
-        }
+    Generalized {
+        linear: body.linear.add(linear.scale(value)),
+        angular: body.angular.add(angular.scale(value)),
     }
-    Share::ArithmeticOverflow
 }
 
-fn push_into(
-    s: &mut [f64],
-    index: usize,
-    linear: Vec3,
-    angular: Vec3,
-    value: f64,
-    bodies: usize,
-) -> End
+fn push_into(s: &mut [f64], index: usize, linear: Vec3, angular: Vec3, value: f64, bodies: usize)
     requires { ⌜ (END ≤ length (now s)) × (index < bodies) × (bodies ≤ BODIES-MOST) ⌝ }
-    ensures { λ r. ⌜ Does Shares (came s) (left s) (ranAs r (sharesIn (left s) bodies)) (pushInto index linear angular value (sharesIn (came s) bodies)) ⌝ }
+    ensures { λ _. ⌜
+        Does Shares (came s) (left s) (checked (sharesIn (left s) bodies))
+        (checkedThen (pushInto index linear angular value) (sharesIn (came s) bodies)) ⌝ }
 {
     let body = load_generalized(s, GENERALIZED, index);
-    if let Share::Value(g) = pushed(body, linear, angular, value) {
-        store_generalized(s, GENERALIZED, index, g);
-        return End::Done;
-    }
-    End::ArithmeticOverflow
+    let share = pushed(body, linear, angular, value);
+    store_generalized(s, GENERALIZED, index, share);
 }
 
-fn push_row(s: &mut [f64], row: EqualityRow, value: f64, bodies: usize) -> End
+fn push_row(s: &mut [f64], row: EqualityRow, value: f64, bodies: usize)
     requires { ⌜ (END ≤ length (now s)) × (row .a < bodies) × (row .b < bodies) × (bodies ≤ BODIES-MOST) ⌝ }
-    ensures { λ r. ⌜ Does Shares (came s) (left s) (ranAs r (sharesIn (left s) bodies)) (pushRow row value (sharesIn (came s) bodies)) ⌝ }
+    ensures { λ _. ⌜ Does Shares (came s) (left s) (checked (sharesIn (left s) bodies)) (checkedThen (pushRow row value) (sharesIn (came s) bodies)) ⌝ }
 {
-    let end = push_into(s, row.a, row.linear_a, row.angular_a, value, bodies);
-    if !done(end) {
-        return end;
+    push_into(s, row.a, row.linear_a, row.angular_a, value, bodies);
+    push_into(s, row.b, row.linear_b, row.angular_b, value, bodies);
+}
+
+// Whether every body's share is finite.
+fn shares_finite(s: &[f64], bodies: usize) -> bool
+    requires { ⌜ (END ≤ length (now s)) × (bodies ≤ BODIES-MOST) ⌝ }
+    ensures { λ r. ⌜ r ≡ allFinite (sharesIn (came s) bodies) ⌝ }
+{
+    for k in 0..bodies {
+        let share = load_generalized(s, GENERALIZED, k);
+        if !share.linear.is_finite() {
+            return false;
+        }
+        if !share.angular.is_finite() {
+            return false;
+        }
     }
-    push_into(s, row.b, row.linear_b, row.angular_b, value, bodies)
+    true
 }
 
 // Each body's share of the rows times their values.
@@ -127,12 +127,12 @@ pub fn transpose(s: &mut [f64], ia: &[usize; 96], ib: &[usize; 96], t: Table, va
     for k in 0..n {
         let row = load_row(s, ia, ib, t.place, k);
         let value = s[values + k];
-        let end = push_row(s, row, value, bodies);
-        if !done(end) {
-            return end;
-        }
+        push_row(s, row, value, bodies);
     }
-    End::Done
+    if shares_finite(s, bodies) {
+        return End::Done;
+    }
+    End::ArithmeticOverflow
 }
 
 // A share through the mass response of its body.

@@ -1,20 +1,21 @@
--- transpose: the shares row by row, by the turns of `rowTurn`.
+-- transpose: the shares row by row, by the turns of `rowTurn`, and one test of them all.
 use native.Mathlib.Omega.{arith}
-use mathlib.Core.Path.{_≡_, refl}
+use mathlib.Core.Path.{_≡_, refl, sym, _∙_}
 use Prim.Native.Nat.{_≤_, _-_}
 use lib.ListN.{length}
-use Rattle.arith.specs.Flow.{go, loop}
+use Rattle.arith.specs.Flow.{loop}
+use Rattle.arith.specs.FlowLaws.{cond-yes, cond-no}
 use Rattle.solves.specs.Region.{vecAt, Does}
 use Rattle.solves.specs.View.{rowsOn, sharesIn, Shares}
-use Rattle.solves.specs.DoesLaws.{went, failed, fails, does-eq}
-use Rattle.solves.proofs.OperatorLaws.{rowTurn, on-a, on-b, transpose-none, transpose-failed, transpose-again, transpose-ends, transpose-from}
+use Rattle.solves.specs.Checked.{checked}
+use Rattle.solves.proofs.OperatorLaws.{rowTurn, on-a, on-b, transpose-none, transpose-again, transpose-ends, transpose-from}
 use Rattle.solves.proofs.operator.transpose.Statement.{statement}
 use Rattle.solves.proofs.operator.transpose.Tie as tie
 
 abbrev Inv-loop : tie.InvT-loop
 Inv-loop s₀ ia ib t values n bodies k₀ s k =
     (k ≤ t .rows) × (length s ≡ length s₀)
-    × (Does Shares s₀ s (go (sharesIn s (t .bodies)))
+    × (Does Shares s₀ s (checked (sharesIn s (t .bodies)))
     (loop k (rowTurn (rowsOn ia ib s₀ (t .place) (t .rows)) (vecAt s₀ values (t .rows))) (sharesIn s₀ (t .bodies))))
 
 abbrev μ-loop : tie.MeasureT-loop
@@ -28,8 +29,9 @@ clear-requires c κs = omega arith
 
 loop-holds : tie.Need-loop-holds Inv-loop μ-loop
 loop-holds c =
-    let start = c .before .before .before .before .before in
-    (omega arith, refl, transpose-none (start .pre .0) (start .pre .1) _)
+    let at-clear = c .before .before in
+    let start = at-clear .before .before .before in
+    (omega arith, refl, transpose-none (start .pre .0) (start .pre .1) _ (at-clear .clear .ensures))
 
 load-row-requires : tie.Need-load-row-requires Inv-loop μ-loop
 load-row-requires c κs =
@@ -107,36 +109,20 @@ push-row-requires c κs =
       start .pre .0 .bodies,
     )
 
-done-requires : tie.Need-done-requires Inv-loop μ-loop
-done-requires c κs = omega arith
-
-same-length : tie.Need-same-length Inv-loop μ-loop
-same-length c = omega arith
-
-returns : tie.Need-returns Inv-loop μ-loop
-returns c =
-    let at-done = c .before in
-    let at-push-row = at-done .before .before .before in
-    let at-load-row = at-push-row .before .before .before in
-    let at-loop = at-load-row .before .before .before in
-    let at-clear = at-loop .before .before .before in
-    let start = at-clear .before .before .before in
-    let end = at-push-row .push-row .result in
-    does-eq (fails _ end (at-done .done .ensures) (c .if1 .taken))
-    (transpose-from (start .pre .0) (start .pre .1) _ (at-clear .clear .ensures)
-    (transpose-failed (start .pre .0) (start .pre .1) _ (at-loop .loop .inv .2) (at-load-row .before .before .loop-test .taken)
-    (at-load-row .load-row .ensures) refl
-    (failed _ end (at-done .done .ensures) (at-push-row .push-row .ensures) (c .if1 .taken))))
-
 add-k : tie.Need-add-k Inv-loop μ-loop
-add-k c = omega arith
+add-k c =
+    let at-push-row = c .before .before in
+    let in-loop = at-push-row .before .before .before .before .before in
+    let at-clear = in-loop .before .before .before .before in
+    let start = at-clear .before .before .before in
+    omega (arith, in-loop .loop-test .taken, start .pre .0 .most)
 
 loop-less : tie.Need-loop-less Inv-loop μ-loop
 loop-less c = omega arith
 
 loop-again : tie.Need-loop-again Inv-loop μ-loop
 loop-again c =
-    let at-push-row = c .before .before .before .before in
+    let at-push-row = c .before .before in
     let at-load-row = at-push-row .before .before .before in
     let in-loop = at-load-row .before .before in
     let at-loop = in-loop .before in
@@ -144,18 +130,47 @@ loop-again c =
       omega (arith, in-loop .loop-test .taken),
       omega (arith, at-loop .loop .inv .1, at-push-row .push-row .ensures .kept .size),
       transpose-again (start .pre .0) (start .pre .1) _ (at-loop .loop .inv .2) (in-loop .loop-test .taken) (at-load-row .load-row .ensures) refl
-          (went _ (at-push-row .push-row .result) (c .before .done .ensures) (at-push-row .push-row .ensures) (c .if1 .left)),
+          (at-push-row .push-row .ensures),
     )
 
+shares-finite-requires : tie.Need-shares-finite-requires Inv-loop μ-loop
+shares-finite-requires c κs =
+    let at-loop = c .before .before in
+    let at-clear = at-loop .before .before .before in
+    let start = at-clear .before .before .before in
+    (omega (arith, at-clear .clear .ensures .kept .size, at-loop .loop .inv .1, start .pre .0 .whole), start .pre .0 .bodies)
+
+same-length : tie.Need-same-length Inv-loop μ-loop
+same-length c =
+    let at-loop = c .before .before .before .before in
+    let at-clear = at-loop .before .before .before in
+    omega (arith, at-clear .clear .ensures .kept .size, at-loop .loop .inv .1)
+
+returns : tie.Need-returns Inv-loop μ-loop
+returns c =
+    let at-test = c .before .before .before in
+    let at-loop = at-test .before in
+    let at-clear = at-loop .before .before .before in
+    let start = at-clear .before .before .before in
+    transpose-from (start .pre .0) (start .pre .1) _ (at-clear .clear .ensures)
+    (transpose-ends (start .pre .0) (start .pre .1) _ (cond-yes _ _ (sym (c .before .shares-finite .ensures) ∙ c .if1 .taken))
+    (at-loop .loop .inv .2) (omega arith) (at-test .loop-test .left))
+
 same-length-2 : tie.Need-same-length-2 Inv-loop μ-loop
-same-length-2 c = omega arith
+same-length-2 c =
+    let at-loop = c .before .before .before .before in
+    let at-clear = at-loop .before .before .before in
+    omega (arith, at-clear .clear .ensures .kept .size, at-loop .loop .inv .1)
 
 returns-2 : tie.Need-returns-2 Inv-loop μ-loop
 returns-2 c =
-    let at-clear = c .before .before .before .before in
+    let at-test = c .before .before .before in
+    let at-loop = at-test .before in
+    let at-clear = at-loop .before .before .before in
     let start = at-clear .before .before .before in
     transpose-from (start .pre .0) (start .pre .1) _ (at-clear .clear .ensures)
-    (transpose-ends (start .pre .0) (start .pre .1) _ (c .before .loop .inv .2) (omega arith) (c .loop-test .left))
+    (transpose-ends (start .pre .0) (start .pre .1) _ (cond-no _ _ (sym (c .before .shares-finite .ensures) ∙ c .if1 .left))
+    (at-loop .loop .inv .2) (omega arith) (at-test .loop-test .left))
 
 pub transpose-spec : {M : Type 1} → statement M
 transpose-spec =
@@ -171,11 +186,11 @@ transpose-spec =
     mul-value
     slice-read-value
     push-row-requires
-    done-requires
-    same-length
-    returns
     add-k
     loop-less
     loop-again
+    shares-finite-requires
+    same-length
+    returns
     same-length-2
     returns-2)

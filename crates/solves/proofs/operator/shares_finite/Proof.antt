@@ -1,0 +1,92 @@
+-- shares_finite: both tests of each body, by the turns of `shareTest`.
+use native.Mathlib.Omega.{arith}
+use mathlib.Core.Path.{_≡_}
+use mathlib.Core.Bool.{true}
+use Prim.Native.Nat.{_≤_, _-_}
+use denote.Ref.{now}
+use Rattle.arith.specs.Flow.{every}
+use Rattle.arith.specs.FlowLaws.{every-none, every-more, every-fail, every-end}
+use Rattle.solves.proofs.OperatorLaws.{shareTest, linear-wild, angular-wild, share-fine, all-of}
+use Rattle.solves.proofs.operator.shares_finite.Statement.{statement}
+use Rattle.solves.proofs.operator.shares_finite.Tie as tie
+
+abbrev Inv-loop : tie.InvT-loop
+Inv-loop s bodies k₀ k = (k ≤ bodies) × (true ≡ every k (shareTest s bodies))
+
+abbrev μ-loop : tie.MeasureT-loop
+μ-loop s bodies k₀ k = bodies - k
+
+loop-holds : tie.Need-loop-holds Inv-loop μ-loop
+loop-holds c = (omega arith, every-none _)
+
+load-generalized-requires : tie.Need-load-generalized-requires Inv-loop μ-loop
+load-generalized-requires c κs = omega arith
+
+is-finite-requires : tie.Need-is-finite-requires Inv-loop μ-loop
+is-finite-requires c κs = omega arith
+
+returns : tie.Need-returns Inv-loop μ-loop
+returns c =
+    let at-load-generalized = c .before .before in
+    let in-loop = at-load-generalized .before in
+    let start = in-loop .before .before .before in
+    let s = now (start .args .s) in
+    let h = in-loop .loop-test .taken in
+    all-of s _ (every-fail _ _ h (linear-wild s _ h (at-load-generalized .load-generalized .ensures) (c .before .is-finite .ensures) (c .if1 .taken)))
+
+is-finite-requires-2 : tie.Need-is-finite-requires-2 Inv-loop μ-loop
+is-finite-requires-2 c κs = omega arith
+
+returns-2 : tie.Need-returns-2 Inv-loop μ-loop
+returns-2 c =
+    let at-if1 = c .before .before in
+    let at-load-generalized = at-if1 .before .before in
+    let in-loop = at-load-generalized .before in
+    let start = in-loop .before .before .before in
+    let s = now (start .args .s) in
+    let h = in-loop .loop-test .taken in
+    all-of s _ (every-fail _ _ h
+    (angular-wild s _ h (at-load-generalized .load-generalized .ensures) (at-if1 .before .is-finite .ensures) (at-if1 .if1 .left)
+    (c .before .is-finite2 .ensures) (c .if2 .taken)))
+
+add-k : tie.Need-add-k Inv-loop μ-loop
+add-k c = omega arith
+
+loop-less : tie.Need-loop-less Inv-loop μ-loop
+loop-less c = omega arith
+
+loop-again : tie.Need-loop-again Inv-loop μ-loop
+loop-again c =
+    let at-if1 = c .before .before in
+    let at-load-generalized = at-if1 .before .before in
+    let in-loop = at-load-generalized .before in
+    let start = in-loop .before .before .before in
+    let s = now (start .args .s) in
+    let h = in-loop .loop-test .taken in (
+      omega arith,
+      every-more _ (in-loop .before .loop .inv .1)
+          (share-fine s _ h (at-load-generalized .load-generalized .ensures) (at-if1 .before .is-finite .ensures) (at-if1 .if1 .left)
+          (c .before .is-finite2 .ensures) (c .if2 .left)),
+    )
+
+returns-3 : tie.Need-returns-3 Inv-loop μ-loop
+returns-3 c =
+    let start = c .before .before .before in
+    all-of (now (start .args .s)) _ (every-end _ (c .before .loop .inv .0) (c .loop-test .left) (c .before .loop .inv .1))
+
+pub shares-finite-spec : {M : Type 1} → statement M
+shares-finite-spec =
+    tie.close
+    (tie.spec
+    Inv-loop
+    μ-loop
+    loop-holds
+    load-generalized-requires
+    is-finite-requires
+    returns
+    is-finite-requires-2
+    returns-2
+    add-k
+    loop-less
+    loop-again
+    returns-3)
