@@ -84,13 +84,15 @@ pub record Remembers (s : List Float) (motion : Motion) : Type 0 where
   pub moves : motion .body < 16 → Moves (candidateAt s (motion .body)) motion
 
 -- ---- what a run asks for
--- rows in a table, and a scratch of a step
-abbrev pub Ours : Slice Float → Slice ℕ → Slice ℕ → Table → Type 0
-Ours s ia ib t = (Ready s ia ib t) × (USED ≤ length (s .now))
+-- rows in a table, and a scratch as long as a step's
+pub record Ours (s : Slice Float) (ia ib : Slice ℕ) (t : Table) : Type 0 where
+  pub ready : Ready s ia ib t
+  pub long : USED ≤ length (s .now)
 
 -- the table is that of the starting rows: apart from the rows that a pass writes
-abbrev pub Starting : Slice Float → Slice ℕ → Slice ℕ → Table → Type 0
-Starting s ia ib t = (Ours s ia ib t) × (t .place + ROW-TABLE ≤ ROWS)
+pub record Starting (s : Slice Float) (ia ib : Slice ℕ) (t : Table) : Type 0 where
+  pub ours : Ours s ia ib t
+  pub apart : t .place + ROW-TABLE ≤ ROWS
 
 -- the rows of the table are those of the joints
 pub record Joins (joints : List Joint) (count : ℕ) (ia ib : Slice ℕ) (t : Table) : Type 0 where

@@ -13,7 +13,7 @@ use Rattle.step.proofs.integrator.candidate.Tie as tie
 transpose-requires : tie.Need-transpose-requires
 transpose-requires c κs =
     let at-entry = c .before .before in
-    (at-entry .pre .0 .0 .0, record { low = omega arith; apart = omega arith; there = omega (arith, at-entry .pre .0 .0 .1) })
+    (at-entry .pre .0 .ours .ready, record { low = omega arith; apart = omega arith; there = omega (arith, at-entry .pre .0 .ours .long) })
 
 done-requires : tie.Need-done-requires
 done-requires c κs = search needs
@@ -27,13 +27,13 @@ returns : tie.Need-returns
 returns c =
     let at-transpose = c .before .before .before .before in let at-entry = at-transpose .before .before .before in
     not-pushed (jobFor (at-entry .args .joints) (at-entry .args .task)) (now (at-entry .args .ia)) (now (at-entry .args .ib)) (at-entry .args .t)
-    (at-entry .pre .0 .0 .0 .most) (at-entry .pre .0 .0 .0 .bodies) _ _ (at-transpose .transpose .result) (c .before .done .ensures) (c .if1 .taken)
-    (at-transpose .transpose .ensures) _
+    (at-entry .pre .0 .ours .ready .most) (at-entry .pre .0 .ours .ready .bodies) _ _ (at-transpose .transpose .result) (c .before .done .ensures)
+    (c .if1 .taken) (at-transpose .transpose .ensures) _
 
 move-bodies-requires : tie.Need-move-bodies-requires
 move-bodies-requires c κs =
     let at-transpose = c .before .before .before .before .before in let at-entry = at-transpose .before .before .before in
-    (omega (arith, at-entry .pre .0 .0 .1, at-transpose .transpose .ensures .kept .size), at-entry .pre .0 .0 .0 .bodies)
+    (omega (arith, at-entry .pre .0 .ours .long, at-transpose .transpose .ensures .kept .size), at-entry .pre .0 .ours .ready .bodies)
 
 done-requires-2 : tie.Need-done-requires-2
 done-requires-2 c κs = search needs
@@ -48,7 +48,7 @@ returns-2 c =
     let at-move-bodies = c .before .before .before .before in let at-if1 = at-move-bodies .before .before in let at-done = at-if1 .before in
     let at-transpose = at-done .before .before .before in let at-entry = at-transpose .before .before .before in
     not-moved (jobFor (at-entry .args .joints) (at-entry .args .task)) (now (at-entry .args .ia)) (now (at-entry .args .ib)) (at-entry .args .t)
-    (at-entry .pre .0 .0 .0 .most) (at-entry .pre .0 .0 .0 .bodies) _ _
+    (at-entry .pre .0 .ours .ready .most) (at-entry .pre .0 .ours .ready .bodies) _ _
     (went _ (at-transpose .transpose .result) (at-done .done .ensures) (at-transpose .transpose .ensures) (at-if1 .if1 .left)) _
     (at-move-bodies .move-bodies .result) (c .before .done2 .ensures) (c .if2 .taken) (at-move-bodies .move-bodies .ensures) _
 
@@ -56,7 +56,7 @@ write-rows-requires : tie.Need-write-rows-requires
 write-rows-requires c κs =
     let at-move-bodies = c .before .before .before .before .before in
     let at-transpose = at-move-bodies .before .before .before .before .before .before in let at-entry = at-transpose .before .before .before in (
-      omega (arith, at-entry .pre .0 .0 .1, at-move-bodies .move-bodies .ensures .kept .size, at-transpose .transpose .ensures .kept .size),
+      omega (arith, at-entry .pre .0 .ours .long, at-move-bodies .move-bodies .ensures .kept .size, at-transpose .transpose .ensures .kept .size),
       omega arith,
       joined-sixteen (at-entry .pre .1 .joined),
     )
@@ -75,7 +75,7 @@ returns-3 c =
     let at-move-bodies = at-done2 .before .before .before in let at-if1 = at-move-bodies .before .before in let at-done = at-if1 .before in
     let at-transpose = at-done .before .before .before in let at-entry = at-transpose .before .before .before in
     all-tried (jobFor (at-entry .args .joints) (at-entry .args .task)) (now (at-entry .args .ia)) (now (at-entry .args .ib)) (at-entry .args .t)
-    (at-entry .pre .0 .0 .0 .most) (at-entry .pre .0 .0 .0 .bodies) _ _
+    (at-entry .pre .0 .ours .ready .most) (at-entry .pre .0 .ours .ready .bodies) _ _
     (went _ (at-transpose .transpose .result) (at-done .done .ensures) (at-transpose .transpose .ensures) (at-if1 .if1 .left)) _
     (went _ (at-move-bodies .move-bodies .result) (at-done2 .done2 .ensures) (at-move-bodies .move-bodies .ensures) (at-if2 .if2 .left))
     (at-entry .pre .1 .rows-are) (at-write-rows .write-rows .result)

@@ -13,12 +13,12 @@ use Rattle.step.proofs.integrator.correct.Tie as tie
 fill-rhs-requires : tie.Need-fill-rhs-requires
 fill-rhs-requires c κs =
     let at-entry = c .before .before in
-    (at-entry .pre .0 .1, at-entry .pre .0 .0 .most)
+    (at-entry .pre .ours .long, at-entry .pre .ours .ready .most)
 
 linear-solve-requires : tie.Need-linear-solve-requires
 linear-solve-requires c κs =
     let at-fill-rhs = c .before .before .before in let at-entry = at-fill-rhs .before .before .before in
-    rows-at (at-entry .pre .0 .0) (at-fill-rhs .fill-rhs .ensures (now (at-entry .args .ia)) (now (at-entry .args .ib)) .kept .size)
+    rows-at (at-entry .pre .ours .ready) (at-fill-rhs .fill-rhs .ensures (now (at-entry .args .ia)) (now (at-entry .args .ib)) .kept .size)
 
 done-requires : tie.Need-done-requires
 done-requires c κs = search needs
@@ -40,7 +40,7 @@ returns c =
     passed-is 0 (λ x. impulsesAt x (at-entry .args .t)) (λ x. foundAt (now (at-entry .args .ia)) (now (at-entry .args .ib)) x (at-entry .args .t))
     (c .pass-ended .ensures)
     (correct-unsolved (at-entry .args .task .dt) (at-entry .args .task .cyclic) (now (at-entry .args .ia)) (now (at-entry .args .ib))
-    (at-entry .args .t) (at-entry .pre .1) (at-entry .pre .0 .0 .most) (at-entry .pre .0 .0 .bodies)
+    (at-entry .args .t) (at-entry .pre .apart) (at-entry .pre .ours .ready .most) (at-entry .pre .ours .ready .bodies)
     (at-fill-rhs .fill-rhs .ensures (now (at-entry .args .ia)) (now (at-entry .args .ib))) (at-linear-solve .linear-solve .result)
     (at-linear-solve .linear-solve .ensures) (c .before .before .done .ensures) (c .before .if1 .taken))
 
@@ -50,11 +50,11 @@ add-impulses-requires c κs =
     let at-entry = at-fill-rhs .before .before .before in (
       omega (
         arith,
-        at-entry .pre .0 .1,
+        at-entry .pre .ours .long,
         at-linear-solve .linear-solve .ensures .kept .size,
         at-fill-rhs .fill-rhs .ensures (now (at-entry .args .ia)) (now (at-entry .args .ib)) .kept .size,
       ),
-      at-entry .pre .0 .0 .most,
+      at-entry .pre .ours .ready .most,
     )
 
 done-requires-2 : tie.Need-done-requires-2
@@ -79,7 +79,7 @@ returns-2 c =
     passed-is 0 (λ x. impulsesAt x (at-entry .args .t)) (λ x. foundAt (now (at-entry .args .ia)) (now (at-entry .args .ib)) x (at-entry .args .t))
     (c .pass-ended2 .ensures)
     (correct-not-added (at-entry .args .task .dt) (at-entry .args .task .cyclic) (now (at-entry .args .ia)) (now (at-entry .args .ib))
-    (at-entry .args .t) (at-entry .pre .1) (at-entry .pre .0 .0 .most) (at-entry .pre .0 .0 .bodies)
+    (at-entry .args .t) (at-entry .pre .apart) (at-entry .pre .ours .ready .most) (at-entry .pre .ours .ready .bodies)
     (at-fill-rhs .fill-rhs .ensures (now (at-entry .args .ia)) (now (at-entry .args .ib))) (at-linear-solve .linear-solve .result)
     (at-linear-solve .linear-solve .ensures) (at-done .done .ensures) (at-if1 .if1 .left) (at-add-impulses .add-impulses .result)
     (at-add-impulses .add-impulses .ensures) (c .before .before .done2 .ensures) (c .before .if2 .taken))
@@ -103,7 +103,7 @@ returns-3 c =
     passed-is 0 (λ x. impulsesAt x (at-entry .args .t)) (λ x. foundAt (now (at-entry .args .ia)) (now (at-entry .args .ib)) x (at-entry .args .t))
     (c .pass-ended3 .ensures)
     (correct-added (at-entry .args .task .dt) (at-entry .args .task .cyclic) (now (at-entry .args .ia)) (now (at-entry .args .ib))
-    (at-entry .args .t) (at-entry .pre .1) (at-entry .pre .0 .0 .most) (at-entry .pre .0 .0 .bodies)
+    (at-entry .args .t) (at-entry .pre .apart) (at-entry .pre .ours .ready .most) (at-entry .pre .ours .ready .bodies)
     (at-fill-rhs .fill-rhs .ensures (now (at-entry .args .ia)) (now (at-entry .args .ib))) (at-linear-solve .linear-solve .result)
     (at-linear-solve .linear-solve .ensures) (at-done .done .ensures) (at-if1 .if1 .left) (at-add-impulses .add-impulses .result)
     (at-add-impulses .add-impulses .ensures) (c .before .before .done2 .ensures) (c .before .if2 .left))

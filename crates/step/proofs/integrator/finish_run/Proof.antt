@@ -14,7 +14,7 @@ use Rattle.step.proofs.integrator.finish_run.Tie as tie
 prepare-masses-requires : tie.Need-prepare-masses-requires
 prepare-masses-requires c κs =
     let at-entry = c .before .before .before in
-    (at-entry .pre .0 .1, at-entry .pre .0 .0 .bodies)
+    (at-entry .pre .0 .long, at-entry .pre .0 .ready .bodies)
 
 done-requires : tie.Need-done-requires
 done-requires c κs = search needs
@@ -32,15 +32,13 @@ returns c =
     let at-prepare-masses = c .before .before .before .before .before in let at-entry = at-prepare-masses .before .before .before .before in
     ended-is (λ x. statesAt x (at-entry .args .t .bodies)) (c .loop-ended .ensures)
     (not-weighed (at-entry .args .cyclic) (recordsOf (now (at-entry .args .bodies))) (now (at-entry .args .ia)) (now (at-entry .args .ib))
-    (at-entry .args .t) (at-entry .pre .0 .0 .most) (at-entry .pre .0 .0 .bodies) (at-prepare-masses .prepare-masses .result)
+    (at-entry .args .t) (at-entry .pre .0 .ready .most) (at-entry .pre .0 .ready .bodies) (at-prepare-masses .prepare-masses .result)
     (at-prepare-masses .prepare-masses .ensures) (c .before .before .done .ensures) (c .before .if1 .taken))
 
 velocity-loop-requires : tie.Need-velocity-loop-requires
 velocity-loop-requires c κs =
-    let at-prepare-masses = c .before .before .before .before .before in let at-entry = at-prepare-masses .before .before .before .before in (
-      rows-at (at-entry .pre .0 .0) (at-prepare-masses .prepare-masses .ensures .kept .size),
-      omega (arith, at-entry .pre .0 .1, at-prepare-masses .prepare-masses .ensures .kept .size),
-    )
+    let at-prepare-masses = c .before .before .before .before .before in let at-entry = at-prepare-masses .before .before .before .before in
+    record { ready = rows-at (at-entry .pre .0 .ready) (at-prepare-masses .prepare-masses .ensures .kept .size); long = omega (arith, at-entry .pre .0 .long, at-prepare-masses .prepare-masses .ensures .kept .size) }
 
 done-requires-2 : tie.Need-done-requires-2
 done-requires-2 c κs = search needs
@@ -56,7 +54,7 @@ returns-2 c =
     let at-velocity-loop = c .before .before .before .before in let at-if1 = at-velocity-loop .before .before in let at-done = at-if1 .before in
     let at-prepare-masses = at-done .before .before .before in let at-entry = at-prepare-masses .before .before .before .before in
     not-rested (at-entry .args .cyclic) (recordsOf (now (at-entry .args .bodies))) (now (at-entry .args .ia)) (now (at-entry .args .ib))
-    (at-entry .args .t) (at-entry .pre .0 .0 .most) (at-entry .pre .0 .0 .bodies) (at-prepare-masses .prepare-masses .result)
+    (at-entry .args .t) (at-entry .pre .0 .ready .most) (at-entry .pre .0 .ready .bodies) (at-prepare-masses .prepare-masses .result)
     (at-prepare-masses .prepare-masses .ensures) (at-done .done .ensures) (at-if1 .if1 .left) (at-velocity-loop .velocity-loop .result)
     (at-velocity-loop .velocity-loop .ensures) (c .before .done2 .ensures) (c .if2 .taken)
 
@@ -66,9 +64,9 @@ make-states-requires c κs =
     let at-prepare-masses = at-velocity-loop .before .before .before .before .before .before in
     let at-entry = at-prepare-masses .before .before .before .before in (
       omega
-          (arith, at-entry .pre .0 .1, at-velocity-loop .velocity-loop .ensures .kept .size, at-prepare-masses .prepare-masses .ensures .kept .size),
+          (arith, at-entry .pre .0 .long, at-velocity-loop .velocity-loop .ensures .kept .size, at-prepare-masses .prepare-masses .ensures .kept .size),
       at-entry .pre .1,
-      at-entry .pre .0 .0 .bodies,
+      at-entry .pre .0 .ready .bodies,
     )
 
 loop-ended-requires-2 : tie.Need-loop-ended-requires-2
@@ -88,7 +86,7 @@ returns-3 c =
     let at-prepare-masses = at-done .before .before .before in let at-entry = at-prepare-masses .before .before .before .before in
     ended-is (λ x. statesAt x (at-entry .args .t .bodies)) (c .loop-ended2 .ensures)
     (all-finished (at-entry .args .cyclic) (recordsOf (now (at-entry .args .bodies))) (now (at-entry .args .ia)) (now (at-entry .args .ib))
-    (at-entry .args .t) (at-entry .pre .0 .0 .most) (at-entry .pre .0 .0 .bodies) (at-prepare-masses .prepare-masses .result)
+    (at-entry .args .t) (at-entry .pre .0 .ready .most) (at-entry .pre .0 .ready .bodies) (at-prepare-masses .prepare-masses .result)
     (at-prepare-masses .prepare-masses .ensures) (at-done .done .ensures) (at-if1 .if1 .left) (at-velocity-loop .velocity-loop .result)
     (at-velocity-loop .velocity-loop .ensures) (at-done2 .done2 .ensures) (at-if2 .if2 .left) (at-make-states .make-states .result)
     (at-make-states .make-states .ensures))

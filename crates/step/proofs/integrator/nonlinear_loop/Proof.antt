@@ -24,7 +24,7 @@ abbrev μ-loop : tie.MeasureT-loop
 clear-requires : tie.Need-clear-requires Inv-loop μ-loop
 clear-requires c κs =
     let at-entry = c .before .before in
-    omega (arith, at-entry .pre .0 .0 .1, at-entry .pre .0 .0 .0 .most)
+    omega (arith, at-entry .pre .0 .ours .long, at-entry .pre .0 .ours .ready .most)
 
 loop-holds : tie.Need-loop-holds Inv-loop μ-loop
 loop-holds c =
@@ -40,13 +40,7 @@ loop-holds c =
 nonlinear-pass-requires : tie.Need-nonlinear-pass-requires Inv-loop μ-loop
 nonlinear-pass-requires c κs =
     let at-loop = c .before .before in let at-clear = at-loop .before .before .before in let at-entry = at-clear .before .before .before in (
-      (
-        (
-          rows-at (at-entry .pre .0 .0 .0) (at-loop .loop .inv .1 ∙ at-clear .clear .ensures .kept .size),
-          omega (arith, at-entry .pre .0 .0 .1, at-loop .loop .inv .1, at-clear .clear .ensures .kept .size),
-        ),
-        at-entry .pre .0 .1,
-      ),
+      record { ours = record { ready = rows-at (at-entry .pre .0 .ours .ready) (at-loop .loop .inv .1 ∙ at-clear .clear .ensures .kept .size); long = omega (arith, at-entry .pre .0 .ours .long, at-loop .loop .inv .1, at-clear .clear .ensures .kept .size) }; apart = at-entry .pre .0 .apart },
       at-entry .pre .1,
     )
 
@@ -58,7 +52,7 @@ add-linear c =
       arith,
       at-loop .loop .inv .2,
       at-test .loop-test .taken,
-      nonlinear-few (now (at-entry .args .ia)) (now (at-entry .args .ib)) (at-loop .loop .s) (at-entry .args .t) (at-entry .pre .0 .0 .0 .most)
+      nonlinear-few (now (at-entry .args .ia)) (now (at-entry .args .ib)) (at-loop .loop .s) (at-entry .args .t) (at-entry .pre .0 .ours .ready .most)
           (jobFor (at-entry .args .joints) (at-entry .args .task)) _ (at-nonlinear-pass .nonlinear-pass .ensures .is),
     )
 
@@ -86,12 +80,12 @@ returns c =
     let at-entry = at-clear .before .before .before in
     left-is (λ x. foundAt (now (at-entry .args .ia)) (now (at-entry .args .ib)) x (at-entry .args .t)) (c .run-ended .ensures)
     (from-none (jobFor (at-entry .args .joints) (at-entry .args .task)) (now (at-entry .args .ia)) (now (at-entry .args .ib)) (at-entry .args .t)
-    (at-entry .pre .0 .1) (at-entry .pre .0 .0 .0 .most) (at-entry .pre .0 .0 .0 .bodies) (at-clear .clear .ensures)
+    (at-entry .pre .0 .apart) (at-entry .pre .0 .ours .ready .most) (at-entry .pre .0 .ours .ready .bodies) (at-clear .clear .ensures)
     (loop-over 32 Trying
     (passFrom (jobFor (at-entry .args .joints) (at-entry .args .task)) (now (at-entry .args .ia)) (now (at-entry .args .ib)) (at-entry .args .t))
     (λ x. impulsesAt x (at-entry .args .t)) _ (λ x. foundAt (now (at-entry .args .ia)) (now (at-entry .args .ib)) x (at-entry .args .t))
     (same-pass (jobFor (at-entry .args .joints) (at-entry .args .task)) (now (at-entry .args .ia)) (now (at-entry .args .ib)) (at-entry .args .t)
-    (at-entry .pre .0 .1) (at-entry .pre .0 .0 .0 .most) (at-entry .pre .0 .0 .0 .bodies)) (at-loop .loop .inv .3)
+    (at-entry .pre .0 .apart) (at-entry .pre .0 .ours .ready .most) (at-entry .pre .0 .ours .ready .bodies)) (at-loop .loop .inv .3)
     (at-nonlinear-pass .nonlinear-pass .result) (at-nonlinear-pass .nonlinear-pass .ensures) (at-test .loop-test .taken)
     (c .before .before .pass .given .1)))
 
@@ -117,14 +111,15 @@ loop-again c =
       omega (
         arith,
         at-loop .loop .inv .2,
-        nonlinear-few (now (at-entry .args .ia)) (now (at-entry .args .ib)) (at-loop .loop .s) (at-entry .args .t) (at-entry .pre .0 .0 .0 .most)
-            (jobFor (at-entry .args .joints) (at-entry .args .task)) _ (at-nonlinear-pass .nonlinear-pass .ensures .is),
+        nonlinear-few (now (at-entry .args .ia)) (now (at-entry .args .ib)) (at-loop .loop .s) (at-entry .args .t)
+            (at-entry .pre .0 .ours .ready .most) (jobFor (at-entry .args .joints) (at-entry .args .task)) _
+            (at-nonlinear-pass .nonlinear-pass .ensures .is),
       ),
       looped-again 32 Trying
           (passFrom (jobFor (at-entry .args .joints) (at-entry .args .task)) (now (at-entry .args .ia)) (now (at-entry .args .ib)) (at-entry .args .t))
           (λ x. impulsesAt x (at-entry .args .t)) _ (λ x. foundAt (now (at-entry .args .ia)) (now (at-entry .args .ib)) x (at-entry .args .t))
           (same-pass (jobFor (at-entry .args .joints) (at-entry .args .task)) (now (at-entry .args .ia)) (now (at-entry .args .ib)) (at-entry .args .t)
-          (at-entry .pre .0 .1) (at-entry .pre .0 .0 .0 .most) (at-entry .pre .0 .0 .0 .bodies)) (at-loop .loop .inv .3)
+          (at-entry .pre .0 .apart) (at-entry .pre .0 .ours .ready .most) (at-entry .pre .0 .ours .ready .bodies)) (at-loop .loop .inv .3)
           (at-nonlinear-pass .nonlinear-pass .result) (at-nonlinear-pass .nonlinear-pass .ensures) (at-test .loop-test .taken) (c .enum-told .given .1),
     )
 
@@ -141,7 +136,7 @@ returns-2 c =
     let at-loop = c .before .before in let at-clear = at-loop .before .before .before in let at-entry = at-clear .before .before .before in
     left-is (λ x. foundAt (now (at-entry .args .ia)) (now (at-entry .args .ib)) x (at-entry .args .t)) (c .run-ended2 .ensures)
     (from-none (jobFor (at-entry .args .joints) (at-entry .args .task)) (now (at-entry .args .ia)) (now (at-entry .args .ib)) (at-entry .args .t)
-    (at-entry .pre .0 .1) (at-entry .pre .0 .0 .0 .most) (at-entry .pre .0 .0 .0 .bodies) (at-clear .clear .ensures)
+    (at-entry .pre .0 .apart) (at-entry .pre .0 .ours .ready .most) (at-entry .pre .0 .ours .ready .bodies) (at-clear .clear .ensures)
     (loop-spent 32 Trying
     (passFrom (jobFor (at-entry .args .joints) (at-entry .args .task)) (now (at-entry .args .ia)) (now (at-entry .args .ib)) (at-entry .args .t))
     (λ x. impulsesAt x (at-entry .args .t)) _ (at-loop .loop .inv .3) (c .before .loop-test .left)

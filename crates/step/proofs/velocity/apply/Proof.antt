@@ -11,7 +11,7 @@ use Rattle.step.proofs.velocity.apply.Tie as tie
 transpose-requires : tie.Need-transpose-requires
 transpose-requires c κs =
     let at-entry = c .before .before in
-    (at-entry .pre .0, record { low = omega arith; apart = omega arith; there = omega (arith, at-entry .pre .1) })
+    (at-entry .pre .ready, record { low = omega arith; apart = omega arith; there = omega (arith, at-entry .pre .long) })
 
 done-requires : tie.Need-done-requires
 done-requires c κs = search needs
@@ -24,14 +24,14 @@ same-length c =
 returns : tie.Need-returns
 returns c =
     let at-transpose = c .before .before .before .before in let at-entry = at-transpose .before .before .before in
-    apply-stops (at-entry .args .t) (at-entry .pre .0) (at-transpose .transpose .ensures)
+    apply-stops (at-entry .args .t) (at-entry .pre .ready) (at-transpose .transpose .ensures)
     (fails _ (at-transpose .transpose .result) (c .before .done .ensures) (c .if1 .taken))
     (fails _ (at-transpose .transpose .result) (c .before .done .ensures) (c .if1 .taken))
 
 kick-candidates-requires : tie.Need-kick-candidates-requires
 kick-candidates-requires c κs =
     let at-transpose = c .before .before .before .before .before in let at-entry = at-transpose .before .before .before in
-    (omega (arith, at-entry .pre .1, at-transpose .transpose .ensures .kept .size), at-entry .pre .0 .bodies)
+    (omega (arith, at-entry .pre .long, at-transpose .transpose .ensures .kept .size), at-entry .pre .ready .bodies)
 
 same-length-2 : tie.Need-same-length-2
 same-length-2 c =
@@ -42,7 +42,7 @@ returns-2 : tie.Need-returns-2
 returns-2 c =
     let at-if1 = c .before .before .before .before in let at-done = at-if1 .before in let at-transpose = at-done .before .before .before in
     let at-entry = at-transpose .before .before .before in
-    apply-then (at-entry .args .t) (at-entry .pre .0) (at-transpose .transpose .ensures)
+    apply-then (at-entry .args .t) (at-entry .pre .ready) (at-transpose .transpose .ensures)
     (ran-done _ (at-transpose .transpose .result) (sym (at-done .done .ensures) ∙ not-no _ (at-if1 .if1 .left)))
     (c .before .before .kick-candidates .ensures)
 

@@ -10,7 +10,7 @@ use Rattle.step.proofs.velocity.correct_velocities.Statement.{statement
 use Rattle.step.proofs.velocity.correct_velocities.Tie as tie
 
 linear-solve-requires : tie.Need-linear-solve-requires
-linear-solve-requires c κs = c .before .before .pre .0
+linear-solve-requires c κs = c .before .before .pre .ready
 
 done-requires : tie.Need-done-requires
 done-requires c κs = search needs
@@ -27,15 +27,13 @@ returns : tie.Need-returns
 returns c =
     let at-linear-solve = c .before .before .before .before .before in let at-entry = at-linear-solve .before .before .before in
     passed-is 0 (λ x. candidatesAt x (at-entry .args .t .bodies)) (λ x. candidatesAt x (at-entry .args .t .bodies)) (c .pass-ended .ensures)
-    (rest-unsolved (at-entry .args .cyclic) (at-entry .args .t) (at-entry .pre .0) (at-linear-solve .linear-solve .result)
+    (rest-unsolved (at-entry .args .cyclic) (at-entry .args .t) (at-entry .pre .ready) (at-linear-solve .linear-solve .result)
     (at-linear-solve .linear-solve .ensures) (c .before .before .done .ensures) (c .before .if1 .taken))
 
 apply-requires : tie.Need-apply-requires
 apply-requires c κs =
-    let at-linear-solve = c .before .before .before .before .before in let at-entry = at-linear-solve .before .before .before in (
-      rows-at (at-entry .pre .0) (at-linear-solve .linear-solve .ensures .kept .size),
-      omega (arith, at-entry .pre .1, at-linear-solve .linear-solve .ensures .kept .size),
-    )
+    let at-linear-solve = c .before .before .before .before .before in let at-entry = at-linear-solve .before .before .before in
+    record { ready = rows-at (at-entry .pre .ready) (at-linear-solve .linear-solve .ensures .kept .size); long = omega (arith, at-entry .pre .long, at-linear-solve .linear-solve .ensures .kept .size) }
 
 done-requires-2 : tie.Need-done-requires-2
 done-requires-2 c κs = search needs
@@ -53,7 +51,7 @@ returns-2 c =
     let at-apply = c .before .before .before .before .before in let at-if1 = at-apply .before .before in let at-done = at-if1 .before in
     let at-linear-solve = at-done .before .before .before in let at-entry = at-linear-solve .before .before .before in
     passed-is 0 (λ x. candidatesAt x (at-entry .args .t .bodies)) (λ x. candidatesAt x (at-entry .args .t .bodies)) (c .pass-ended2 .ensures)
-    (rest-not-kicked (at-entry .args .cyclic) (at-entry .args .t) (at-entry .pre .0) (at-linear-solve .linear-solve .result)
+    (rest-not-kicked (at-entry .args .cyclic) (at-entry .args .t) (at-entry .pre .ready) (at-linear-solve .linear-solve .result)
     (at-linear-solve .linear-solve .ensures) (at-done .done .ensures) (at-if1 .if1 .left) (at-apply .apply .result) (at-apply .apply .ensures)
     (c .before .before .done2 .ensures) (c .before .if2 .taken))
 
@@ -70,7 +68,7 @@ returns-3 c =
     let at-apply = c .before .before .before .before .before in let at-if1 = at-apply .before .before in let at-done = at-if1 .before in
     let at-linear-solve = at-done .before .before .before in let at-entry = at-linear-solve .before .before .before in
     passed-is 0 (λ x. candidatesAt x (at-entry .args .t .bodies)) (λ x. candidatesAt x (at-entry .args .t .bodies)) (c .pass-ended3 .ensures)
-    (rest-kicked (at-entry .args .cyclic) (at-entry .args .t) (at-entry .pre .0) (at-linear-solve .linear-solve .result)
+    (rest-kicked (at-entry .args .cyclic) (at-entry .args .t) (at-entry .pre .ready) (at-linear-solve .linear-solve .result)
     (at-linear-solve .linear-solve .ensures) (at-done .done .ensures) (at-if1 .if1 .left) (at-apply .apply .result) (at-apply .apply .ensures)
     (c .before .before .done2 .ensures) (c .before .if2 .left))
 

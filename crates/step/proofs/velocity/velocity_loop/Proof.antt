@@ -34,7 +34,7 @@ loop-holds c = (
 velocity-pass-requires : tie.Need-velocity-pass-requires Inv-loop μ-loop
 velocity-pass-requires c κs =
     let at-loop = c .before .before in let at-entry = at-loop .before .before in
-    (rows-at (at-entry .pre .0) (at-loop .loop .inv .1), omega (arith, at-entry .pre .1, at-loop .loop .inv .1))
+    record { ready = rows-at (at-entry .pre .ready) (at-loop .loop .inv .1); long = omega (arith, at-entry .pre .long, at-loop .loop .inv .1) }
 
 add-linear : tie.Need-add-linear Inv-loop μ-loop
 add-linear c =
@@ -44,7 +44,7 @@ add-linear c =
       arith,
       at-loop .loop .inv .2,
       at-test .loop-test .taken,
-      velocity-few (now (at-entry .args .ia)) (now (at-entry .args .ib)) (at-loop .loop .s) (at-entry .args .t) (at-entry .pre .0 .most)
+      velocity-few (now (at-entry .args .ia)) (now (at-entry .args .ib)) (at-loop .loop .s) (at-entry .args .t) (at-entry .pre .ready .most)
           (at-entry .args .cyclic) _ (at-velocity-pass .velocity-pass .ensures .is),
     )
 
@@ -68,8 +68,9 @@ returns c =
     (rests (at-entry .args .cyclic) (now (at-entry .args .ia)) (now (at-entry .args .ib)) (at-entry .args .t)
     (loop-over 3 Correcting (passOver (at-entry .args .cyclic) (now (at-entry .args .ia)) (now (at-entry .args .ib)) (at-entry .args .t))
     (λ x. candidatesAt x (at-entry .args .t .bodies)) _ (λ x. candidatesAt x (at-entry .args .t .bodies))
-    (same-pass (at-entry .args .cyclic) (at-entry .args .t) (at-entry .pre .0)) (at-loop .loop .inv .3) (at-velocity-pass .velocity-pass .result)
-    (at-velocity-pass .velocity-pass .ensures) (at-test .loop-test .taken) (c .before .before .pass .given .1)))
+    (same-pass (at-entry .args .cyclic) (at-entry .args .t) (at-entry .pre .ready)) (at-loop .loop .inv .3)
+    (at-velocity-pass .velocity-pass .result) (at-velocity-pass .velocity-pass .ensures) (at-test .loop-test .taken)
+    (c .before .before .pass .given .1)))
 
 enum-told : tie.Need-enum-told Inv-loop μ-loop
 enum-told c = search needs
@@ -93,13 +94,13 @@ loop-again c =
       omega (
         arith,
         at-loop .loop .inv .2,
-        velocity-few (now (at-entry .args .ia)) (now (at-entry .args .ib)) (at-loop .loop .s) (at-entry .args .t) (at-entry .pre .0 .most)
+        velocity-few (now (at-entry .args .ia)) (now (at-entry .args .ib)) (at-loop .loop .s) (at-entry .args .t) (at-entry .pre .ready .most)
             (at-entry .args .cyclic) _ (at-velocity-pass .velocity-pass .ensures .is),
       ),
       looped-again 3 Correcting (passOver (at-entry .args .cyclic) (now (at-entry .args .ia)) (now (at-entry .args .ib)) (at-entry .args .t))
           (λ x. candidatesAt x (at-entry .args .t .bodies)) _ (λ x. candidatesAt x (at-entry .args .t .bodies))
-          (same-pass (at-entry .args .cyclic) (at-entry .args .t) (at-entry .pre .0)) (at-loop .loop .inv .3) (at-velocity-pass .velocity-pass .result)
-          (at-velocity-pass .velocity-pass .ensures) (at-test .loop-test .taken) (c .enum-told .given .1),
+          (same-pass (at-entry .args .cyclic) (at-entry .args .t) (at-entry .pre .ready)) (at-loop .loop .inv .3)
+          (at-velocity-pass .velocity-pass .result) (at-velocity-pass .velocity-pass .ensures) (at-test .loop-test .taken) (c .enum-told .given .1),
     )
 
 loop-ended-requires-2 : tie.Need-loop-ended-requires-2 Inv-loop μ-loop

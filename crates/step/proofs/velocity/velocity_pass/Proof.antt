@@ -10,7 +10,9 @@ use Rattle.step.proofs.velocity.velocity_pass.Statement.{statement}
 use Rattle.step.proofs.velocity.velocity_pass.Tie as tie
 
 velocity-rhs-requires : tie.Need-velocity-rhs-requires
-velocity-rhs-requires c κs = c .before .before .pre
+velocity-rhs-requires c κs =
+    let at-entry = c .before .before in
+    record { ready = at-entry .pre .ready; long = at-entry .pre .long }
 
 done-requires : tie.Need-done-requires
 done-requires c κs = search needs
@@ -27,13 +29,13 @@ returns : tie.Need-returns
 returns c =
     let at-velocity-rhs = c .before .before .before .before .before in let at-entry = at-velocity-rhs .before .before .before in
     passed-is 0 (λ x. candidatesAt x (at-entry .args .t .bodies)) (λ x. candidatesAt x (at-entry .args .t .bodies)) (c .pass-ended .ensures)
-    (rates-fail (at-entry .args .cyclic) (at-entry .args .t) (at-entry .pre .0) (at-velocity-rhs .velocity-rhs .result)
+    (rates-fail (at-entry .args .cyclic) (at-entry .args .t) (at-entry .pre .ready) (at-velocity-rhs .velocity-rhs .result)
     (at-velocity-rhs .velocity-rhs .ensures) (c .before .before .done .ensures) (c .before .if1 .taken))
 
 compatible-requires : tie.Need-compatible-requires
 compatible-requires c κs =
     let at-velocity-rhs = c .before .before .before .before .before in let at-entry = at-velocity-rhs .before .before .before in
-    (omega (arith, at-entry .pre .1, at-velocity-rhs .velocity-rhs .ensures .kept .size), at-entry .pre .0 .most)
+    (omega (arith, at-entry .pre .long, at-velocity-rhs .velocity-rhs .ensures .kept .size), at-entry .pre .ready .most)
 
 pass-ended-requires-2 : tie.Need-pass-ended-requires-2
 pass-ended-requires-2 c κs = search needs
@@ -48,17 +50,15 @@ returns-2 c =
     let at-if1 = c .before .before .before .before in let at-done = at-if1 .before in let at-velocity-rhs = at-done .before .before .before in
     let at-entry = at-velocity-rhs .before .before .before in
     passed-is 0 (λ x. candidatesAt x (at-entry .args .t .bodies)) (λ x. candidatesAt x (at-entry .args .t .bodies)) (c .pass-ended2 .ensures)
-    (at-rest (at-entry .args .cyclic) (at-entry .args .t) (at-entry .pre .0) (at-velocity-rhs .velocity-rhs .result)
+    (at-rest (at-entry .args .cyclic) (at-entry .args .t) (at-entry .pre .ready) (at-velocity-rhs .velocity-rhs .result)
     (at-velocity-rhs .velocity-rhs .ensures) (at-done .done .ensures) (at-if1 .if1 .left) (c .before .before .compatible .ensures)
     (c .before .if2 .taken))
 
 correct-velocities-requires : tie.Need-correct-velocities-requires
 correct-velocities-requires c κs =
     let at-slice-known2 = c .before .before .before .before .before .before in let at-velocity-rhs = at-slice-known2 .before .before in
-    let at-entry = at-velocity-rhs .before .before .before in (
-      rows-at (at-entry .pre .0) (at-velocity-rhs .velocity-rhs .ensures .kept .size),
-      omega (arith, at-entry .pre .1, at-velocity-rhs .velocity-rhs .ensures .kept .size),
-    )
+    let at-entry = at-velocity-rhs .before .before .before in
+    record { ready = rows-at (at-entry .pre .ready) (at-velocity-rhs .velocity-rhs .ensures .kept .size); long = omega (arith, at-entry .pre .long, at-velocity-rhs .velocity-rhs .ensures .kept .size) }
 
 same-length-3 : tie.Need-same-length-3
 same-length-3 c =
@@ -71,7 +71,7 @@ returns-3 c =
     let at-if2 = c .before .before .before .before in let at-compatible = at-if2 .before in let at-if1 = at-compatible .before .before in
     let at-done = at-if1 .before in let at-velocity-rhs = at-done .before .before .before in
     let at-entry = at-velocity-rhs .before .before .before in
-    kicked-on (at-entry .args .cyclic) (at-entry .args .t) (at-entry .pre .0) (at-velocity-rhs .velocity-rhs .result)
+    kicked-on (at-entry .args .cyclic) (at-entry .args .t) (at-entry .pre .ready) (at-velocity-rhs .velocity-rhs .result)
     (at-velocity-rhs .velocity-rhs .ensures) (at-done .done .ensures) (at-if1 .if1 .left) (at-compatible .compatible .ensures) (at-if2 .if2 .left)
     (c .before .before .correct-velocities .ensures)
 

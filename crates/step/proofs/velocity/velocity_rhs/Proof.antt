@@ -28,7 +28,7 @@ loop-holds c =
     let at-entry = c .before .before .before in (
       omega arith,
       refl,
-      rhs-none (at-entry .pre .0),
+      rhs-none (at-entry .pre .ready),
       no-body-remembered _ (c .before .no-motion .ensures),
       no-body-remembered _ (c .no-motion2 .ensures),
     )
@@ -36,13 +36,24 @@ loop-holds c =
 load-row-requires : tie.Need-load-row-requires Inv-loop μ-loop
 load-row-requires c κs =
     let at-entry = c .before .before .before .before .before .before in
-    omega (arith, c .before .loop-test .taken, at-entry .pre .0 .most, at-entry .pre .0 .table, at-entry .pre .1, c .before .before .loop .inv .1)
+    omega (
+      arith,
+      c .before .loop-test .taken,
+      at-entry .pre .ready .most,
+      at-entry .pre .ready .table,
+      at-entry .pre .long,
+      c .before .before .loop .inv .1,
+    )
 
 motion-again-requires : tie.Need-motion-again-requires Inv-loop μ-loop
 motion-again-requires c κs =
     let at-test = c .before .before .before in let at-loop = at-test .before in let at-entry = at-loop .before .before .before .before in (
-      omega (arith, at-loop .loop .inv .1, at-entry .pre .1),
-      omega (arith, row-a (at-entry .pre .0) (at-test .loop-test .taken) (at-loop .loop .s) (c .before .load-row .ensures), at-entry .pre .0 .bodies),
+      omega (arith, at-loop .loop .inv .1, at-entry .pre .long),
+      omega (
+        arith,
+        row-a (at-entry .pre .ready) (at-test .loop-test .taken) (at-loop .loop .s) (c .before .load-row .ensures),
+        at-entry .pre .ready .bodies,
+      ),
       at-loop .loop .inv .3,
     )
 
@@ -50,9 +61,12 @@ motion-again-requires-2 : tie.Need-motion-again-requires-2 Inv-loop μ-loop
 motion-again-requires-2 c κs =
     let at-load-row = c .before .before .before in let at-test = at-load-row .before .before in let at-loop = at-test .before in
     let at-entry = at-loop .before .before .before .before in (
-      omega (arith, at-loop .loop .inv .1, at-entry .pre .1),
-      omega
-          (arith, row-b (at-entry .pre .0) (at-test .loop-test .taken) (at-loop .loop .s) (at-load-row .load-row .ensures), at-entry .pre .0 .bodies),
+      omega (arith, at-loop .loop .inv .1, at-entry .pre .long),
+      omega (
+        arith,
+        row-b (at-entry .pre .ready) (at-test .loop-test .taken) (at-loop .loop .s) (at-load-row .load-row .ensures),
+        at-entry .pre .ready .bodies,
+      ),
       at-loop .loop .inv .4,
     )
 
@@ -76,7 +90,7 @@ returns c =
     let at-motion-again2 = c .before .before .before in let at-motion-again = at-motion-again2 .before .before in
     let at-load-row = at-motion-again .before .before in let at-test = at-load-row .before .before in let at-loop = at-test .before in
     let at-entry = at-loop .before .before .before .before in
-    rhs-stops (at-entry .pre .0) (at-loop .loop .inv .2) (at-test .loop-test .taken) (at-load-row .load-row .ensures)
+    rhs-stops (at-entry .pre .ready) (at-loop .loop .inv .2) (at-test .loop-test .taken) (at-load-row .load-row .ensures)
     (sum-over
     (c .before .before .velocity .ensures _ _ (at-motion-again .motion-again .ensures .moves) (at-motion-again2 .motion-again2 .ensures .moves))
     (c .enum-told .given .1))
@@ -85,25 +99,25 @@ add-s : tie.Need-add-s Inv-loop μ-loop
 add-s c =
     let at-motion-again = c .before .before .before .before .before .before in let at-test = at-motion-again .before .before .before .before in
     let at-loop = at-test .before in let at-entry = at-loop .before .before .before .before in
-    omega (arith, at-test .loop-test .taken, at-loop .loop .inv .1, at-entry .pre .0 .whole, at-entry .pre .0 .most)
+    omega (arith, at-test .loop-test .taken, at-loop .loop .inv .1, at-entry .pre .ready .whole, at-entry .pre .ready .most)
 
 mul-s : tie.Need-mul-s Inv-loop μ-loop
 mul-s c =
     let at-motion-again = c .before .before .before .before .before .before in let at-test = at-motion-again .before .before .before .before in
     let at-loop = at-test .before in let at-entry = at-loop .before .before .before .before in
-    omega (arith, at-test .loop-test .taken, at-loop .loop .inv .1, at-entry .pre .0 .whole, at-entry .pre .0 .most)
+    omega (arith, at-test .loop-test .taken, at-loop .loop .inv .1, at-entry .pre .ready .whole, at-entry .pre .ready .most)
 
 slice-write-s : tie.Need-slice-write-s Inv-loop μ-loop
 slice-write-s c =
     let at-motion-again = c .before .before .before .before .before .before in let at-test = at-motion-again .before .before .before .before in
     let at-loop = at-test .before in let at-entry = at-loop .before .before .before .before in
-    omega (arith, at-test .loop-test .taken, at-loop .loop .inv .1, at-entry .pre .0 .whole, at-entry .pre .0 .most)
+    omega (arith, at-test .loop-test .taken, at-loop .loop .inv .1, at-entry .pre .ready .whole, at-entry .pre .ready .most)
 
 add-k : tie.Need-add-k Inv-loop μ-loop
 add-k c =
     let at-motion-again = c .before .before .before .before .before .before in let at-test = at-motion-again .before .before .before .before in
     let at-entry = at-test .before .before .before .before .before in
-    omega (arith, at-test .loop-test .taken, at-entry .pre .0 .most)
+    omega (arith, at-test .loop-test .taken, at-entry .pre .ready .most)
 
 loop-less : tie.Need-loop-less Inv-loop μ-loop
 loop-less c =
@@ -117,13 +131,13 @@ loop-again c =
     let at-test = at-load-row .before .before in let at-loop = at-test .before in let at-entry = at-loop .before .before .before .before in (
       omega (arith, at-test .loop-test .taken),
       simp length-set (at-loop .loop .inv .1),
-      rhs-again (at-entry .pre .0) (at-loop .loop .inv .2) (at-test .loop-test .taken) (at-load-row .load-row .ensures)
+      rhs-again (at-entry .pre .ready) (at-loop .loop .inv .2) (at-test .loop-test .taken) (at-load-row .load-row .ensures)
           (sum-there
           (at-velocity .velocity .ensures _ _ (at-motion-again .motion-again .ensures .moves) (at-motion-again2 .motion-again2 .ensures .moves))
           (c .before .value .given .1)),
-      motion-remembered (at-loop .loop .k) _ (omega (arith, at-test .loop-test .taken, at-entry .pre .0 .most))
+      motion-remembered (at-loop .loop .k) _ (omega (arith, at-test .loop-test .taken, at-entry .pre .ready .most))
           (at-motion-again .motion-again .ensures),
-      motion-remembered (at-loop .loop .k) _ (omega (arith, at-test .loop-test .taken, at-entry .pre .0 .most))
+      motion-remembered (at-loop .loop .k) _ (omega (arith, at-test .loop-test .taken, at-entry .pre .ready .most))
           (at-motion-again2 .motion-again2 .ensures),
     )
 
@@ -133,7 +147,7 @@ same-length-2 c = omega arith
 returns-2 : tie.Need-returns-2 Inv-loop μ-loop
 returns-2 c =
     let at-entry = c .before .before .before .before .before in
-    rhs-ends (at-entry .pre .0) (c .before .loop .inv .2) (omega arith) (c .loop-test .left)
+    rhs-ends (at-entry .pre .ready) (c .before .loop .inv .2) (omega arith) (c .loop-test .left)
 
 pub velocity-rhs-spec : {M : Type 1} → statement M
 velocity-rhs-spec =
