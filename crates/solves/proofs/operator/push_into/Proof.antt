@@ -45,13 +45,5 @@ returns-2 c =
 pub push-into-spec : {M : Type 1} → statement M
 push-into-spec =
     tie.close
-    (tie.spec
-    load-generalized-requires
-    pushed-requires
-    enum-known-g
-    store-generalized-requires
-    same-length
-    returns
-    enum-told
-    same-length-2
+    (tie.spec load-generalized-requires pushed-requires enum-known-g store-generalized-requires same-length returns enum-told same-length-2
     returns-2)

@@ -48,11 +48,4 @@ returns-2 c =
 pub push-row-spec : {M : Type 1} → statement M
 push-row-spec =
     tie.close
-    (tie.spec
-    push-into-requires
-    done-requires
-    same-length
-    returns
-    push-into-requires-2
-    same-length-2
-    returns-2)
+    (tie.spec push-into-requires done-requires same-length returns push-into-requires-2 same-length-2 returns-2)

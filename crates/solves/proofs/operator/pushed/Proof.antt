@@ -43,13 +43,4 @@ returns-3 c =
 pub pushed-spec : {M : Type 1} → statement M
 pushed-spec =
     tie.close
-    (tie.spec
-    scale-requires
-    add-requires
-    is-finite-requires
-    scale-requires-2
-    add-requires-2
-    is-finite-requires-2
-    returns
-    returns-2
-    returns-3)
+    (tie.spec scale-requires add-requires is-finite-requires scale-requires-2 add-requires-2 is-finite-requires-2 returns returns-2 returns-3)

@@ -160,22 +160,5 @@ returns-2 c =
 pub transpose-spec : {M : Type 1} → statement M
 transpose-spec =
     tie.close
-    (tie.spec
-    Inv-loop
-    μ-loop
-    mul-clear
-    clear-requires
-    loop-holds
-    load-row-requires
-    add-value
-    mul-value
-    slice-read-value
-    push-row-requires
-    done-requires
-    same-length
-    returns
-    add-k
-    loop-less
-    loop-again
-    same-length-2
-    returns-2)
+    (tie.spec Inv-loop μ-loop mul-clear clear-requires loop-holds load-row-requires add-value mul-value slice-read-value push-row-requires
+    done-requires same-length returns add-k loop-less loop-again same-length-2 returns-2)
