@@ -129,22 +129,5 @@ returns-5 c =
 pub advance-spec : {M : Type 1} → statement M
 advance-spec =
     tie.close
-    (tie.spec
-    operator-requires
-    done-requires
-    same-length
-    returns
-    dot-requires
-    enum-known-curvature
-    enum-told
-    same-length-2
-    returns-2
-    same-length-3
-    returns-3
-    is-finite-requires
-    same-length-4
-    returns-4
-    add-scaled-requires
-    sub-scaled-requires
-    same-length-5
-    returns-5)
+    (tie.spec operator-requires done-requires same-length returns dot-requires enum-known-curvature enum-told same-length-2 returns-2
+    same-length-3 returns-3 is-finite-requires same-length-4 returns-4 add-scaled-requires sub-scaled-requires same-length-5 returns-5)

@@ -34,11 +34,4 @@ returns c =
 pub diagonal-entry-spec : {M : Type 1} → statement M
 diagonal-entry-spec =
     tie.close
-    (tie.spec
-    length-squared-requires
-    apply-requires
-    dot-requires
-    length-squared-requires-2
-    apply-requires-2
-    dot-requires-2
-    returns)
+    (tie.spec length-squared-requires apply-requires dot-requires length-squared-requires-2 apply-requires-2 dot-requires-2 returns)

@@ -80,16 +80,5 @@ returns-3 c =
 pub gradient-pass-spec : {M : Type 1} → statement M
 gradient-pass-spec =
     tie.close
-    (tie.spec
-    residual-test-requires
-    enum-known-end
-    same-length
-    returns
-    enum-told
-    advance-requires
-    done-requires
-    same-length-2
-    returns-2
-    settle-requires
-    same-length-3
-    returns-3)
+    (tie.spec residual-test-requires enum-known-end same-length returns enum-told advance-requires done-requires same-length-2 returns-2
+    settle-requires same-length-3 returns-3)

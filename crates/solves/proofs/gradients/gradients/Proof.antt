@@ -99,19 +99,5 @@ returns-3 c =
 pub gradients-spec : {M : Type 1} → statement M
 gradients-spec =
     tie.close
-    (tie.spec
-    prepare-requires
-    enum-known-rho
-    enum-told
-    new-requires
-    same-length
-    returns
-    tolerance-for-requires
-    enum-known-tolerance
-    enum-told-2
-    new-requires-2
-    same-length-2
-    returns-2
-    search-requires
-    same-length-3
-    returns-3)
+    (tie.spec prepare-requires enum-known-rho enum-told new-requires same-length returns tolerance-for-requires enum-known-tolerance enum-told-2
+    new-requires-2 same-length-2 returns-2 search-requires same-length-3 returns-3)

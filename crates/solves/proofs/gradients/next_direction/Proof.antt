@@ -75,24 +75,5 @@ returns c = direct-is _ (c .before .before .args .beta) (c .before .loop .inv .2
 pub next-direction-spec : {M : Type 1} → statement M
 next-direction-spec =
     tie.close
-    (tie.spec
-    Inv-loop
-    μ-loop
-    loop-holds
-    add-s
-    mul-s
-    slice-read-s
-    add-s-2
-    mul-s-2
-    slice-read-s-2
-    add-s-3
-    mul-s-3
-    slice-read-s-3
-    add-s-4
-    mul-s-4
-    slice-write-s
-    add-k
-    loop-less
-    loop-again
-    same-length
-    returns)
+    (tie.spec Inv-loop μ-loop loop-holds add-s mul-s slice-read-s add-s-2 mul-s-2 slice-read-s-2 add-s-3 mul-s-3 slice-read-s-3 add-s-4 mul-s-4
+    slice-write-s add-k loop-less loop-again same-length returns)

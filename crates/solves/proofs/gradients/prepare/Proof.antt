@@ -142,30 +142,6 @@ returns-3 c = prepared-ends (c .before .before .before .pre) _ (c .before .loop 
 pub prepare-spec : {M : Type 1} → statement M
 prepare-spec =
     tie.close
-    (tie.spec
-    Inv-loop
-    μ-loop
-    loop-holds
-    load-row-requires
-    load-mass-requires
-    load-mass-requires-2
-    diagonal-entry-requires
-    is-finite-requires
-    same-length
-    returns
-    same-length-2
-    returns-2
-    add-r
-    mul-r
-    slice-read-r
-    add-s
-    mul-s
-    slice-write-s
-    add-s-2
-    mul-s-2
-    slice-write-s-2
-    add-k
-    loop-less
-    loop-again
-    same-length-3
-    returns-3)
+    (tie.spec Inv-loop μ-loop loop-holds load-row-requires load-mass-requires load-mass-requires-2 diagonal-entry-requires is-finite-requires
+    same-length returns same-length-2 returns-2 add-r mul-r slice-read-r add-s mul-s slice-write-s add-s-2 mul-s-2 slice-write-s-2 add-k
+    loop-less loop-again same-length-3 returns-3)

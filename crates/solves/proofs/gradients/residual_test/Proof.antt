@@ -44,11 +44,4 @@ returns-3 c =
 pub residual-test-spec : {M : Type 1} → statement M
 residual-test-spec =
     tie.close
-    (tie.spec
-    dot-requires
-    enum-known-square
-    enum-told
-    returns
-    sqrt-requires
-    returns-2
-    returns-3)
+    (tie.spec dot-requires enum-known-square enum-told returns sqrt-requires returns-2 returns-3)

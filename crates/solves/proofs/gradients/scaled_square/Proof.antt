@@ -64,17 +64,5 @@ returns c =
 pub scaled-square-spec : {M : Type 1} → statement M
 scaled-square-spec =
     tie.close
-    (tie.spec
-    Inv-loop
-    μ-loop
-    loop-holds
-    add-r
-    mul-r
-    shared-slice-read-r
-    add-total
-    mul-total
-    shared-slice-read-total
-    add-k
-    loop-less
-    loop-again
+    (tie.spec Inv-loop μ-loop loop-holds add-r mul-r shared-slice-read-r add-total mul-total shared-slice-read-total add-k loop-less loop-again
     returns)

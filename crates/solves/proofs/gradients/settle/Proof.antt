@@ -53,13 +53,5 @@ returns-2 c =
 pub settle-spec : {M : Type 1} → statement M
 settle-spec =
     tie.close
-    (tie.spec
-    true-residual-requires
-    enum-known-end
-    same-length
-    returns
-    enum-told
-    scaled-square-requires
-    next-direction-requires
-    same-length-2
+    (tie.spec true-residual-requires enum-known-end same-length returns enum-told scaled-square-requires next-direction-requires same-length-2
     returns-2)

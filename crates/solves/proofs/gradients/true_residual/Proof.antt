@@ -107,20 +107,5 @@ returns-4 c =
 pub true-residual-spec : {M : Type 1} → statement M
 true-residual-spec =
     tie.close
-    (tie.spec
-    residual-test-requires
-    enum-known-near
-    enum-told
-    same-length
-    returns
-    done-requires
-    same-length-2
-    returns-2
-    operator-requires
-    done-requires-2
-    same-length-3
-    returns-3
-    difference-requires
-    residual-test-requires-2
-    same-length-4
-    returns-4)
+    (tie.spec residual-test-requires enum-known-near enum-told same-length returns done-requires same-length-2 returns-2 operator-requires
+    done-requires-2 same-length-3 returns-3 difference-requires residual-test-requires-2 same-length-4 returns-4)

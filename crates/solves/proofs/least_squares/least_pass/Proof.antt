@@ -252,31 +252,6 @@ returns-7 c =
 pub least-pass-spec : {M : Type 1} → statement M
 least-pass-spec =
     tie.close
-    (tie.spec
-    sqrt-requires
-    returns
-    operator-requires
-    done-requires
-    same-length
-    returns-2
-    dot-requires
-    enum-known-denominator
-    enum-told
-    same-length-2
-    returns-3
-    same-length-3
-    returns-4
-    add-scaled-requires
-    sub-scaled-requires
-    operator-requires-2
-    done-requires-2
-    same-length-4
-    returns-5
-    dot-requires-2
-    enum-known-next
-    enum-told-2
-    same-length-5
-    returns-6
-    add-scaled-requires-2
-    same-length-6
-    returns-7)
+    (tie.spec sqrt-requires returns operator-requires done-requires same-length returns-2 dot-requires enum-known-denominator enum-told
+    same-length-2 returns-3 same-length-3 returns-4 add-scaled-requires sub-scaled-requires operator-requires-2 done-requires-2 same-length-4
+    returns-5 dot-requires-2 enum-known-next enum-told-2 same-length-5 returns-6 add-scaled-requires-2 same-length-6 returns-7)

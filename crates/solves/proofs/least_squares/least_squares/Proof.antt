@@ -146,25 +146,6 @@ returns-4 c =
 pub least-squares-spec : {M : Type 1} → statement M
 least-squares-spec =
     tie.close
-    (tie.spec
-    operator-requires
-    done-requires
-    new-requires
-    same-length
-    returns
-    dot-requires
-    enum-known-norm
-    enum-told
-    new-requires-2
-    same-length-2
-    returns-2
-    tolerance-for-requires
-    enum-known-tolerance
-    enum-told-2
-    new-requires-3
-    same-length-3
-    returns-3
-    copy-requires
-    search-requires
-    same-length-4
-    returns-4)
+    (tie.spec operator-requires done-requires new-requires same-length returns dot-requires enum-known-norm enum-told new-requires-2
+    same-length-2 returns-2 tolerance-for-requires enum-known-tolerance enum-told-2 new-requires-3 same-length-3 returns-3 copy-requires
+    search-requires same-length-4 returns-4)

@@ -88,15 +88,5 @@ returns-3 c =
 pub operator-spec : {M : Type 1} → statement M
 operator-spec =
     tie.close
-    (tie.spec
-    transpose-requires
-    done-requires
-    same-length
-    returns
-    scale-all-requires
-    done-requires-2
-    same-length-2
-    returns-2
-    rates-requires
-    same-length-3
-    returns-3)
+    (tie.spec transpose-requires done-requires same-length returns scale-all-requires done-requires-2 same-length-2 returns-2 rates-requires
+    same-length-3 returns-3)

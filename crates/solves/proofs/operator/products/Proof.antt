@@ -61,17 +61,5 @@ returns c =
 pub products-spec : {M : Type 1} → statement M
 products-spec =
     tie.close
-    (tie.spec
-    Inv-loop
-    μ-loop
-    loop-holds
-    add-total
-    mul-total
-    shared-slice-read-total
-    add-total-2
-    mul-total-2
-    shared-slice-read-total-2
-    add-k
-    loop-less
-    loop-again
-    returns)
+    (tie.spec Inv-loop μ-loop loop-holds add-total mul-total shared-slice-read-total add-total-2 mul-total-2 shared-slice-read-total-2 add-k
+    loop-less loop-again returns)

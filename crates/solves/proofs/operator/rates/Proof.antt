@@ -125,22 +125,5 @@ returns-2 c =
 pub rates-spec : {M : Type 1} → statement M
 rates-spec =
     tie.close
-    (tie.spec
-    Inv-loop
-    μ-loop
-    loop-holds
-    load-row-requires
-    load-generalized-requires
-    load-generalized-requires-2
-    rate-requires
-    add-s
-    mul-s
-    slice-write-s
-    is-finite-requires
-    same-length
-    returns
-    add-k
-    loop-less
-    loop-again
-    same-length-2
-    returns-2)
+    (tie.spec Inv-loop μ-loop loop-holds load-row-requires load-generalized-requires load-generalized-requires-2 rate-requires add-s mul-s
+    slice-write-s is-finite-requires same-length returns add-k loop-less loop-again same-length-2 returns-2)

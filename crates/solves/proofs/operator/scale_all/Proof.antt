@@ -84,20 +84,5 @@ returns-2 c = scale-ends _ _ (c .before .before .before .pre .1) (c .before .loo
 pub scale-all-spec : {M : Type 1} → statement M
 scale-all-spec =
     tie.close
-    (tie.spec
-    Inv-loop
-    μ-loop
-    loop-holds
-    load-generalized-requires
-    load-mass-requires
-    scaled-requires
-    enum-known-g
-    store-generalized-requires
-    enum-told
-    same-length
-    returns
-    add-k
-    loop-less
-    loop-again
-    same-length-2
-    returns-2)
+    (tie.spec Inv-loop μ-loop loop-holds load-generalized-requires load-mass-requires scaled-requires enum-known-g store-generalized-requires
+    enum-told same-length returns add-k loop-less loop-again same-length-2 returns-2)

@@ -34,11 +34,4 @@ returns-3 c = scaled-1 _ _ (c .before .before .scale .ensures) (c .before .is-fi
 pub scaled-spec : {M : Type 1} → statement M
 scaled-spec =
     tie.close
-    (tie.spec
-    scale-requires
-    is-finite-requires
-    apply-requires
-    is-finite-requires-2
-    returns
-    returns-2
-    returns-3)
+    (tie.spec scale-requires is-finite-requires apply-requires is-finite-requires-2 returns returns-2 returns-3)

@@ -58,21 +58,5 @@ returns-3 c = edge-full _ _ _ (c .before .before .if1 .left) (c .if2 .left)
 pub add-edge-spec : {M : Type 1} → statement M
 add-edge-spec =
     tie.close
-    (tie.spec
-    mul-if1
-    mul-if1-2
-    element-copy-out-if1
-    mul-edges
-    mul-edges-2
-    element-write-edges
-    returns
-    mul-if2
-    add-if2
-    mul-if2-2
-    element-copy-out-if2
-    mul-edges-3
-    add-edges
-    mul-edges-4
-    element-write-edges-2
-    returns-2
-    returns-3)
+    (tie.spec mul-if1 mul-if1-2 element-copy-out-if1 mul-edges mul-edges-2 element-write-edges returns mul-if2 add-if2 mul-if2-2
+    element-copy-out-if2 mul-edges-3 add-edges mul-edges-4 element-write-edges-2 returns-2 returns-3)

@@ -43,14 +43,4 @@ returns c =
 pub append-spec : {M : Type 1} → statement M
 append-spec =
     tie.close
-    (tie.spec
-    Inv-loop
-    μ-loop
-    loop-holds
-    mul-rows
-    element-write-rows
-    add-count
-    add-i
-    loop-less
-    loop-again
-    returns)
+    (tie.spec Inv-loop μ-loop loop-holds mul-rows element-write-rows add-count add-i loop-less loop-again returns)

@@ -157,35 +157,6 @@ returns c =
 pub backward-spec : {M : Type 1} → statement M
 backward-spec =
     tie.close
-    (tie.spec
-    Inv-loop
-    μ-loop
-    loop-holds
-    sub-i
-    sub-i-2
-    add-backward-sum
-    mul-backward-sum
-    slice-reshared-read-backward-sum
-    backward-sum-requires
-    mul-value
-    add-value
-    mul-value-2
-    slice-read-value
-    add-s
-    mul-s
-    slice-write-s
-    mul-at
-    element-copy-out-at
-    add-at
-    mul-s-2
-    slice-read-s
-    add-s-2
-    mul-s-3
-    slice-read-s-2
-    mul-s-4
-    slice-write-s-2
-    add-k
-    loop-less
-    loop-again
-    same-length
-    returns)
+    (tie.spec Inv-loop μ-loop loop-holds sub-i sub-i-2 add-backward-sum mul-backward-sum slice-reshared-read-backward-sum backward-sum-requires
+    mul-value add-value mul-value-2 slice-read-value add-s mul-s slice-write-s mul-at element-copy-out-at add-at mul-s-2 slice-read-s add-s-2
+    mul-s-3 slice-read-s-2 mul-s-4 slice-write-s-2 add-k loop-less loop-again same-length returns)

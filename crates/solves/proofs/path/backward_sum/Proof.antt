@@ -43,11 +43,4 @@ returns c =
 pub backward-sum-spec : {M : Type 1} → statement M
 backward-sum-spec =
     tie.close
-    (tie.spec
-    add-from
-    column-line-requires
-    side-line-requires
-    band-end-requires
-    sub-less-products
-    less-products-requires
-    returns)
+    (tie.spec add-from column-line-requires side-line-requires band-end-requires sub-less-products less-products-requires returns)

@@ -61,18 +61,5 @@ returns-4 c =
 pub begins-spec : {M : Type 1} → statement M
 begins-spec =
     tie.close
-    (tie.spec
-    returns
-    mul-if2
-    element-copy-out-if2
-    sub-if2
-    mul-if2-2
-    element-copy-out-if2-2
-    mul-if3
-    element-copy-out-if3
-    sub-if3
-    mul-if3-2
-    element-copy-out-if3-2
-    returns-2
-    returns-3
-    returns-4)
+    (tie.spec returns mul-if2 element-copy-out-if2 sub-if2 mul-if2-2 element-copy-out-if2-2 mul-if3 element-copy-out-if3 sub-if3 mul-if3-2
+    element-copy-out-if3-2 returns-2 returns-3 returns-4)

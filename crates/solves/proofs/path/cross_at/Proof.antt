@@ -55,12 +55,5 @@ returns c =
 pub cross-at-spec : {M : Type 1} → statement M
 cross-at-spec =
     tie.close
-    (tie.spec
-    mul-load-row
-    element-copy-out-load-row
-    load-row-requires
-    mul-load-row-2
-    element-copy-out-load-row-2
-    load-row-requires-2
-    cross-mass-requires
-    returns)
+    (tie.spec mul-load-row element-copy-out-load-row load-row-requires mul-load-row-2 element-copy-out-load-row-2 load-row-requires-2
+    cross-mass-requires returns)

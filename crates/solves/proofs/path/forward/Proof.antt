@@ -119,28 +119,6 @@ returns c =
 pub forward-spec : {M : Type 1} → statement M
 forward-spec =
     tie.close
-    (tie.spec
-    Inv-loop
-    μ-loop
-    loop-holds
-    mul-start
-    element-copy-out-start
-    add-start
-    mul-start-2
-    slice-read-start
-    add-start-2
-    mul-start-3
-    slice-read-start-2
-    forward-sum-requires
-    mul-s
-    add-s
-    mul-s-2
-    slice-read-s
-    add-s-2
-    mul-s-3
-    slice-write-s
-    add-i
-    loop-less
-    loop-again
-    same-length
+    (tie.spec Inv-loop μ-loop loop-holds mul-start element-copy-out-start add-start mul-start-2 slice-read-start add-start-2 mul-start-3
+    slice-read-start-2 forward-sum-requires mul-s add-s mul-s-2 slice-read-s add-s-2 mul-s-3 slice-write-s add-i loop-less loop-again same-length
     returns)

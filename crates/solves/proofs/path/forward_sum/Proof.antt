@@ -41,10 +41,4 @@ returns c =
 pub forward-sum-spec : {M : Type 1} → statement M
 forward-sum-spec =
     tie.close
-    (tie.spec
-    band-start-requires
-    row-line-requires
-    side-line-requires
-    sub-less-products
-    less-products-requires
-    returns)
+    (tie.spec band-start-requires row-line-requires side-line-requires sub-less-products less-products-requires returns)

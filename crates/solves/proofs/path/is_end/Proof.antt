@@ -80,16 +80,5 @@ returns-3 c =
 pub is-end-spec : {M : Type 1} → statement M
 is-end-spec =
     tie.close
-    (tie.spec
-    element-copy-out-if1
-    returns
-    mul-row
-    element-copy-out-row
-    mul-neighbor
-    element-copy-out-neighbor
-    neighbor-requires
-    returns-2
-    mul-neighbor-2
-    element-copy-out-neighbor-2
-    neighbor-requires-2
-    returns-3)
+    (tie.spec element-copy-out-if1 returns mul-row element-copy-out-row mul-neighbor element-copy-out-neighbor neighbor-requires returns-2
+    mul-neighbor-2 element-copy-out-neighbor-2 neighbor-requires-2 returns-3)

@@ -79,17 +79,5 @@ returns c =
 pub less-products-spec : {M : Type 1} → statement M
 less-products-spec =
     tie.close
-    (tie.spec
-    Inv-loop
-    μ-loop
-    loop-holds
-    place-requires
-    mul-value
-    shared-slice-read-value
-    place-requires-2
-    mul-value-2
-    shared-slice-read-value-2
-    add-t
-    loop-less
-    loop-again
-    returns)
+    (tie.spec Inv-loop μ-loop loop-holds place-requires mul-value shared-slice-read-value place-requires-2 mul-value-2 shared-slice-read-value-2
+    add-t loop-less loop-again returns)

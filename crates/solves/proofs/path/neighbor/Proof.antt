@@ -43,16 +43,5 @@ returns-2 c = neighbor-first _ _ _ (c .before .if1 .left)
 pub neighbor-spec : {M : Type 1} → statement M
 neighbor-spec =
     tie.close
-    (tie.spec
-    mul-if1
-    mul-if1-2
-    element-copy-out-if1
-    mul-result
-    add-result
-    mul-result-2
-    element-copy-out-result
-    returns
-    mul-result-3
-    mul-result-4
-    element-copy-out-result-2
-    returns-2)
+    (tie.spec mul-if1 mul-if1-2 element-copy-out-if1 mul-result add-result mul-result-2 element-copy-out-result returns mul-result-3 mul-result-4
+    element-copy-out-result-2 returns-2)

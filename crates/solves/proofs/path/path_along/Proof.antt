@@ -107,19 +107,5 @@ returns-3 c =
 pub path-along-spec : {M : Type 1} → statement M
 path-along-spec =
     tie.close
-    (tie.spec
-    path-factored-requires
-    done-requires
-    new-requires
-    same-length
-    returns
-    tolerance-for-requires
-    enum-known-tolerance
-    enum-told
-    new-requires-2
-    same-length-2
-    returns-2
-    copy-requires
-    refinements-requires
-    same-length-3
-    returns-3)
+    (tie.spec path-factored-requires done-requires new-requires same-length returns tolerance-for-requires enum-known-tolerance enum-told
+    new-requires-2 same-length-2 returns-2 copy-requires refinements-requires same-length-3 returns-3)

@@ -47,14 +47,4 @@ returns c =
 pub path-blocks-spec : {M : Type 1} → statement M
 path-blocks-spec =
     tie.close
-    (tie.spec
-    Inv-loop
-    μ-loop
-    loop-holds
-    note-start-requires
-    add-i
-    loop-less
-    loop-again
-    mul-starts
-    element-write-starts
-    returns)
+    (tie.spec Inv-loop μ-loop loop-holds note-start-requires add-i loop-less loop-again mul-starts element-write-starts returns)

@@ -105,21 +105,5 @@ returns-3 c =
 pub path-edges-spec : {M : Type 1} → statement M
 path-edges-spec =
     tie.close
-    (tie.spec
-    Inv-loop
-    μ-loop
-    loop-holds
-    mul-row
-    element-copy-out-row
-    mul-add-edge
-    element-copy-out-add-edge
-    add-edge-requires
-    returns
-    mul-add-edge-2
-    element-copy-out-add-edge-2
-    add-edge-requires-2
-    returns-2
-    add-k
-    loop-less
-    loop-again
-    returns-3)
+    (tie.spec Inv-loop μ-loop loop-holds mul-row element-copy-out-row mul-add-edge element-copy-out-add-edge add-edge-requires returns
+    mul-add-edge-2 element-copy-out-add-edge-2 add-edge-requires-2 returns-2 add-k loop-less loop-again returns-3)

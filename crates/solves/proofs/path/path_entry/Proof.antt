@@ -172,40 +172,7 @@ returns-5 c =
 pub path-entry-spec : {M : Type 1} → statement M
 path-entry-spec =
     tie.close
-    (tie.spec
-    cross-at-requires
-    enum-known-entry
-    enum-told
-    same-length
-    returns
-    add-reduced
-    mul-reduced
-    slice-reshared-read-reduced
-    add-reduced-2
-    mul-reduced-2
-    slice-reshared-read-reduced-2
-    reduced-requires
-    is-finite-requires
-    same-length-2
-    returns-2
-    same-length-3
-    returns-3
-    sqrt-requires
-    mul-s
-    add-s
-    mul-s-2
-    slice-write-s
-    same-length-4
-    returns-4
-    mul-s-3
-    add-s-2
-    mul-s-4
-    slice-read-s
-    mul-s-5
-    add-s-3
-    sub-s
-    add-s-4
-    mul-s-6
-    slice-write-s-2
-    same-length-5
-    returns-5)
+    (tie.spec cross-at-requires enum-known-entry enum-told same-length returns add-reduced mul-reduced slice-reshared-read-reduced add-reduced-2
+    mul-reduced-2 slice-reshared-read-reduced-2 reduced-requires is-finite-requires same-length-2 returns-2 same-length-3 returns-3 sqrt-requires
+    mul-s add-s mul-s-2 slice-write-s same-length-4 returns-4 mul-s-3 add-s-2 mul-s-4 slice-read-s mul-s-5 add-s-3 sub-s add-s-4 mul-s-6
+    slice-write-s-2 same-length-5 returns-5)

@@ -131,22 +131,5 @@ returns-3 c =
 pub path-factor-spec : {M : Type 1} → statement M
 path-factor-spec =
     tie.close
-    (tie.spec
-    Inv-loop
-    μ-loop
-    mul-clear
-    clear-requires
-    loop-holds
-    path-row-requires
-    enum-told
-    enum-told-2
-    same-length
-    returns
-    enum-told-3
-    same-length-2
-    returns-2
-    add-i
-    loop-less
-    loop-again
-    same-length-3
-    returns-3)
+    (tie.spec Inv-loop μ-loop mul-clear clear-requires loop-holds path-row-requires enum-told enum-told-2 same-length returns enum-told-3
+    same-length-2 returns-2 add-i loop-less loop-again same-length-3 returns-3)

@@ -77,15 +77,5 @@ returns-3 c =
 pub path-factored-spec : {M : Type 1} → statement M
 path-factored-spec =
     tie.close
-    (tie.spec
-    path-scale-requires
-    enum-told
-    path-factor-requires
-    enum-told-2
-    enum-told-3
-    same-length
-    returns
-    same-length-2
-    returns-2
-    same-length-3
-    returns-3)
+    (tie.spec path-scale-requires enum-told path-factor-requires enum-told-2 enum-told-3 same-length returns same-length-2 returns-2
+    same-length-3 returns-3)

@@ -72,14 +72,5 @@ returns-4 c =
 pub path-order-spec : {M : Type 1} → statement M
 path-order-spec =
     tie.close
-    (tie.spec
-    path-blocks-requires
-    path-edges-requires
-    no-path-requires
-    returns
-    path-walks-requires
-    no-path-requires-2
-    returns-2
-    returns-3
-    no-path-requires-3
-    returns-4)
+    (tie.spec path-blocks-requires path-edges-requires no-path-requires returns path-walks-requires no-path-requires-2 returns-2 returns-3
+    no-path-requires-3 returns-4)

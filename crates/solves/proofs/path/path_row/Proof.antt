@@ -121,22 +121,5 @@ returns-3 c =
 pub path-row-spec : {M : Type 1} → statement M
 path-row-spec =
     tie.close
-    (tie.spec
-    Inv-loop
-    μ-loop
-    band-start-requires
-    add-j-end
-    loop-holds
-    path-entry-requires
-    enum-told
-    enum-told-2
-    same-length
-    returns
-    enum-told-3
-    same-length-2
-    returns-2
-    add-j
-    loop-less
-    loop-again
-    same-length-3
-    returns-3)
+    (tie.spec Inv-loop μ-loop band-start-requires add-j-end loop-holds path-entry-requires enum-told enum-told-2 same-length returns enum-told-3
+    same-length-2 returns-2 add-j loop-less loop-again same-length-3 returns-3)

@@ -120,23 +120,5 @@ returns-3 c =
 pub path-scale-spec : {M : Type 1} → statement M
 path-scale-spec =
     tie.close
-    (tie.spec
-    Inv-loop
-    μ-loop
-    loop-holds
-    cross-at-requires
-    enum-known-value
-    enum-told
-    same-length
-    returns
-    same-length-2
-    returns-2
-    sqrt-requires
-    add-s
-    mul-s
-    slice-write-s
-    add-i
-    loop-less
-    loop-again
-    same-length-3
-    returns-3)
+    (tie.spec Inv-loop μ-loop loop-holds cross-at-requires enum-known-value enum-told same-length returns same-length-2 returns-2 sqrt-requires
+    add-s mul-s slice-write-s add-i loop-less loop-again same-length-3 returns-3)

@@ -59,13 +59,4 @@ returns-2 c =
 pub path-walks-spec : {M : Type 1} → statement M
 path-walks-spec =
     tie.close
-    (tie.spec
-    Inv-loop
-    μ-loop
-    loop-holds
-    walk-from-requires
-    returns
-    add-first
-    loop-less
-    loop-again
-    returns-2)
+    (tie.spec Inv-loop μ-loop loop-holds walk-from-requires returns add-first loop-less loop-again returns-2)

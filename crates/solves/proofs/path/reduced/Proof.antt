@@ -43,10 +43,4 @@ returns c =
 pub reduced-spec : {M : Type 1} → statement M
 reduced-spec =
     tie.close
-    (tie.spec
-    band-start-requires
-    row-line-requires
-    row-line-requires-2
-    sub-less-products
-    less-products-requires
-    returns)
+    (tie.spec band-start-requires row-line-requires row-line-requires-2 sub-less-products less-products-requires returns)

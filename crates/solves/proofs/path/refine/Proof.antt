@@ -92,13 +92,4 @@ returns-2 c =
 pub refine-spec : {M : Type 1} → statement M
 refine-spec =
     tie.close
-    (tie.spec
-    forward-requires
-    backward-requires
-    operator-requires
-    done-requires
-    same-length
-    returns
-    difference-requires
-    same-length-2
-    returns-2)
+    (tie.spec forward-requires backward-requires operator-requires done-requires same-length returns difference-requires same-length-2 returns-2)

@@ -142,25 +142,5 @@ returns-3 c =
 pub refinements-spec : {M : Type 1} → statement M
 refinements-spec =
     tie.close
-    (tie.spec
-    Inv-loop
-    μ-loop
-    loop-holds
-    refine-requires
-    done-requires
-    new-requires
-    same-length
-    returns
-    residual-test-requires
-    enum-known-end
-    add-new
-    new-requires-2
-    same-length-2
-    returns-2
-    enum-told
-    add-k
-    loop-less
-    loop-again
-    new-requires-3
-    same-length-3
-    returns-3)
+    (tie.spec Inv-loop μ-loop loop-holds refine-requires done-requires new-requires same-length returns residual-test-requires enum-known-end
+    add-new new-requires-2 same-length-2 returns-2 enum-told add-k loop-less loop-again new-requires-3 same-length-3 returns-3)

@@ -143,28 +143,6 @@ returns-3 c =
 pub walk-spec : {M : Type 1} → statement M
 walk-spec =
     tie.close
-    (tie.spec
-    Inv-loop
-    μ-loop
-    loop-holds
-    element-copy-out-if1
-    returns
-    element-write-visited
-    mul-row
-    element-copy-out-row
-    add-append
-    mul-append
-    element-copy-out-append
-    append-requires
-    mul-neighbor
-    element-copy-out-neighbor
-    neighbor-requires
-    mul-neighbor-2
-    element-copy-out-neighbor-2
-    neighbor-requires-2
-    next-block-requires
-    returns-2
-    add-k
-    loop-less
-    loop-again
-    returns-3)
+    (tie.spec Inv-loop μ-loop loop-holds element-copy-out-if1 returns element-write-visited mul-row element-copy-out-row add-append mul-append
+    element-copy-out-append append-requires mul-neighbor element-copy-out-neighbor neighbor-requires mul-neighbor-2 element-copy-out-neighbor-2
+    neighbor-requires-2 next-block-requires returns-2 add-k loop-less loop-again returns-3)

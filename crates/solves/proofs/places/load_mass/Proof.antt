@@ -48,16 +48,5 @@ returns c =
 pub load-mass-spec : {M : Type 1} → statement M
 load-mass-spec =
     tie.close
-    (tie.spec
-    mul-i
-    add-i
-    add-load3
-    load3-requires
-    add-load3-2
-    load3-requires-2
-    add-load3-3
-    load3-requires-3
-    mul-t8
-    shared-slice-read-t10
-    from-cols-requires
-    returns)
+    (tie.spec mul-i add-i add-load3 load3-requires add-load3-2 load3-requires-2 add-load3-3 load3-requires-3 mul-t8 shared-slice-read-t10
+    from-cols-requires returns)

@@ -39,14 +39,4 @@ returns c = stored3 _ _ _ (c .pre)
 pub store3-spec : {M : Type 1} → statement M
 store3-spec =
     tie.close
-    (tie.spec
-    mul-s
-    slice-write-s
-    add-s
-    mul-s-2
-    slice-write-s-2
-    add-s-2
-    mul-s-3
-    slice-write-s-3
-    same-length
-    returns)
+    (tie.spec mul-s slice-write-s add-s mul-s-2 slice-write-s-2 add-s-2 mul-s-3 slice-write-s-3 same-length returns)

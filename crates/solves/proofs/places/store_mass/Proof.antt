@@ -83,16 +83,5 @@ returns c =
 pub store-mass-spec : {M : Type 1} → statement M
 store-mass-spec =
     tie.close
-    (tie.spec
-    mul-i
-    add-i
-    mul-s
-    slice-write-s
-    add-store3
-    store3-requires
-    add-store3-2
-    store3-requires-2
-    add-store3-3
-    store3-requires-3
-    same-length
-    returns)
+    (tie.spec mul-i add-i mul-s slice-write-s add-store3 store3-requires add-store3-2 store3-requires-2 add-store3-3 store3-requires-3
+    same-length returns)

@@ -35,12 +35,4 @@ returns-2 c = sym (ap (λ (w : Which). limitOf w (c .before .before .args .n)) (
 pub limit-spec : {M : Type 1} → statement M
 limit-spec =
     tie.close
-    (tie.spec
-    enum-told
-    mul-result
-    add-result
-    enum-told-2
-    mul-result-2
-    add-result-2
-    returns
-    returns-2)
+    (tie.spec enum-told mul-result add-result enum-told-2 mul-result-2 add-result-2 returns returns-2)

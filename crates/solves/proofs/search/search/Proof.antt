@@ -118,20 +118,5 @@ returns-2 c =
 pub search-spec : {M : Type 1} → statement M
 search-spec =
     tie.close
-    (tie.spec
-    Inv-loop
-    μ-loop
-    limit-requires
-    loop-holds
-    search-pass-requires
-    enum-known-next
-    enum-known-end
-    new-requires
-    same-length
-    returns
-    add-k
-    loop-less
-    loop-again
-    new-requires-2
-    same-length-2
-    returns-2)
+    (tie.spec Inv-loop μ-loop limit-requires loop-holds search-pass-requires enum-known-next enum-known-end new-requires same-length returns
+    add-k loop-less loop-again new-requires-2 same-length-2 returns-2)

@@ -57,12 +57,4 @@ returns-2 c =
 pub search-pass-spec : {M : Type 1} → statement M
 search-pass-spec =
     tie.close
-    (tie.spec
-    enum-told
-    least-pass-requires
-    enum-told-2
-    gradient-pass-requires
-    same-length
-    returns
-    same-length-2
-    returns-2)
+    (tie.spec enum-told least-pass-requires enum-told-2 gradient-pass-requires same-length returns same-length-2 returns-2)

@@ -107,16 +107,5 @@ returns-3 c =
 pub linear-solve-spec : {M : Type 1} → statement M
 linear-solve-spec =
     tie.close
-    (tie.spec
-    clear-requires
-    copy-requires
-    least-squares-requires
-    same-length
-    returns
-    path-order-requires
-    gradients-requires
-    same-length-2
-    returns-2
-    path-along-requires
-    same-length-3
-    returns-3)
+    (tie.spec clear-requires copy-requires least-squares-requires same-length returns path-order-requires gradients-requires same-length-2
+    returns-2 path-along-requires same-length-3 returns-3)

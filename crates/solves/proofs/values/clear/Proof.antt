@@ -46,15 +46,4 @@ returns c = filled-all (omega arith) (omega arith) (c .before .loop .inv .2)
 pub clear-spec : {M : Type 1} → statement M
 clear-spec =
     tie.close
-    (tie.spec
-    Inv-loop
-    μ-loop
-    loop-holds
-    add-s
-    mul-s
-    slice-write-s
-    add-k
-    loop-less
-    loop-again
-    same-length
-    returns)
+    (tie.spec Inv-loop μ-loop loop-holds add-s mul-s slice-write-s add-k loop-less loop-again same-length returns)

@@ -62,18 +62,4 @@ returns c = copied (c .before .before .args .from) (c .before .loop .inv .2) (om
 pub copy-spec : {M : Type 1} → statement M
 copy-spec =
     tie.close
-    (tie.spec
-    Inv-loop
-    μ-loop
-    loop-holds
-    add-s
-    mul-s
-    slice-read-s
-    add-s-2
-    mul-s-2
-    slice-write-s
-    add-k
-    loop-less
-    loop-again
-    same-length
-    returns)
+    (tie.spec Inv-loop μ-loop loop-holds add-s mul-s slice-read-s add-s-2 mul-s-2 slice-write-s add-k loop-less loop-again same-length returns)

@@ -79,21 +79,5 @@ returns c =
 pub sub-scaled-spec : {M : Type 1} → statement M
 sub-scaled-spec =
     tie.close
-    (tie.spec
-    Inv-loop
-    μ-loop
-    loop-holds
-    add-s
-    mul-s
-    slice-read-s
-    add-s-2
-    mul-s-2
-    slice-read-s-2
-    add-s-3
-    mul-s-3
-    slice-write-s
-    add-k
-    loop-less
-    loop-again
-    same-length
-    returns)
+    (tie.spec Inv-loop μ-loop loop-holds add-s mul-s slice-read-s add-s-2 mul-s-2 slice-read-s-2 add-s-3 mul-s-3 slice-write-s add-k loop-less
+    loop-again same-length returns)
