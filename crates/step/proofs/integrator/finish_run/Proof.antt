@@ -38,7 +38,10 @@ returns c =
 velocity-loop-requires : tie.Need-velocity-loop-requires
 velocity-loop-requires c κs =
     let at-prepare-masses = c .before .before .before .before .before in let at-entry = at-prepare-masses .before .before .before .before in
-    record { ready = rows-at (at-entry .pre .0 .ready) (at-prepare-masses .prepare-masses .ensures .kept .size); long = omega (arith, at-entry .pre .0 .long, at-prepare-masses .prepare-masses .ensures .kept .size) }
+    record {
+      ready = rows-at (at-entry .pre .0 .ready) (at-prepare-masses .prepare-masses .ensures .kept .size);
+      long = omega (arith, at-entry .pre .0 .long, at-prepare-masses .prepare-masses .ensures .kept .size);
+    }
 
 done-requires-2 : tie.Need-done-requires-2
 done-requires-2 c κs = search needs

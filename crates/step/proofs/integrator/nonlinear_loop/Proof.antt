@@ -40,7 +40,13 @@ loop-holds c =
 nonlinear-pass-requires : tie.Need-nonlinear-pass-requires Inv-loop μ-loop
 nonlinear-pass-requires c κs =
     let at-loop = c .before .before in let at-clear = at-loop .before .before .before in let at-entry = at-clear .before .before .before in (
-      record { ours = record { ready = rows-at (at-entry .pre .0 .ours .ready) (at-loop .loop .inv .1 ∙ at-clear .clear .ensures .kept .size); long = omega (arith, at-entry .pre .0 .ours .long, at-loop .loop .inv .1, at-clear .clear .ensures .kept .size) }; apart = at-entry .pre .0 .apart },
+      record {
+        ours = record {
+          ready = rows-at (at-entry .pre .0 .ours .ready) (at-loop .loop .inv .1 ∙ at-clear .clear .ensures .kept .size);
+          long = omega (arith, at-entry .pre .0 .ours .long, at-loop .loop .inv .1, at-clear .clear .ensures .kept .size);
+        };
+        apart = at-entry .pre .0 .apart;
+      },
       at-entry .pre .1,
     )
 

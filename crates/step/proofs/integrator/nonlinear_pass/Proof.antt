@@ -65,7 +65,13 @@ correct-requires : tie.Need-correct-requires
 correct-requires c κs =
     let at-slice-known2 = c .before .before .before .before .before .before in let at-candidate = at-slice-known2 .before .before in
     let at-entry = at-candidate .before .before .before in
-    record { ours = record { ready = rows-at (at-entry .pre .0 .ours .ready) (at-candidate .candidate .ensures .0 .kept .size); long = omega (arith, at-entry .pre .0 .ours .long, at-candidate .candidate .ensures .0 .kept .size) }; apart = at-entry .pre .0 .apart }
+    record {
+      ours = record {
+        ready = rows-at (at-entry .pre .0 .ours .ready) (at-candidate .candidate .ensures .0 .kept .size);
+        long = omega (arith, at-entry .pre .0 .ours .long, at-candidate .candidate .ensures .0 .kept .size);
+      };
+      apart = at-entry .pre .0 .apart;
+    }
 
 same-length-3 : tie.Need-same-length-3
 same-length-3 c =

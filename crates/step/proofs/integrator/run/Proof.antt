@@ -53,7 +53,16 @@ nonlinear-loop-requires : tie.Need-nonlinear-loop-requires
 nonlinear-loop-requires c κs =
     let at-s = c .before .before .before .before .before .before in let at-start = at-s .before in
     let at-row-bodies = at-start .before .before .before .before in let at-entry = at-row-bodies .before .before .before .before .before in (
-      record { ours = record { ready = rows-of _ (omega arith) (omega (arith, at-entry .pre .0, (at-start .start .ensures _ _ (at-row-bodies .row-bodies .ensures .1)) .kept .size)) (at-entry .pre .1) (at-row-bodies .row-bodies .ensures .0); long = omega (arith, at-entry .pre .0, (at-start .start .ensures _ _ (at-row-bodies .row-bodies .ensures .1)) .kept .size) }; apart = omega arith },
+      record {
+        ours = record {
+          ready =
+              rows-of _ (omega arith)
+              (omega (arith, at-entry .pre .0, (at-start .start .ensures _ _ (at-row-bodies .row-bodies .ensures .1)) .kept .size))
+              (at-entry .pre .1) (at-row-bodies .row-bodies .ensures .0);
+          long = omega (arith, at-entry .pre .0, (at-start .start .ensures _ _ (at-row-bodies .row-bodies .ensures .1)) .kept .size);
+        };
+        apart = omega arith;
+      },
       record { joined = at-entry .pre .1; sides = at-row-bodies .row-bodies .ensures .1; rows-are = at-row-bodies .row-bodies .ensures .2 },
     )
 
@@ -85,7 +94,24 @@ finish-run-requires c κs =
     let at-s2 = c .before .before .before .before .before .before in let at-nonlinear-loop = at-s2 .before in
     let at-slice-known2 = at-nonlinear-loop .before .before .before .before .before .before in let at-start = at-slice-known2 .before .before in
     let at-row-bodies = at-start .before .before .before .before in let at-entry = at-row-bodies .before .before .before .before .before in (
-      record { ready = rows-of _ (omega arith) (omega (arith, at-entry .pre .0, at-nonlinear-loop .nonlinear-loop .ensures .kept .size, (at-start .start .ensures _ _ (at-row-bodies .row-bodies .ensures .1)) .kept .size)) (at-entry .pre .1) (at-row-bodies .row-bodies .ensures .0); long = omega (arith, at-entry .pre .0, at-nonlinear-loop .nonlinear-loop .ensures .kept .size, (at-start .start .ensures _ _ (at-row-bodies .row-bodies .ensures .1)) .kept .size) },
+      record {
+        ready =
+            rows-of _ (omega arith)
+            (omega (
+              arith,
+              at-entry .pre .0,
+              at-nonlinear-loop .nonlinear-loop .ensures .kept .size,
+              (at-start .start .ensures _ _ (at-row-bodies .row-bodies .ensures .1)) .kept .size,
+            )) (at-entry .pre .1)
+            (at-row-bodies .row-bodies .ensures .0);
+        long =
+            omega (
+              arith,
+              at-entry .pre .0,
+              at-nonlinear-loop .nonlinear-loop .ensures .kept .size,
+              (at-start .start .ensures _ _ (at-row-bodies .row-bodies .ensures .1)) .kept .size,
+            );
+      },
       omega arith,
     )
 

@@ -33,7 +33,10 @@ returns c =
 apply-requires : tie.Need-apply-requires
 apply-requires c κs =
     let at-linear-solve = c .before .before .before .before .before in let at-entry = at-linear-solve .before .before .before in
-    record { ready = rows-at (at-entry .pre .ready) (at-linear-solve .linear-solve .ensures .kept .size); long = omega (arith, at-entry .pre .long, at-linear-solve .linear-solve .ensures .kept .size) }
+    record {
+      ready = rows-at (at-entry .pre .ready) (at-linear-solve .linear-solve .ensures .kept .size);
+      long = omega (arith, at-entry .pre .long, at-linear-solve .linear-solve .ensures .kept .size);
+    }
 
 done-requires-2 : tie.Need-done-requires-2
 done-requires-2 c κs = search needs

@@ -58,7 +58,10 @@ correct-velocities-requires : tie.Need-correct-velocities-requires
 correct-velocities-requires c κs =
     let at-slice-known2 = c .before .before .before .before .before .before in let at-velocity-rhs = at-slice-known2 .before .before in
     let at-entry = at-velocity-rhs .before .before .before in
-    record { ready = rows-at (at-entry .pre .ready) (at-velocity-rhs .velocity-rhs .ensures .kept .size); long = omega (arith, at-entry .pre .long, at-velocity-rhs .velocity-rhs .ensures .kept .size) }
+    record {
+      ready = rows-at (at-entry .pre .ready) (at-velocity-rhs .velocity-rhs .ensures .kept .size);
+      long = omega (arith, at-entry .pre .long, at-velocity-rhs .velocity-rhs .ensures .kept .size);
+    }
 
 same-length-3 : tie.Need-same-length-3
 same-length-3 c =
