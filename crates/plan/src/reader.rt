@@ -40,7 +40,7 @@ pub struct Reading {
 }
 
 // What stands at the head of a part of the file. A joint comes with its length in bytes, which goes by its kind.
-pub enum Found {
+enum Found {
     End,
     Refused(ReadOutcome),
     TimeStep,

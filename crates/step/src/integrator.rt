@@ -60,10 +60,12 @@ ghost use Rattle.solves.specs.View.{ROWS, MASSES, RHS, SOLUTION, GENERALIZED, r
 ghost use Rattle.solves.specs.Layout.{MASS-TABLE};
 ghost use Rattle.step.specs.Layout.{IMPULSES, START, CANDIDATE, USED, BODIES, STATES};
 ghost use Rattle.step.specs.Records.{bodyCount, recordAt, recordsOf};
-ghost use Rattle.step.specs.Bodies.{startBodies, massResponse, prepareMasses, kickAndDrift, moveBodies, rowsMet, rhsOf, addImpulses, candidateOf, statesOf};
+ghost use Rattle.step.specs.Bodies.{startBodies, massResponse, prepareMasses, kickAndDrift, moveBodies, rowsMet, rhsOf};
+ghost use Rattle.step.specs.Bodies.{addImpulses, candidateOf, statesOf};
 ghost use Rattle.step.specs.Step.{nonlinearPass, nonlinearLoop, finishOf, runFor};
 ghost use Rattle.step.specs.View.{startBodyAt, candidateAt, startBodiesAt, candidatesAt, statesAt};
-ghost use Rattle.step.specs.RunView.{bodiesAt, impulsesAt, candidateTable, jobFor, rowsBefore, Sides, Ours, Starting, Joins, massAs, leftAs, impulsesBy};
+ghost use Rattle.step.specs.RunView.{bodiesAt, impulsesAt, candidateTable, jobFor, rowsBefore, Sides, Ours, Starting};
+ghost use Rattle.step.specs.RunView.{Joins, massAs, leftAs, impulsesBy};
 ghost use Rattle.step.specs.Says.{Leaves, Writes, Impels, Finds, Tries, Meets, Finishes, Starts};
 ghost use Rattle.step.specs.Ready.{Joined, RowBodies, Spread};
 
