@@ -1,5 +1,6 @@
 -- The code's answers as the definitions' results.
 use Prim.Native.Nat.{ℕ, _+_, _*_}
+use mathlib.Core.Path.{_≡_}
 use mathlib.Core.Bool.{Bool, true, false, cond}
 use mathlib.Core.List.{List}
 use lib.Ieee.{Float}
@@ -7,6 +8,7 @@ use Rattle.arith.specs.Flow.{Turn, go, stop}
 use Rattle.arith.specs.Run.{ran, over}
 use Rattle.rows.specs.declared.geometry.EqualityRow.{EqualityRow}
 use Rattle.rows.specs.Fault.{nonConvergent, arithmeticOverflow, number, Result}
+use Rattle.rows.specs.Answer.{refusalNumber}
 use Rattle.solves.specs.declared.Sum.{Sum}
 use Rattle.solves.specs.declared.Sum.the-variants as Sums
 use Rattle.solves.specs.declared.End.{End}
@@ -110,23 +112,28 @@ abbrev pub orderIn : Turn Seen (Unit {0}) → Turn (List ℕ) (Unit {0})
 orderIn (go seen) = go (seen .order)
 orderIn (stop _) = stop tt
 
--- ---- SPECIFICATION's numbers: 0 where nothing failed, and the fault's number
-abbrev pub resultNumber : {A : Type 0} → Result A → ℕ
-resultNumber (go _) = 0
-resultNumber (stop fault) = number fault
-
+-- ---- SPECIFICATION's number of an answer: 0 where nothing failed, and the fault's number
 abbrev pub endNumber : End → ℕ
 endNumber Ends.Done = 0
 endNumber Ends.NonConvergent = number nonConvergent
 endNumber Ends.ArithmeticOverflow = number arithmeticOverflow
 
--- ---- what the two calls say that the step takes. The number of an answer follows from its equation (DoesLaws `ran-number`).
+-- it is that of the result d that is defined
+abbrev pub Numbered : {A : Type 0} → End → Result A → Type 0
+Numbered r d = endNumber r ≡ refusalNumber d
+
+-- ---- what the two calls say that the step takes, each with the number of its answer
 -- `transpose`: the bodies' shares of the rows at entry, as f says, or the fault; no more than the shares is touched
 abbrev pub Pushes : Lent Float → Lent ℕ → Lent ℕ → Table → End → (List EqualityRow → Result (List Generalized)) → Type 0
 Pushes s ia ib t r f =
-    Does Shares (came s) (left s) (ranAs r (sharesIn (left s) (t .bodies))) (f (rowsOn (came ia) (came ib) (came s) (t .place) (t .rows)))
+    let defined = f (rowsOn (came ia) (came ib) (came s) (t .place) (t .rows)) in
+    (Does Shares (came s) (left s) (ranAs r (sharesIn (left s) (t .bodies))) defined) × (Numbered r defined)
 
 -- a linear solve: the system at entry is solved as f says, the solution stands at exit, and no more than `Work` is touched
 abbrev pub Solves : Lent Float → Lent ℕ → Lent ℕ → Table → Ended → (System → Counting (List Float)) → Type 0
 Solves s ia ib t r f =
     Does Work (came s) (left s) (endedAs r (vecAt (left s) SOLUTION (t .rows))) (f (systemIn s ia ib t))
+
+-- `linear_solve`
+abbrev pub SolvesNumbered : Lent Float → Lent ℕ → Lent ℕ → Table → Ended → (System → Counting (List Float)) → Type 0
+SolvesNumbered s ia ib t r f = (Solves s ia ib t r f) × (Numbered (r .end) (f (systemIn s ia ib t) .ends))

@@ -1,4 +1,4 @@
--- How what functions do composes: `?` after a call, and the frames with it. From an answer's case to the definition's result.
+-- How what functions do composes: `?` after a call, and the frames with it. From an answer's case to the definition's result, and its number.
 use Prim.Native.Nat.{ℕ}
 use mathlib.Core.Path.{_≡_, refl, sym, _∙_, ap}
 use mathlib.Core.Bool.{Bool, true, false, not}
@@ -12,6 +12,7 @@ use Rattle.arith.specs.Run.{over}
 use Rattle.vectors.specs.declared.vector.Vec3.{Vec3}
 use Rattle.vectors.specs.Vector.{finiteOf}
 use Rattle.rows.specs.Fault.{Fault, nonConvergent, arithmeticOverflow, Result, tryFinite}
+use Rattle.rows.specs.Answer.{refusalNumber}
 use Rattle.rows.specs.Region.{kept-then, kept-more}
 use Rattle.solves.specs.declared.places.Generalized.{Generalized}
 use Rattle.solves.specs.declared.Sum.{Sum}
@@ -20,9 +21,11 @@ use Rattle.solves.specs.declared.operator.Share.{Share}
 use Rattle.solves.specs.declared.operator.Share.the-variants as Shares
 use Rattle.solves.specs.declared.End.{End}
 use Rattle.solves.specs.declared.End.the-variants as Ends
+use Rattle.solves.specs.declared.Ended.{Ended}
+use Rattle.solves.specs.System.{Counting}
 use Rattle.solves.specs.Region.{Does}
 use Rattle.solves.specs.Solver.{tryNumber}
-use Rattle.solves.specs.Answer.{sumAs, shareAs, ranAs, isDone, endNumber, resultNumber}
+use Rattle.solves.specs.Answer.{sumAs, shareAs, ranAs, endedAs, isDone, Numbered}
 
 -- tests
 pub finite-yes : {v w : Vec3} {b : Bool} → w ≡ v → b ≡ finiteOf w → b ≡ true → go w ≡ tryFinite v
@@ -76,13 +79,22 @@ ran-failed x Ends.NonConvergent h = refl
 ran-failed x Ends.ArithmeticOverflow h = refl
 
 -- the number of an answer is its result's
-pub ran-number : {A : Type 0} (x : A) (r : End) {R : Result A} → ranAs r x ≡ R → endNumber r ≡ resultNumber R
-ran-number x r e = here r ∙ ap resultNumber e
+pub ran-number : {A : Type 0} (x : A) (r : End) {R : Result A} → ranAs r x ≡ R → Numbered r R
+ran-number x r e = here r ∙ ap refusalNumber e
   where
-    here : (r : End) → endNumber r ≡ resultNumber (ranAs r x)
+    here : (r : End) → Numbered r (ranAs r x)
     here Ends.Done = refl
     here Ends.NonConvergent = refl
     here Ends.ArithmeticOverflow = refl
+
+module _ {A : Type 0} {P : ℕ → Type 0} {s t : List Float} (x : A) where
+  -- a call that the step takes, and its number
+  pub does-numbered : (r : End) {R : Result A} → Does P s t (ranAs r x) R → (Does P s t (ranAs r x) R) × (Numbered r R)
+  does-numbered r d = (d, ran-number x r (d .is))
+
+  -- and a solve
+  pub solves-numbered : (r : Ended) {R : Counting A} → Does P s t (endedAs r x) R → (Does P s t (endedAs r x) R) × (Numbered (r .end) (R .ends))
+  solves-numbered r d = (d, ran-number x (r .end) (ap (λ (c : Counting A). c .ends) (d .is)))
 
 -- the code asked `done`, which answered b
 module _ {A : Type 0} (x : A) (r : End) {b : Bool} (eb : b ≡ isDone r)

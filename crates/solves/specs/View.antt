@@ -85,7 +85,7 @@ preparedAt s n rho = record { diagonal = vecAt s DIAGONAL n; direction = vecAt s
 
 -- ---- what a call may write, and what it leaves free there
 -- No caller can see what is free: every call writes a table before it reads it, the step reads of a solution only the first n of one that was
--- found and of the shares only those of its bodies that a transpose made, and it sets the whole scratch to zero before it answers.
+-- found and of the shares only those of its bodies that a transpose made, and it sets the scratch's first 6,144 doubles to zero before it answers.
 -- Outside of one vector, and of the bodies' shares. A transpose leaves free: the shares behind the last body and, where it overflows, all.
 abbrev pub Beside : ℕ → ℕ → Type 0
 Beside off i = Out off VECTOR i

@@ -11,7 +11,7 @@ use crate::path::path_order;
 use crate::values::clear;
 use crate::values::copy;
 ghost use Rattle.solves.specs.Search.{linearSolve};
-ghost use Rattle.solves.specs.Answer.{Solves};
+ghost use Rattle.solves.specs.Answer.{SolvesNumbered};
 ghost use Rattle.solves.specs.View.{rhsOn, Ready};
 
 pub fn linear_solve(
@@ -22,7 +22,7 @@ pub fn linear_solve(
     cyclic: bool,
 ) -> Ended
     requires { ⌜ Ready s ia ib t ⌝ }
-    ensures { λ r. ⌜ Solves s ia ib t r (λ system. linearSolve cyclic system (rhsOn s t)) ⌝ }
+    ensures { λ r. ⌜ SolvesNumbered s ia ib t r (λ system. linearSolve cyclic system (rhsOn s t)) ⌝ }
 {
     let n = t.rows;
     clear(s, SOLUTION, n);

@@ -18,7 +18,7 @@ done-requires c κs = omega arith
 same-length : tie.Need-same-length
 same-length c =
     let at-transpose = c .before .before .before .before in
-    at-transpose .transpose .ensures .kept .size
+    at-transpose .transpose .ensures .0 .kept .size
 
 returns : tie.Need-returns
 returns c =
@@ -28,7 +28,7 @@ returns c =
     let end = at-transpose .transpose .result in
     does-eq (fails _ end (at-done .done .ensures) (c .if1 .taken))
     (operator-pushes-failed (start .args .t) (start .pre .0) (start .args .input) (start .args .out)
-    (failed _ end (at-done .done .ensures) (at-transpose .transpose .ensures) (c .if1 .taken)))
+    (failed _ end (at-done .done .ensures) (at-transpose .transpose .ensures .0) (c .if1 .taken)))
 
 scale-all-requires : tie.Need-scale-all-requires
 scale-all-requires c κs = omega arith
@@ -40,7 +40,7 @@ same-length-2 : tie.Need-same-length-2
 same-length-2 c =
     let at-scale-all = c .before .before .before .before in
     let at-transpose = at-scale-all .before .before .before .before .before .before in
-    at-scale-all .scale-all .ensures .kept .size ∙ at-transpose .transpose .ensures .kept .size
+    at-scale-all .scale-all .ensures .kept .size ∙ at-transpose .transpose .ensures .0 .kept .size
 
 returns-2 : tie.Need-returns-2
 returns-2 c =
@@ -52,7 +52,7 @@ returns-2 c =
     let end = at-scale-all .scale-all .result in
     does-eq (fails _ end (at-done2 .done2 .ensures) (c .if2 .taken))
     (operator-scales-failed (start .args .t) (start .pre .0) (start .args .input) (start .args .out)
-    (went _ (at-transpose .transpose .result) (at-done .done .ensures) (at-transpose .transpose .ensures) (at-scale-all .before .before .if1 .left))
+    (went _ (at-transpose .transpose .result) (at-done .done .ensures) (at-transpose .transpose .ensures .0) (at-scale-all .before .before .if1 .left))
     (failed _ end (at-done2 .done2 .ensures) (at-scale-all .scale-all .ensures) (c .if2 .taken)))
 
 rates-requires : tie.Need-rates-requires
@@ -60,7 +60,7 @@ rates-requires c κs =
     let at-scale-all = c .before .before .before .before .before in
     let at-transpose = at-scale-all .before .before .before .before .before .before in
     let start = at-transpose .before .before .before in
-    let size = at-scale-all .scale-all .ensures .kept .size ∙ at-transpose .transpose .ensures .kept .size in (
+    let size = at-scale-all .scale-all .ensures .kept .size ∙ at-transpose .transpose .ensures .0 .kept .size in (
       rows-kept (start .pre .0) size,
       record
           { low = start .pre .2 .low; apart = start .pre .2 .apart; there = omega (arith, size, start .pre .2 .there) },
@@ -71,7 +71,7 @@ same-length-3 c =
     let at-slice-known3 = c .before .before .before .before .before .before in
     let at-scale-all = at-slice-known3 .before .before in
     let at-transpose = at-scale-all .before .before .before .before .before .before in
-    c .before .before .rates .ensures .kept .size ∙ at-scale-all .scale-all .ensures .kept .size ∙ at-transpose .transpose .ensures .kept .size
+    c .before .before .rates .ensures .kept .size ∙ at-scale-all .scale-all .ensures .kept .size ∙ at-transpose .transpose .ensures .0 .kept .size
 
 returns-3 : tie.Need-returns-3
 returns-3 c =
@@ -81,7 +81,7 @@ returns-3 c =
     let at-transpose = at-done .before .before .before in
     let start = at-transpose .before .before .before in
     operator-rates (start .args .t) (start .pre .0) (start .args .input) (start .args .out)
-    (went _ (at-transpose .transpose .result) (at-done .done .ensures) (at-transpose .transpose .ensures) (at-scale-all .before .before .if1 .left))
+    (went _ (at-transpose .transpose .result) (at-done .done .ensures) (at-transpose .transpose .ensures .0) (at-scale-all .before .before .if1 .left))
     (went _ (at-scale-all .scale-all .result) (at-if2 .before .done2 .ensures) (at-scale-all .scale-all .ensures) (at-if2 .if2 .left))
     (c .before .before .rates .ensures)
 

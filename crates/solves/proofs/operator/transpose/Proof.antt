@@ -5,6 +5,8 @@ use Prim.Native.Nat.{_≤_, _-_}
 use lib.ListN.{length}
 use Rattle.arith.specs.Flow.{loop}
 use Rattle.arith.specs.FlowLaws.{cond-yes, cond-no}
+use Rattle.solves.specs.declared.End.the-variants as Ends
+use Rattle.solves.specs.DoesLaws.{does-numbered}
 use Rattle.solves.specs.Region.{vecAt, Does}
 use Rattle.solves.specs.View.{rowsOn, sharesIn, Shares}
 use Rattle.solves.specs.Checked.{checked}
@@ -152,9 +154,10 @@ returns c =
     let at-loop = at-test .before in
     let at-clear = at-loop .before .before .before in
     let start = at-clear .before .before .before in
-    transpose-from (start .pre .0) (start .pre .1) _ (at-clear .clear .ensures)
+    does-numbered (sharesIn (at-loop .loop .s) (start .args .t .bodies)) Ends.Done
+    (transpose-from (start .pre .0) (start .pre .1) _ (at-clear .clear .ensures)
     (transpose-ends (start .pre .0) (start .pre .1) _ (cond-yes _ _ (sym (c .before .shares-finite .ensures) ∙ c .if1 .taken))
-    (at-loop .loop .inv .2) (omega arith) (at-test .loop-test .left))
+    (at-loop .loop .inv .2) (omega arith) (at-test .loop-test .left)))
 
 same-length-2 : tie.Need-same-length-2 Inv-loop μ-loop
 same-length-2 c =
@@ -168,9 +171,10 @@ returns-2 c =
     let at-loop = at-test .before in
     let at-clear = at-loop .before .before .before in
     let start = at-clear .before .before .before in
-    transpose-from (start .pre .0) (start .pre .1) _ (at-clear .clear .ensures)
+    does-numbered (sharesIn (at-loop .loop .s) (start .args .t .bodies)) Ends.ArithmeticOverflow
+    (transpose-from (start .pre .0) (start .pre .1) _ (at-clear .clear .ensures)
     (transpose-ends (start .pre .0) (start .pre .1) _ (cond-no _ _ (sym (c .before .shares-finite .ensures) ∙ c .if1 .left))
-    (at-loop .loop .inv .2) (omega arith) (at-test .loop-test .left))
+    (at-loop .loop .inv .2) (omega arith) (at-test .loop-test .left)))
 
 pub transpose-spec : {M : Type 1} → statement M
 transpose-spec =

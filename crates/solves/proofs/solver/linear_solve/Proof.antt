@@ -3,6 +3,7 @@ use native.Mathlib.Omega.{arith}
 use mathlib.Core.Path.{_∙_}
 use Prim.Native.Nat.{_-_}
 use Rattle.arith.specs.FlowLaws.{not-yes, not-no}
+use Rattle.solves.specs.DoesLaws.{solves-numbered}
 use Rattle.solves.proofs.OperatorLaws.{rows-kept}
 use Rattle.solves.proofs.SolveLaws.{linear-least, linear-gradients, linear-path, order-no, order-yes}
 use Rattle.solves.proofs.solver.linear_solve.Statement.{statement}
@@ -33,8 +34,9 @@ returns c =
     let at-copy = at-if1 .before .before .before in
     let at-clear = at-copy .before .before .before .before in
     let start = at-clear .before .before .before in
-    linear-least (start .args .t) (start .pre) (start .args .cyclic) (at-clear .clear .ensures) (at-copy .copy .ensures) (at-if1 .if1 .taken)
-    (c .before .before .least-squares .ensures)
+    solves-numbered _ (c .before .before .least-squares .result)
+    (linear-least (start .args .t) (start .pre) (start .args .cyclic) (at-clear .clear .ensures) (at-copy .copy .ensures) (at-if1 .if1 .taken)
+    (c .before .before .least-squares .ensures))
 
 path-order-requires : tie.Need-path-order-requires
 path-order-requires c κs =
@@ -67,10 +69,11 @@ returns-2 c =
     let at-copy = at-path-order .before .before .before .before in
     let at-clear = at-copy .before .before .before .before in
     let start = at-clear .before .before .before in
-    linear-gradients (start .args .t) (start .pre) (start .args .cyclic) (at-clear .clear .ensures) (at-copy .copy .ensures)
+    solves-numbered _ (c .before .before .gradients .result)
+    (linear-gradients (start .args .t) (start .pre) (start .args .cyclic) (at-clear .clear .ensures) (at-copy .copy .ensures)
     (at-path-order .before .if1 .left)
     (order-no (at-path-order .path-order .result) (at-path-order .path-order .ensures .0) (not-yes _ (at-if2 .if2 .taken)))
-    (c .before .before .gradients .ensures)
+    (c .before .before .gradients .ensures))
 
 path-along-requires : tie.Need-path-along-requires
 path-along-requires c κs =
@@ -98,11 +101,12 @@ returns-3 c =
     let at-clear = at-copy .before .before .before .before in
     let start = at-clear .before .before .before in
     let found = not-no _ (at-if2 .if2 .left) in
-    linear-path (start .args .t) (start .pre) (start .args .cyclic) (at-clear .clear .ensures) (at-copy .copy .ensures)
+    solves-numbered _ (c .before .before .path-along .result)
+    (linear-path (start .args .t) (start .pre) (start .args .cyclic) (at-clear .clear .ensures) (at-copy .copy .ensures)
     (at-path-order .before .if1 .left) (at-path-order .path-order .result .order .rows)
     (order-yes (at-path-order .path-order .result) (start .args .t .rows) (at-path-order .path-order .ensures .0) found
     (at-path-order .path-order .ensures .1 found .0))
-    (c .before .before .path-along .ensures)
+    (c .before .before .path-along .ensures))
 
 pub linear-solve-spec : {M : Type 1} → statement M
 linear-solve-spec =

@@ -21,19 +21,19 @@ done-requires c κs = search needs
 same-length : tie.Need-same-length
 same-length c =
     let at-transpose = c .before .before .before .before in
-    at-transpose .transpose .ensures .kept .size
+    at-transpose .transpose .ensures .0 .kept .size
 
 returns : tie.Need-returns
 returns c =
     let at-transpose = c .before .before .before .before in let at-entry = at-transpose .before .before .before in
     not-pushed (jobFor (at-entry .args .joints) (at-entry .args .task)) (now (at-entry .args .ia)) (now (at-entry .args .ib)) (at-entry .args .t)
     (at-entry .pre .0 .ours .ready .most) (at-entry .pre .0 .ours .ready .bodies) _ _ (at-transpose .transpose .result) (c .before .done .ensures)
-    (c .if1 .taken) (at-transpose .transpose .ensures) _
+    (c .if1 .taken) (at-transpose .transpose .ensures .0) _
 
 move-bodies-requires : tie.Need-move-bodies-requires
 move-bodies-requires c κs =
     let at-transpose = c .before .before .before .before .before in let at-entry = at-transpose .before .before .before in
-    (omega (arith, at-entry .pre .0 .ours .long, at-transpose .transpose .ensures .kept .size), at-entry .pre .0 .ours .ready .bodies)
+    (omega (arith, at-entry .pre .0 .ours .long, at-transpose .transpose .ensures .0 .kept .size), at-entry .pre .0 .ours .ready .bodies)
 
 done-requires-2 : tie.Need-done-requires-2
 done-requires-2 c κs = search needs
@@ -41,7 +41,7 @@ done-requires-2 c κs = search needs
 same-length-2 : tie.Need-same-length-2
 same-length-2 c =
     let at-move-bodies = c .before .before .before .before in let at-transpose = at-move-bodies .before .before .before .before .before .before in
-    at-move-bodies .move-bodies .ensures .kept .size ∙ at-transpose .transpose .ensures .kept .size
+    at-move-bodies .move-bodies .ensures .kept .size ∙ at-transpose .transpose .ensures .0 .kept .size
 
 returns-2 : tie.Need-returns-2
 returns-2 c =
@@ -49,14 +49,14 @@ returns-2 c =
     let at-transpose = at-done .before .before .before in let at-entry = at-transpose .before .before .before in
     not-moved (jobFor (at-entry .args .joints) (at-entry .args .task)) (now (at-entry .args .ia)) (now (at-entry .args .ib)) (at-entry .args .t)
     (at-entry .pre .0 .ours .ready .most) (at-entry .pre .0 .ours .ready .bodies) _ _
-    (went _ (at-transpose .transpose .result) (at-done .done .ensures) (at-transpose .transpose .ensures) (at-if1 .if1 .left)) _
+    (went _ (at-transpose .transpose .result) (at-done .done .ensures) (at-transpose .transpose .ensures .0) (at-if1 .if1 .left)) _
     (at-move-bodies .move-bodies .result) (c .before .done2 .ensures) (c .if2 .taken) (at-move-bodies .move-bodies .ensures) _
 
 write-rows-requires : tie.Need-write-rows-requires
 write-rows-requires c κs =
     let at-move-bodies = c .before .before .before .before .before in
     let at-transpose = at-move-bodies .before .before .before .before .before .before in let at-entry = at-transpose .before .before .before in (
-      omega (arith, at-entry .pre .0 .ours .long, at-move-bodies .move-bodies .ensures .kept .size, at-transpose .transpose .ensures .kept .size),
+      omega (arith, at-entry .pre .0 .ours .long, at-move-bodies .move-bodies .ensures .kept .size, at-transpose .transpose .ensures .0 .kept .size),
       omega arith,
       joined-sixteen (at-entry .pre .1 .joined),
     )
@@ -67,7 +67,7 @@ same-length-3 c =
     let at-transpose = at-move-bodies .before .before .before .before .before .before in let at-entry = at-transpose .before .before .before in
     c .before .before .write-rows .ensures (at-entry .args .t .bodies) (at-entry .pre .1 .joined) (now (at-entry .args .ia))
     (now (at-entry .args .ib)) (at-entry .pre .1 .sides) .kept .size ∙ at-move-bodies .move-bodies .ensures .kept .size ∙
-    at-transpose .transpose .ensures .kept .size
+    at-transpose .transpose .ensures .0 .kept .size
 
 returns-3 : tie.Need-returns-3
 returns-3 c =
@@ -76,7 +76,7 @@ returns-3 c =
     let at-transpose = at-done .before .before .before in let at-entry = at-transpose .before .before .before in
     all-tried (jobFor (at-entry .args .joints) (at-entry .args .task)) (now (at-entry .args .ia)) (now (at-entry .args .ib)) (at-entry .args .t)
     (at-entry .pre .0 .ours .ready .most) (at-entry .pre .0 .ours .ready .bodies) _ _
-    (went _ (at-transpose .transpose .result) (at-done .done .ensures) (at-transpose .transpose .ensures) (at-if1 .if1 .left)) _
+    (went _ (at-transpose .transpose .result) (at-done .done .ensures) (at-transpose .transpose .ensures .0) (at-if1 .if1 .left)) _
     (went _ (at-move-bodies .move-bodies .result) (at-done2 .done2 .ensures) (at-move-bodies .move-bodies .ensures) (at-if2 .if2 .left))
     (at-entry .pre .1 .rows-are) (at-write-rows .write-rows .result)
     (at-write-rows .write-rows .ensures (at-entry .args .t .bodies) (at-entry .pre .1 .joined) (now (at-entry .args .ia)) (now (at-entry .args .ib))

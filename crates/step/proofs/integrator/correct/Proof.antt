@@ -30,7 +30,7 @@ same-length : tie.Need-same-length
 same-length c =
     let at-linear-solve = c .before .before .before .before .before in let at-fill-rhs = at-linear-solve .before .before .before .before in
     let at-entry = at-fill-rhs .before .before .before in
-    at-linear-solve .linear-solve .ensures .kept .size ∙ at-fill-rhs .fill-rhs .ensures (now (at-entry .args .ia))
+    at-linear-solve .linear-solve .ensures .0 .kept .size ∙ at-fill-rhs .fill-rhs .ensures (now (at-entry .args .ia))
     (now (at-entry .args .ib)) .kept .size
 
 returns : tie.Need-returns
@@ -42,7 +42,7 @@ returns c =
     (correct-unsolved (at-entry .args .task .dt) (at-entry .args .task .cyclic) (now (at-entry .args .ia)) (now (at-entry .args .ib))
     (at-entry .args .t) (at-entry .pre .apart) (at-entry .pre .ours .ready .most) (at-entry .pre .ours .ready .bodies)
     (at-fill-rhs .fill-rhs .ensures (now (at-entry .args .ia)) (now (at-entry .args .ib))) (at-linear-solve .linear-solve .result)
-    (at-linear-solve .linear-solve .ensures) (c .before .before .done .ensures) (c .before .if1 .taken))
+    (at-linear-solve .linear-solve .ensures .0) (c .before .before .done .ensures) (c .before .if1 .taken))
 
 add-impulses-requires : tie.Need-add-impulses-requires
 add-impulses-requires c κs =
@@ -51,7 +51,7 @@ add-impulses-requires c κs =
       omega (
         arith,
         at-entry .pre .ours .long,
-        at-linear-solve .linear-solve .ensures .kept .size,
+        at-linear-solve .linear-solve .ensures .0 .kept .size,
         at-fill-rhs .fill-rhs .ensures (now (at-entry .args .ia)) (now (at-entry .args .ib)) .kept .size,
       ),
       at-entry .pre .ours .ready .most,
@@ -68,7 +68,7 @@ same-length-2 c =
     let at-add-impulses = c .before .before .before .before .before in
     let at-linear-solve = at-add-impulses .before .before .before .before .before .before in
     let at-fill-rhs = at-linear-solve .before .before .before .before in let at-entry = at-fill-rhs .before .before .before in
-    at-add-impulses .add-impulses .ensures .kept .size ∙ at-linear-solve .linear-solve .ensures .kept .size ∙ at-fill-rhs .fill-rhs .ensures
+    at-add-impulses .add-impulses .ensures .kept .size ∙ at-linear-solve .linear-solve .ensures .0 .kept .size ∙ at-fill-rhs .fill-rhs .ensures
     (now (at-entry .args .ia)) (now (at-entry .args .ib)) .kept .size
 
 returns-2 : tie.Need-returns-2
@@ -81,7 +81,7 @@ returns-2 c =
     (correct-not-added (at-entry .args .task .dt) (at-entry .args .task .cyclic) (now (at-entry .args .ia)) (now (at-entry .args .ib))
     (at-entry .args .t) (at-entry .pre .apart) (at-entry .pre .ours .ready .most) (at-entry .pre .ours .ready .bodies)
     (at-fill-rhs .fill-rhs .ensures (now (at-entry .args .ia)) (now (at-entry .args .ib))) (at-linear-solve .linear-solve .result)
-    (at-linear-solve .linear-solve .ensures) (at-done .done .ensures) (at-if1 .if1 .left) (at-add-impulses .add-impulses .result)
+    (at-linear-solve .linear-solve .ensures .0) (at-done .done .ensures) (at-if1 .if1 .left) (at-add-impulses .add-impulses .result)
     (at-add-impulses .add-impulses .ensures) (c .before .before .done2 .ensures) (c .before .if2 .taken))
 
 pass-ended-requires-3 : tie.Need-pass-ended-requires-3
@@ -92,7 +92,7 @@ same-length-3 c =
     let at-add-impulses = c .before .before .before .before .before in
     let at-linear-solve = at-add-impulses .before .before .before .before .before .before in
     let at-fill-rhs = at-linear-solve .before .before .before .before in let at-entry = at-fill-rhs .before .before .before in
-    at-add-impulses .add-impulses .ensures .kept .size ∙ at-linear-solve .linear-solve .ensures .kept .size ∙ at-fill-rhs .fill-rhs .ensures
+    at-add-impulses .add-impulses .ensures .kept .size ∙ at-linear-solve .linear-solve .ensures .0 .kept .size ∙ at-fill-rhs .fill-rhs .ensures
     (now (at-entry .args .ia)) (now (at-entry .args .ib)) .kept .size
 
 returns-3 : tie.Need-returns-3
@@ -105,7 +105,7 @@ returns-3 c =
     (correct-added (at-entry .args .task .dt) (at-entry .args .task .cyclic) (now (at-entry .args .ia)) (now (at-entry .args .ib))
     (at-entry .args .t) (at-entry .pre .apart) (at-entry .pre .ours .ready .most) (at-entry .pre .ours .ready .bodies)
     (at-fill-rhs .fill-rhs .ensures (now (at-entry .args .ia)) (now (at-entry .args .ib))) (at-linear-solve .linear-solve .result)
-    (at-linear-solve .linear-solve .ensures) (at-done .done .ensures) (at-if1 .if1 .left) (at-add-impulses .add-impulses .result)
+    (at-linear-solve .linear-solve .ensures .0) (at-done .done .ensures) (at-if1 .if1 .left) (at-add-impulses .add-impulses .result)
     (at-add-impulses .add-impulses .ensures) (c .before .before .done2 .ensures) (c .before .if2 .left))
 
 pub correct-spec : {M : Type 1} → statement M

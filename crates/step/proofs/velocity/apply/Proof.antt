@@ -19,30 +19,30 @@ done-requires c κs = search needs
 same-length : tie.Need-same-length
 same-length c =
     let at-transpose = c .before .before .before .before in
-    at-transpose .transpose .ensures .kept .size
+    at-transpose .transpose .ensures .0 .kept .size
 
 returns : tie.Need-returns
 returns c =
     let at-transpose = c .before .before .before .before in let at-entry = at-transpose .before .before .before in
-    apply-stops (at-entry .args .t) (at-entry .pre .ready) (at-transpose .transpose .ensures)
+    apply-stops (at-entry .args .t) (at-entry .pre .ready) (at-transpose .transpose .ensures .0)
     (fails _ (at-transpose .transpose .result) (c .before .done .ensures) (c .if1 .taken))
     (fails _ (at-transpose .transpose .result) (c .before .done .ensures) (c .if1 .taken))
 
 kick-candidates-requires : tie.Need-kick-candidates-requires
 kick-candidates-requires c κs =
     let at-transpose = c .before .before .before .before .before in let at-entry = at-transpose .before .before .before in
-    (omega (arith, at-entry .pre .long, at-transpose .transpose .ensures .kept .size), at-entry .pre .ready .bodies)
+    (omega (arith, at-entry .pre .long, at-transpose .transpose .ensures .0 .kept .size), at-entry .pre .ready .bodies)
 
 same-length-2 : tie.Need-same-length-2
 same-length-2 c =
     let at-slice-known2 = c .before .before .before .before .before .before in let at-transpose = at-slice-known2 .before .before in
-    c .before .before .kick-candidates .ensures .kept .size ∙ at-transpose .transpose .ensures .kept .size
+    c .before .before .kick-candidates .ensures .kept .size ∙ at-transpose .transpose .ensures .0 .kept .size
 
 returns-2 : tie.Need-returns-2
 returns-2 c =
     let at-if1 = c .before .before .before .before in let at-done = at-if1 .before in let at-transpose = at-done .before .before .before in
     let at-entry = at-transpose .before .before .before in
-    apply-then (at-entry .args .t) (at-entry .pre .ready) (at-transpose .transpose .ensures)
+    apply-then (at-entry .args .t) (at-entry .pre .ready) (at-transpose .transpose .ensures .0)
     (ran-done _ (at-transpose .transpose .result) (sym (at-done .done .ensures) ∙ not-no _ (at-if1 .if1 .left)))
     (c .before .before .kick-candidates .ensures)
 

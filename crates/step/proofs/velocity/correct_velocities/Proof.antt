@@ -21,21 +21,21 @@ pass-ended-requires c κs = search needs
 same-length : tie.Need-same-length
 same-length c =
     let at-linear-solve = c .before .before .before .before .before in
-    at-linear-solve .linear-solve .ensures .kept .size
+    at-linear-solve .linear-solve .ensures .0 .kept .size
 
 returns : tie.Need-returns
 returns c =
     let at-linear-solve = c .before .before .before .before .before in let at-entry = at-linear-solve .before .before .before in
     passed-is 0 (λ x. candidatesAt x (at-entry .args .t .bodies)) (λ x. candidatesAt x (at-entry .args .t .bodies)) (c .pass-ended .ensures)
     (rest-unsolved (at-entry .args .cyclic) (at-entry .args .t) (at-entry .pre .ready) (at-linear-solve .linear-solve .result)
-    (at-linear-solve .linear-solve .ensures) (c .before .before .done .ensures) (c .before .if1 .taken))
+    (at-linear-solve .linear-solve .ensures .0) (c .before .before .done .ensures) (c .before .if1 .taken))
 
 apply-requires : tie.Need-apply-requires
 apply-requires c κs =
     let at-linear-solve = c .before .before .before .before .before in let at-entry = at-linear-solve .before .before .before in
     record {
-      ready = rows-at (at-entry .pre .ready) (at-linear-solve .linear-solve .ensures .kept .size);
-      long = omega (arith, at-entry .pre .long, at-linear-solve .linear-solve .ensures .kept .size);
+      ready = rows-at (at-entry .pre .ready) (at-linear-solve .linear-solve .ensures .0 .kept .size);
+      long = omega (arith, at-entry .pre .long, at-linear-solve .linear-solve .ensures .0 .kept .size);
     }
 
 done-requires-2 : tie.Need-done-requires-2
@@ -47,7 +47,7 @@ pass-ended-requires-2 c κs = search needs
 same-length-2 : tie.Need-same-length-2
 same-length-2 c =
     let at-apply = c .before .before .before .before .before in let at-linear-solve = at-apply .before .before .before .before .before .before in
-    at-apply .apply .ensures .kept .size ∙ at-linear-solve .linear-solve .ensures .kept .size
+    at-apply .apply .ensures .kept .size ∙ at-linear-solve .linear-solve .ensures .0 .kept .size
 
 returns-2 : tie.Need-returns-2
 returns-2 c =
@@ -55,7 +55,7 @@ returns-2 c =
     let at-linear-solve = at-done .before .before .before in let at-entry = at-linear-solve .before .before .before in
     passed-is 0 (λ x. candidatesAt x (at-entry .args .t .bodies)) (λ x. candidatesAt x (at-entry .args .t .bodies)) (c .pass-ended2 .ensures)
     (rest-not-kicked (at-entry .args .cyclic) (at-entry .args .t) (at-entry .pre .ready) (at-linear-solve .linear-solve .result)
-    (at-linear-solve .linear-solve .ensures) (at-done .done .ensures) (at-if1 .if1 .left) (at-apply .apply .result) (at-apply .apply .ensures)
+    (at-linear-solve .linear-solve .ensures .0) (at-done .done .ensures) (at-if1 .if1 .left) (at-apply .apply .result) (at-apply .apply .ensures)
     (c .before .before .done2 .ensures) (c .before .if2 .taken))
 
 pass-ended-requires-3 : tie.Need-pass-ended-requires-3
@@ -64,7 +64,7 @@ pass-ended-requires-3 c κs = search needs
 same-length-3 : tie.Need-same-length-3
 same-length-3 c =
     let at-apply = c .before .before .before .before .before in let at-linear-solve = at-apply .before .before .before .before .before .before in
-    at-apply .apply .ensures .kept .size ∙ at-linear-solve .linear-solve .ensures .kept .size
+    at-apply .apply .ensures .kept .size ∙ at-linear-solve .linear-solve .ensures .0 .kept .size
 
 returns-3 : tie.Need-returns-3
 returns-3 c =
@@ -72,7 +72,7 @@ returns-3 c =
     let at-linear-solve = at-done .before .before .before in let at-entry = at-linear-solve .before .before .before in
     passed-is 0 (λ x. candidatesAt x (at-entry .args .t .bodies)) (λ x. candidatesAt x (at-entry .args .t .bodies)) (c .pass-ended3 .ensures)
     (rest-kicked (at-entry .args .cyclic) (at-entry .args .t) (at-entry .pre .ready) (at-linear-solve .linear-solve .result)
-    (at-linear-solve .linear-solve .ensures) (at-done .done .ensures) (at-if1 .if1 .left) (at-apply .apply .result) (at-apply .apply .ensures)
+    (at-linear-solve .linear-solve .ensures .0) (at-done .done .ensures) (at-if1 .if1 .left) (at-apply .apply .result) (at-apply .apply .ensures)
     (c .before .before .done2 .ensures) (c .before .if2 .left))
 
 pub correct-velocities-spec : {M : Type 1} → statement M
