@@ -1,6 +1,7 @@
 // The functions of `arith` and the whole of `pose` for Rust to link: tools/bench measures them. A refused argument gives 0.
 use arith::angle::Angle;
 use arith::angle::SinCos;
+use step::layout::SCRATCH;
 ghost use mathlib.Core.Path.{_≡_};
 ghost use lib.Ieee.{binary64};
 ghost use Rattle.arith.specs.Root as Root;
@@ -67,6 +68,6 @@ pub extern "C" fn pose_report(file: &[u8], out: &mut [u8]) -> usize
     ensures { λ r. ⌜ r ≡ Pose.poseLength (now (file .entry)) Pose.fresh (now (out .entry)) ⌝ }
     ensures { λ _. ⌜ now (out .exit) ≡ Pose.poseOut (now (file .entry)) Pose.fresh (now (out .entry)) ⌝ }
 {
-    let mut scratch = [0.0f64; 6144];
+    let mut scratch = [0.0f64; SCRATCH];
     report::pose(file, &mut scratch, out)
 }

@@ -1,1 +1,2 @@
+-- Replies: the laws that the proofs of this crate's functions cite.
 pub mod Replies

@@ -11,6 +11,7 @@ ghost use Rattle.io.specs.Counts.{Counts};
 ghost use Rattle.pose.specs.Reply.{printed, replyOf};
 use libc::STDIN_FILENO;
 use libc::STDOUT_FILENO;
+use step::layout::SCRATCH;
 use streams::Input;
 
 // A text at the head of its bytes.
@@ -41,7 +42,7 @@ fn reply_to(input: Input) -> Reply
     if streams::failed(last) {
         return Reply { bytes, count: 0 };
     }
-    let mut scratch = [0.0f64; 6144];
+    let mut scratch = [0.0f64; SCRATCH];
     let count = report::pose(&file[..n], &mut scratch, &mut bytes);
     Reply { bytes, count }
 }

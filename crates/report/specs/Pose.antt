@@ -6,6 +6,7 @@ use mathlib.Core.Bool.{cond}
 use lib.Dec.{leb, eqb}
 use lib.ListN.{length, take, replicate}
 use lib.Ieee.{Float, binary64, ofBits}
+use Rattle.step.specs.Layout.{RECORD, SCRATCH}
 use Rattle.step.specs.Checks.{numberOf as stepNumber}
 use Rattle.step.specs.Step.{Stepped, solveOf}
 use Rattle.plan.specs.declared.reader.Plan.{Plan}
@@ -20,7 +21,7 @@ pub record Posed : Type 0 where
 
 -- a step of the bodies and joints that were read, over the scratch that is lent
 unfoldable pub stepOf : Plan → List Float → Stepped
-stepOf plan scratch = solveOf (take (26 * plan .«body_count») (plan .bodies)) (plan .joints) (plan .«joint_count») (plan .dt) scratch
+stepOf plan scratch = solveOf (take (RECORD * plan .«body_count») (plan .bodies)) (plan .joints) (plan .«joint_count») (plan .dt) scratch
 
 -- an accepted step has the number 0 and its bodies are printed; refusals 1 to 12 print their number; both print the counts
 abbrev pub posedAfter : Stepped → Posed
@@ -54,4 +55,4 @@ poseScratch file scratch out = cond (leb ROOM (length out)) (poseOf file scratch
 
 -- the scratch of the programs: 6,144 doubles, each +0
 abbrev pub fresh : List Float
-fresh = replicate 6144 (ofBits binary64 0)
+fresh = replicate SCRATCH (ofBits binary64 0)

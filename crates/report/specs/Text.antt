@@ -8,6 +8,7 @@ use lib.ListN.{length, getD, take, drop}
 use lib.Ieee.{Float, nan, binary64, toBits}
 use Rattle.io.specs.Digits.{digits}
 use Rattle.arith.specs.Flow.{turns}
+use Rattle.step.specs.Layout.{RECORD, MOVING}
 
 -- how many digits n has in base ten, where at most k + 1
 unfoldable pub places : ℕ → ℕ → ℕ
@@ -36,7 +37,7 @@ numbersOf bodies i n = turns (λ k text. text ++ numberOf (getD bodies (i + k) n
 
 -- a body's number, the thirteen doubles of its state, and the line's end
 unfoldable pub bodyLine : List Float → ℕ → List ℕ
-bodyLine bodies i = decimalOf i ++ numbersOf bodies (26 * i) 13 ++ (10 ∷ [])
+bodyLine bodies i = decimalOf i ++ numbersOf bodies (RECORD * i) MOVING ++ (10 ∷ [])
 
 unfoldable pub bodyLines : List Float → ℕ → List ℕ
 bodyLines bodies n = turns (λ i text. text ++ bodyLine bodies i) n []
@@ -56,7 +57,7 @@ headLine number nonlinear linear = cond (eqb number 0) (okLine nonlinear linear)
 -- the lines of the bodies, which an accepted step has
 unfoldable pub reportOf : ℕ → ℕ → ℕ → List Float → List ℕ
 reportOf number nonlinear linear bodies =
-    headLine number nonlinear linear ++ cond (eqb number 0) (bodyLines bodies (length bodies / 26)) []
+    headLine number nonlinear linear ++ cond (eqb number 0) (bodyLines bodies (length bodies / RECORD)) []
 
 -- ---- where it goes
 
@@ -69,7 +70,7 @@ BODY-LINE = 242
 
 -- the space that any report of these bodies fits
 abbrev pub roomOf : List Float → ℕ
-roomOf bodies = HEAD-LINE + BODY-LINE * (length bodies / 26)
+roomOf bodies = HEAD-LINE + BODY-LINE * (length bodies / RECORD)
 
 -- out with the text at a place in it
 abbrev pub written : List ℕ → ℕ → List ℕ → List ℕ

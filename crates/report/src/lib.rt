@@ -8,6 +8,7 @@ ghost use Rattle.io.specs.Counts.{Counts};
 ghost use Rattle.report.specs.Pose as Pose;
 ghost use Rattle.report.specs.Text as Text;
 use plan::reader::Plan;
+use step::layout::RECORD;
 
 // Room enough for every answer: the first line, and sixteen bodies.
 pub const ROOM: usize = 3938;
@@ -39,7 +40,7 @@ fn step_and_report(plan: Plan, scratch: &mut [f64], out: &mut [u8]) -> usize
 {
     let mut bodies = plan.bodies;
     let joints = plan.joints;
-    let used = 26 * plan.body_count;
+    let used = RECORD * plan.body_count;
     let answer = step::solve(
         &mut bodies[..used],
         joints,

@@ -4,7 +4,9 @@ ghost use mathlib.Core.Path.{_≡_};
 ghost use lib.ListN.{length};
 ghost use lib.Ieee.{binary64, toBits};
 ghost use Rattle.io.specs.Counts.{Counts};
+ghost use Rattle.step.specs.Layout.{RECORD};
 ghost use Rattle.report.specs.Text as Text;
+use step::layout::RECORD;
 
 // The longest first line, and the longest line of a body: a count has at most 20 digits.
 const HEAD_LINE: usize = 66;
@@ -25,7 +27,7 @@ pub fn report(
     ensures { λ r. ⌜ r ≡ Text.reportLength number nonlinear linear (now (bodies .entry)) (now (out .entry)) ⌝ }
     ensures { λ _. ⌜ now (out .exit) ≡ Text.reportOut number nonlinear linear (now (bodies .entry)) (now (out .entry)) ⌝ }
 {
-    let count = bodies.len() / 26;
+    let count = bodies.len() / RECORD;
     if out.len() < HEAD_LINE {
         return 0;
     }
@@ -79,7 +81,7 @@ fn put_counts(out: &mut [u8], at: usize, nonlinear: usize, linear: usize) -> usi
 }
 
 fn put_bodies(out: &mut [u8], at: usize, bodies: &[f64], count: usize) -> usize
-    requires { ⌜ (at + Text.BODY-LINE * count ≤ length (now out)) × (26 * count ≤ length (now bodies)) ⌝ }
+    requires { ⌜ (at + Text.BODY-LINE * count ≤ length (now out)) × (RECORD * count ≤ length (now bodies)) ⌝ }
     ensures { λ r. ⌜ Text.Puts (now (out .entry)) at (Text.bodyLines (now (bodies .entry)) count) (now (out .exit)) r ⌝ }
 {
     let mut next = at;
@@ -93,11 +95,11 @@ fn put_bodies(out: &mut [u8], at: usize, bodies: &[f64], count: usize) -> usize
 
 // The line of body `i`.
 fn put_body(out: &mut [u8], at: usize, bodies: &[f64], i: usize) -> usize
-    requires { ⌜ (at + Text.BODY-LINE ≤ length (now out)) × (26 * i + 26 ≤ length (now bodies)) ⌝ }
+    requires { ⌜ (at + Text.BODY-LINE ≤ length (now out)) × (RECORD * i + RECORD ≤ length (now bodies)) ⌝ }
     ensures { λ r. ⌜ Text.Puts (now (out .entry)) at (Text.bodyLine (now (bodies .entry)) i) (now (out .exit)) r ⌝ }
 {
     let a = put_decimal(out, at, i as u64);
-    let b = put_state(out, a, bodies, 26 * i);
+    let b = put_state(out, a, bodies, RECORD * i);
     put(out, b, b"\n")
 }
 

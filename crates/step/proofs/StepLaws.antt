@@ -25,10 +25,6 @@ pub written-most : {joint : Joint} {a b : MomentumBody} {i : ℕ} {s t : List Fl
     → r ≡ Written.Rows n → n ≤ 6
 written-most {joint} w n e = omega (arith, w .count n e, count-most (joint .kind))
 
-pub rows-same : {s t : List Float} {ia ib : List ℕ} {rows n count : ℕ} → Rows s ia ib rows n count → length t ≡ length s → Rows t ia ib rows n count
-rows-same pre e =
-    record { whole = omega arith; table = pre .table; most = pre .most; bodies = pre .bodies; a-there = pre .a-there; b-there = pre .b-there }
-
 pub joined-sixteen : {joints : List Joint} {count size : ℕ} → Joined joints count size → Joined joints count 16
 joined-sixteen {joints} {count} {size} pre =
     record { few = pre .few; small = omega arith; a-there = λ k h. low (pre .a-there k h); b-there = λ k h. low (pre .b-there k h) }

@@ -15,7 +15,7 @@ use Rattle.arith.specs.FlowLaws.{cond-yes, cond-no}
 use Rattle.rows.specs.declared.body.BodyState.{BodyState}
 use Rattle.rows.specs.View.{at}
 use Rattle.rows.specs.Region.{tab-length, tab-at}
-use Rattle.step.specs.Layout.{CANDIDATE}
+use Rattle.step.specs.Layout.{RECORD, MOVING, CANDIDATE}
 use Rattle.step.specs.Records.{bodyCount, stateAt}
 use Rattle.step.specs.View.{statesAt, Handed}
 use Rattle.step.specs.ViewLaws.{state-at, handed-new, handed-old}
@@ -23,11 +23,11 @@ use Rattle.step.specs.Bodies.{noState, stateIn}
 use Rattle.step.specs.Step.{stateDoubles, handBack}
 
 -- the 13 doubles of the state at i are those at i, and a state is known by its 13
-doubles-at : (s : List Float) (i j : ℕ) → j < 13 → at (stateDoubles (stateAt s i)) j ≡ at s (i + j)
+doubles-at : (s : List Float) (i j : ℕ) → j < MOVING → at (stateDoubles (stateAt s i)) j ≡ at s (i + j)
 doubles-at s i j h = sym (ap (at (stateDoubles (stateAt s i))) (zero-add j)) ∙ state-at s (stateDoubles (stateAt s i)) 0 i refl j h
 
-module _ (s : List Float) (i : ℕ) (state : BodyState) (e : (j : ℕ) → j < 13 → at s (i + j) ≡ at (stateDoubles state) j) where
-  double : (k j : ℕ) → j < 13 → k ≡ i + j → at s k ≡ at (stateDoubles state) j
+module _ (s : List Float) (i : ℕ) (state : BodyState) (e : (j : ℕ) → j < MOVING → at s (i + j) ≡ at (stateDoubles state) j) where
+  double : (k j : ℕ) → j < MOVING → k ≡ i + j → at s k ≡ at (stateDoubles state) j
   double k j h q = ap (at s) q ∙ e j h
 
   pub state-is : stateAt s i ≡ state
@@ -62,43 +62,43 @@ module _ (bodies : List Float) (states : List BodyState) where
 
   -- double j of record k stands at i
   abbrev chosen : ℕ → ℕ → ℕ → Float
-  chosen k j i = cond (ltb j 13) (at (stateDoubles (stateIn states k)) j) (at bodies i)
+  chosen k j i = cond (ltb j MOVING) (at (stateDoubles (stateIn states k)) j) (at bodies i)
 
-  module _ (k j : ℕ) (l : 26 * k + j < length bodies) where
-    back-at : j < 26 → at (handBack bodies states) (26 * k + j) ≡ chosen k j (26 * k + j)
+  module _ (k j : ℕ) (l : RECORD * k + j < length bodies) where
+    back-at : j < RECORD → at (handBack bodies states) (RECORD * k + j) ≡ chosen k j (RECORD * k + j)
     unfolding handBack
     back-at h =
-        let q : (26 * k + j) / 26 ≡ k = omega arith in
-        let r : (26 * k + j) % 26 ≡ j = omega arith in
-        tab-at (length bodies) (λ i. chosen (i / 26) (i % 26) i) nan (26 * k + j) l ∙ ap₂ (λ (a b : ℕ). chosen a b (26 * k + j)) q r
+        let q : (RECORD * k + j) / RECORD ≡ k = omega arith in
+        let r : (RECORD * k + j) % RECORD ≡ j = omega arith in
+        tab-at (length bodies) (λ i. chosen (i / RECORD) (i % RECORD) i) nan (RECORD * k + j) l ∙ ap₂ (λ (a b : ℕ). chosen a b (RECORD * k + j)) q r
 
-    pub back-new : j < 13 → at (handBack bodies states) (26 * k + j) ≡ at (stateDoubles (stateIn states k)) j
-    back-new h = back-at (omega arith) ∙ sym (cond-yes _ _ (lt-ltb j 13 h))
+    pub back-new : j < MOVING → at (handBack bodies states) (RECORD * k + j) ≡ at (stateDoubles (stateIn states k)) j
+    back-new h = back-at (omega arith) ∙ sym (cond-yes _ _ (lt-ltb j MOVING h))
 
-    pub back-old : 13 ≤ j → j < 26 → at (handBack bodies states) (26 * k + j) ≡ at bodies (26 * k + j)
-    back-old a b = back-at b ∙ sym (cond-no _ _ (le-ltb j 13 a))
+    pub back-old : MOVING ≤ j → j < RECORD → at (handBack bodies states) (RECORD * k + j) ≡ at bodies (RECORD * k + j)
+    back-old a b = back-at b ∙ sym (cond-no _ _ (le-ltb j MOVING a))
 
   -- the state that a record begins with
-  pub back-state : (k : ℕ) → k < bodyCount bodies → stateAt (handBack bodies states) (26 * k) ≡ stateIn states k
-  back-state k l = state-is (handBack bodies states) (26 * k) (stateIn states k) (λ j h. back-new k j (omega arith) h)
+  pub back-state : (k : ℕ) → k < bodyCount bodies → stateAt (handBack bodies states) (RECORD * k) ≡ stateIn states k
+  back-state k l = state-is (handBack bodies states) (RECORD * k) (stateIn states k) (λ j h. back-new k j (omega arith) h)
 
 -- what the code wrote into the records is what the step hands back
-pub handed-back : (n : ℕ) (s : List Float) {bodies after : List Float} → n ≡ bodyCount bodies → length bodies % 26 ≡ 0 → Handed n s bodies after
+pub handed-back : (n : ℕ) (s : List Float) {bodies after : List Float} → n ≡ bodyCount bodies → length bodies % RECORD ≡ 0 → Handed n s bodies after
     → after ≡ handBack bodies (statesAt s n)
 handed-back n s {bodies} {after} e w h =
     ext-getD nan after (handBack bodies (statesAt s n)) (h .kept .size ∙ sym (back-length bodies (statesAt s n))) same
   where
-    in-record : (k j : ℕ) → k < n → 26 * k + j < length bodies → j < 26 → Dec (j < 13)
-        → at after (26 * k + j) ≡ at (handBack bodies (statesAt s n)) (26 * k + j)
+    in-record : (k j : ℕ) → k < n → RECORD * k + j < length bodies → j < RECORD → Dec (j < MOVING)
+        → at after (RECORD * k + j) ≡ at (handBack bodies (statesAt s n)) (RECORD * k + j)
     in-record k j l m b (yes a) =
-        handed-new h k l j a ∙ sym (doubles-at s (CANDIDATE + 13 * k) j a)
-        ∙ ap (λ (t : BodyState). at (stateDoubles t) j) (sym (tab-at n (λ i. stateAt s (CANDIDATE + 13 * i)) noState k l))
+        handed-new h k l j a ∙ sym (doubles-at s (CANDIDATE + MOVING * k) j a)
+        ∙ ap (λ (t : BodyState). at (stateDoubles t) j) (sym (tab-at n (λ i. stateAt s (CANDIDATE + MOVING * i)) noState k l))
         ∙ sym (back-new bodies (statesAt s n) k j m a)
     in-record k j l m b (no a) = handed-old h k l j (omega arith) b ∙ sym (back-old bodies (statesAt s n) k j m (omega arith) b)
 
     same : (i : ℕ) → i < length after → at after i ≡ at (handBack bodies (statesAt s n)) i
     same i l =
         let size : length after ≡ length bodies = h .kept .size in
-        let q : 26 * (i / 26) + i % 26 ≡ i = omega arith in
+        let q : RECORD * (i / RECORD) + i % RECORD ≡ i = omega arith in
         subst (λ (m : ℕ). at after m ≡ at (handBack bodies (statesAt s n)) m) q
-        (in-record (i / 26) (i % 26) (omega arith) (omega arith) (omega arith) (decLt (i % 26) 13))
+        (in-record (i / RECORD) (i % RECORD) (omega arith) (omega arith) (omega arith) (decLt (i % RECORD) MOVING))

@@ -17,6 +17,8 @@ use Rattle.rows.specs.View.{at}
 use Rattle.step.specs.declared.Outcome.{Outcome}
 use Rattle.step.specs.declared.Outcome.the-variants.{Accepted, TimeStep, Bodies, Joints, Scratch, NotFinite, OutOfRange, Inertia}
 use Rattle.step.specs.declared.Outcome.the-variants.{JointBodies, JointNumbers, NonConvergent, ArithmeticOverflow, Ground}
+use Rattle.solves.specs.Layout.{BODIES-MOST}
+use Rattle.step.specs.Layout.{RECORD, SCRATCH}
 use Rattle.step.specs.Records.{recordAt, bodyCount}
 use Rattle.step.specs.Checks.{numberOf, timeStepOk, bodiesFit, bodyInRange, hasInverse, joinsTwo, jointOk, jointIn}
 use Rattle.step.specs.Checks.{sizesOr, bodiesOr, jointsOr, refusalOf, isAccepted}
@@ -24,15 +26,13 @@ use Rattle.step.specs.Ready.{Joined, Sizes}
 
 -- none of refusals 1 to 9
 pub record Ready (bodies : List Float) (joints : List Joint) (count : ℕ) (dt : Float) (scratch : ℕ) : Type 0 where
-  pub finite-step : isFinite dt ≡ true
   pub forward : Ieee.lt (ratio 0 1) dt ≡ true
-  pub whole : length bodies % 26 ≡ 0
-  pub small : bodyCount bodies ≤ 16
+  pub whole : length bodies % RECORD ≡ 0
+  pub small : bodyCount bodies ≤ BODIES-MOST
   pub few : count ≤ 16
-  pub room : 6144 ≤ scratch
+  pub room : SCRATCH ≤ scratch
   pub finite : (k : ℕ) → k < length bodies → isFinite (at bodies k) ≡ true
   pub in-range : (k : ℕ) → k < bodyCount bodies → bodyInRange (recordAt bodies k) ≡ true
-  pub inverts : (k : ℕ) → k < bodyCount bodies → hasInverse (recordAt bodies k) ≡ true
   pub a-there : (k : ℕ) → k < count → jointIn joints k .«body_a» < bodyCount bodies
   pub b-there : (k : ℕ) → k < count → jointIn joints k .«body_b» < bodyCount bodies
   pub apart : (k : ℕ) → k < count → jointIn joints k .«body_a» ≡ jointIn joints k .«body_b» → ⊥
@@ -72,7 +72,7 @@ module _ (doubles count : ℕ) (dt : Float) (scratch : ℕ) {r : Outcome} (next 
       onward (not (timeStepOk dt)) TimeStep
       (onward (not (bodiesFit doubles)) Bodies
       (onward (ltb 16 count) Joints
-      (onward (ltb scratch 6144) Scratch (λ q. absurd (h q))))) e
+      (onward (ltb scratch SCRATCH) Scratch (λ q. absurd (h q))))) e
 
   pub sizes-go : r ≡ Accepted → {o : Outcome} → o ≡ next → o ≡ sizesOr doubles count dt scratch next
   unfolding sizesOr
@@ -80,7 +80,7 @@ module _ (doubles count : ℕ) (dt : Float) (scratch : ℕ) {r : Outcome} (next 
       through (not (timeStepOk dt)) TimeStep (omega arith) h
       (through (not (bodiesFit doubles)) Bodies (omega arith) h
       (through (ltb 16 count) Joints (omega arith) h
-      (through (ltb scratch 6144) Scratch (omega arith) h (λ _. q)))) e
+      (through (ltb scratch SCRATCH) Scratch (omega arith) h (λ _. q)))) e
 
   pub sizes-ready : r ≡ Accepted → Sizes doubles count scratch
   unfolding sizesOr
@@ -88,9 +88,9 @@ module _ (doubles count : ℕ) (dt : Float) (scratch : ℕ) {r : Outcome} (next 
       let p₁ = passed (timeStepOk dt) TimeStep _ (omega arith) (sym e ∙ h) in
       let p₂ = passed (bodiesFit doubles) Bodies _ (omega arith) (p₁ .1) in
       let p₃ = below (ltb 16 count) Joints _ (omega arith) (p₂ .1) in
-      let p₄ = below (ltb scratch 6144) Scratch _ (omega arith) (p₃ .1) in
+      let p₄ = below (ltb scratch SCRATCH) Scratch _ (omega arith) (p₃ .1) in
       record {
-        small = leb-true _ _ (both (eqb (doubles % 26) 0) (leb (doubles / 26) 16) (p₂ .0) .1);
+        small = leb-true _ _ (both (eqb (doubles % RECORD) 0) (leb (doubles / RECORD) BODIES-MOST) (p₂ .0) .1);
         few = ltb-false _ _ (p₃ .0);
         room = ltb-false _ _ (p₄ .0);
       }
@@ -156,7 +156,7 @@ module _ (bodies : List Float) (joints : List Joint) (count : ℕ) (dt : Float) 
       numbered (not (timeStepOk dt)) TimeStep _ (omega arith)
       (numbered (not (bodiesFit (length bodies))) Bodies _ (omega arith)
       (numbered (ltb 16 count) Joints _ (omega arith)
-      (numbered (ltb scratch 6144) Scratch _ (omega arith)
+      (numbered (ltb scratch SCRATCH) Scratch _ (omega arith)
       (numbered (not (every (length bodies) (λ k. isFinite (at bodies k)))) NotFinite _ (omega arith)
       (numbered (not (every (bodyCount bodies) (λ k. bodyInRange (recordAt bodies k)))) OutOfRange _ (omega arith)
       (numbered (not (every (bodyCount bodies) (λ k. hasInverse (recordAt bodies k)))) Inertia _ (omega arith)
@@ -178,7 +178,7 @@ module _ (bodies : List Float) (joints : List Joint) (count : ℕ) (dt : Float) 
       let p₁ = passed (timeStepOk dt) TimeStep _ (omega arith) e₀ in
       let p₂ = passed (bodiesFit (length bodies)) Bodies _ (omega arith) (p₁ .1) in
       let p₃ = below (ltb 16 count) Joints _ (omega arith) (p₂ .1) in
-      let p₄ = below (ltb scratch 6144) Scratch _ (omega arith) (p₃ .1) in
+      let p₄ = below (ltb scratch SCRATCH) Scratch _ (omega arith) (p₃ .1) in
       let p₅ = passed (every (length bodies) (λ k. isFinite (at bodies k))) NotFinite _ (omega arith) (p₄ .1) in
       let p₆ = passed (every (bodyCount bodies) (λ k. bodyInRange (recordAt bodies k))) OutOfRange _ (omega arith) (p₅ .1) in
       let p₇ = passed (every (bodyCount bodies) (λ k. hasInverse (recordAt bodies k))) Inertia _ (omega arith) (p₆ .1) in
@@ -187,15 +187,13 @@ module _ (bodies : List Float) (joints : List Joint) (count : ℕ) (dt : Float) 
       let joins : (k : ℕ) → k < count → joinsTwo (bodyCount bodies) (jointIn joints k) ≡ true =
       λ k h. every-at (λ (j : ℕ). joinsTwo (bodyCount bodies) (jointIn joints j)) count (sym (p₈ .0)) h in
       record {
-        finite-step = both (isFinite dt) (Ieee.lt (ratio 0 1) dt) (p₁ .0) .0;
         forward = both (isFinite dt) (Ieee.lt (ratio 0 1) dt) (p₁ .0) .1;
-        whole = eqb-true _ _ (both (eqb (length bodies % 26) 0) (leb (bodyCount bodies) 16) (p₂ .0) .0);
-        small = leb-true _ _ (both (eqb (length bodies % 26) 0) (leb (bodyCount bodies) 16) (p₂ .0) .1);
+        whole = eqb-true _ _ (both (eqb (length bodies % RECORD) 0) (leb (bodyCount bodies) BODIES-MOST) (p₂ .0) .0);
+        small = leb-true _ _ (both (eqb (length bodies % RECORD) 0) (leb (bodyCount bodies) BODIES-MOST) (p₂ .0) .1);
         few = ltb-false _ _ (p₃ .0);
         room = ltb-false _ _ (p₄ .0);
         finite = λ k h. every-at (λ (j : ℕ). isFinite (at bodies j)) (length bodies) (sym (p₅ .0)) h;
         in-range = λ k h. every-at (λ (j : ℕ). bodyInRange (recordAt bodies j)) (bodyCount bodies) (sym (p₆ .0)) h;
-        inverts = λ k h. every-at (λ (j : ℕ). hasInverse (recordAt bodies j)) (bodyCount bodies) (sym (p₇ .0)) h;
         a-there = λ k h. two (bodyCount bodies) (jointIn joints k) (joins k h) .0;
         b-there = λ k h. two (bodyCount bodies) (jointIn joints k) (joins k h) .1;
         apart = λ k h. different (bodyCount bodies) (jointIn joints k) (joins k h);

@@ -27,6 +27,8 @@ use Rattle.rows.specs.View.{at}
 use Rattle.step.specs.declared.Outcome.{Outcome}
 use Rattle.step.specs.declared.Outcome.the-variants.{Accepted, TimeStep, Bodies, Joints, Scratch, NotFinite, OutOfRange, Inertia}
 use Rattle.step.specs.declared.Outcome.the-variants.{JointBodies, JointNumbers, NonConvergent, ArithmeticOverflow, Ground}
+use Rattle.solves.specs.Layout.{BODIES-MOST}
+use Rattle.step.specs.Layout.{RECORD, SCRATCH}
 use Rattle.step.specs.Records.{recordAt, bodyCount}
 
 -- the number of a refusal, and 0 for an accepted step
@@ -58,7 +60,7 @@ timeStepOk dt = isFinite dt && Ieee.lt (ratio 0 1) dt
 
 -- 2
 abbrev pub bodiesFit : ℕ → Bool
-bodiesFit doubles = eqb (doubles % 26) 0 && leb (doubles / 26) 16
+bodiesFit doubles = eqb (doubles % RECORD) 0 && leb (doubles / RECORD) BODIES-MOST
 
 -- 6
 abbrev pub massInRange : Float → Bool
@@ -125,7 +127,7 @@ sizesOr doubles count dt scratch next =
     cond (not (timeStepOk dt)) TimeStep
     (cond (not (bodiesFit doubles)) Bodies
     (cond (ltb 16 count) Joints
-    (cond (ltb scratch 6144) Scratch
+    (cond (ltb scratch SCRATCH) Scratch
     next)))
 
 -- 5 to 7, of the n bodies

@@ -7,7 +7,7 @@
 use Prim.Native.Nat.{ℕ, _+_, _*_}
 use Rattle.solves.specs.Layout.{BODIES-MOST, VECTOR, END}
 
--- the doubles of a body's record, those of them that move, and the doubles of scratch that a step asks for (SPECIFICATION §4 and §7)
+-- the doubles of a body's record, those of them that move, and the doubles of scratch that a step asks for (SPECIFICATION §6.1 and §7)
 abbrev pub RECORD : ℕ
 RECORD = 26
 

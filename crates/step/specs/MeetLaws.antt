@@ -31,6 +31,7 @@ use Rattle.solves.specs.Solver.{noRow}
 use Rattle.step.specs.declared.Outcome.{Outcome}
 use Rattle.step.specs.declared.Outcome.the-variants.{Accepted, Ground}
 use Rattle.step.specs.declared.Report.{Report}
+use Rattle.step.specs.Layout.{RECORD}
 use Rattle.step.specs.Records.{recordAt, bodyCount, recordsOf, stateAt}
 use Rattle.step.specs.Checks.{numberOf, withinOf, massInRange, bodyInRange, frameOk, motionsOk, jointIn, refusalOf, isAccepted}
 use Rattle.step.specs.CheckLaws.{Ready, number-zero, refused-number, accepted}
@@ -96,7 +97,7 @@ module _ (bodies : List Float) (joints : List Joint) (count : ℕ) (dt : Float) 
     unfolding grounded
     ground = yes-T (every-at (λ (i : ℕ). withinOf (stateIn states i .origin) (ratio 8192 1)) (length states) (sym on-ground) in-states)
 
-    back : stateIn states k ≡ stateAt (handBack bodies states) (26 * k)
+    back : stateIn states k ≡ stateAt (handBack bodies states) (RECORD * k)
     back = sym (back-state bodies states k there)
 
     stood : Stands (recordAt (handBack bodies states) k .origin) (recordAt (handBack bodies states) k .rotation)
@@ -241,10 +242,10 @@ module _ (bodies : List Float) (joints : List Joint) (count : ℕ) (dt : Float) 
         end = ran (jobOf bodies joints count dt) (recordsOf bodies) states e
 
         as-many : {k : ℕ} → k < bodyCount (handBack bodies states) → k < bodyCount bodies
-        as-many {k} h = subst (λ (n : ℕ). k < n / 26) (back-length bodies states) h
+        as-many {k} h = subst (λ (n : ℕ). k < n / RECORD) (back-length bodies states) h
 
         same : {k : ℕ} → k < bodyCount bodies → k < bodyCount (handBack bodies states)
-        same {k} h = subst (λ (n : ℕ). k < n / 26) (sym (back-length bodies states)) h
+        same {k} h = subst (λ (n : ℕ). k < n / RECORD) (sym (back-length bodies states)) h
 
     -- however the run ends
     says-run : (n l : ℕ) (t : Result (List BodyState)) → runFor bodies joints count dt .ends ≡ t

@@ -4,7 +4,8 @@ use mathlib.Core.Path.{_≡_}
 use lib.ListN.{getD}
 use mathlib.Core.List.{List}
 use Rattle.rows.specs.declared.geometry.Joint.{Joint}
-use Rattle.step.specs.Layout.{SCRATCH}
+use Rattle.solves.specs.Layout.{BODIES-MOST}
+use Rattle.step.specs.Layout.{RECORD, SCRATCH}
 use Rattle.step.specs.Checks.{jointIn}
 
 -- at most 16 joints, on at most 16 bodies
@@ -16,7 +17,7 @@ pub record Joined (joints : List Joint) (count size : ℕ) : Type 0 where
 
 -- the numbers of 2 to 4 are in range
 pub record Sizes (doubles count scratch : ℕ) : Type 0 where
-  pub small : doubles / 26 ≤ 16
+  pub small : doubles / RECORD ≤ BODIES-MOST
   pub few : count ≤ 16
   pub room : SCRATCH ≤ scratch
 

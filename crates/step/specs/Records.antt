@@ -11,6 +11,7 @@ use Rattle.vectors.specs.Matrix.{fromCols}
 use Rattle.rows.specs.declared.body.RigidBody.{RigidBody}
 use Rattle.rows.specs.declared.body.BodyState.{BodyState}
 use Rattle.rows.specs.View.{at, vec3At}
+use Rattle.step.specs.Layout.{RECORD}
 
 abbrev pub quatAt : List Float → ℕ → Quat
 quatAt s i = quat (at s i) (at s (i + 1)) (at s (i + 2)) (at s (i + 3))
@@ -32,10 +33,10 @@ recordFrom s i = record {
 
 -- record k of a body slice
 abbrev pub recordAt : List Float → ℕ → RigidBody
-recordAt s k = recordFrom s (26 * k)
+recordAt s k = recordFrom s (RECORD * k)
 
 abbrev pub bodyCount : List Float → ℕ
-bodyCount s = length s / 26
+bodyCount s = length s / RECORD
 
 abbrev pub recordsOf : List Float → List RigidBody
 recordsOf s = tab (bodyCount s) (recordAt s)

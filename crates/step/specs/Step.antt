@@ -1,4 +1,4 @@
--- ConstrainedIntegrator::solve of solver.rs over plain values, pass by pass, with the refusals and the ground of SPECIFICATION §7 and §13.
+-- ConstrainedIntegrator::solve of solver.rs over plain values, pass by pass, with the refusals and the ground of SPECIFICATION §7 and §11.
 -- In a `do` block `x ← e` is `let x = e?` with the passes that it counted; `try` marks what counts none, `begin` is `nonlinear_iterations = iteration + 1`.
 -- Bodies.antt has the parts that count nothing, solves/specs/Search.antt the linear solves.
 use Prim.Native.Nat.{ℕ, _/_, _%_}

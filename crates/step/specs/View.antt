@@ -12,7 +12,7 @@ use Rattle.vectors.specs.Matrix.{fromCols, columnOf}
 use Rattle.rows.specs.declared.body.BodyState.{BodyState}
 use Rattle.rows.specs.declared.body.MomentumBody.{MomentumBody}
 use Rattle.rows.specs.View.{at, vec3At, Out, Kept}
-use Rattle.step.specs.Layout.{START, CANDIDATE}
+use Rattle.step.specs.Layout.{RECORD, MOVING, START, CANDIDATE}
 use Rattle.step.specs.Records.{quatAt, matAt, stateAt}
 
 -- what moves of a body, and what does not
@@ -57,11 +57,11 @@ bodyFrom s i j = record {
 
 -- the body k at the start of the step
 abbrev pub startBodyAt : List Float → ℕ → MomentumBody
-startBodyAt s k = bodyFrom s (START + 26 * k) (START + 26 * k)
+startBodyAt s k = bodyFrom s (START + RECORD * k) (START + RECORD * k)
 
 -- the candidate k, with mass, local centre and inverse inertia of the start
 abbrev pub candidateAt : List Float → ℕ → MomentumBody
-candidateAt s k = bodyFrom s (CANDIDATE + 13 * k) (START + 26 * k)
+candidateAt s k = bodyFrom s (CANDIDATE + MOVING * k) (START + RECORD * k)
 
 -- the first n of them, and the n states that stand where the candidates were
 abbrev pub startBodiesAt : List Float → ℕ → List MomentumBody
@@ -71,7 +71,7 @@ abbrev pub candidatesAt : List Float → ℕ → List MomentumBody
 candidatesAt s n = tab n (candidateAt s)
 
 abbrev pub statesAt : List Float → ℕ → List BodyState
-statesAt s n = tab n (λ k. stateAt s (CANDIDATE + 13 * k))
+statesAt s n = tab n (λ k. stateAt s (CANDIDATE + MOVING * k))
 
 -- the body as a store of all of it leaves it
 abbrev pub heldOf : MomentumBody → MomentumBody
@@ -99,5 +99,5 @@ movedTo b start = record {
 
 -- The states are handed back: the first 13 doubles of n records are those of the scratch, all else is as it was.
 pub record Handed (n : ℕ) (s bodies after : List Float) : Type 0 where
-  pub kept : Kept (λ i. (k : ℕ) → k < n → Out (26 * k) 13 i) bodies after
-  pub there : (k : ℕ) → k < n → stateAt after (26 * k) ≡ stateAt s (CANDIDATE + 13 * k)
+  pub kept : Kept (λ i. (k : ℕ) → k < n → Out (RECORD * k) MOVING i) bodies after
+  pub there : (k : ℕ) → k < n → stateAt after (RECORD * k) ≡ stateAt s (CANDIDATE + MOVING * k)

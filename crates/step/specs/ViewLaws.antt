@@ -16,7 +16,7 @@ use Rattle.rows.specs.declared.body.BodyState.{BodyState}
 use Rattle.rows.specs.declared.body.MomentumBody.{MomentumBody}
 use Rattle.rows.specs.View.{at, Out, Kept}
 use Rattle.rows.specs.Region.{Over, kept-vec3, tab-ext}
-use Rattle.step.specs.Layout.{START, CANDIDATE}
+use Rattle.step.specs.Layout.{RECORD, MOVING, START, CANDIDATE}
 use Rattle.step.specs.Records.{quatAt, matAt, stateAt}
 use Rattle.step.specs.View.{colsOf, bodyFrom, startBodyAt, candidateAt, startBodiesAt, candidatesAt, heldOf, movedTo, Handed}
 
@@ -80,7 +80,7 @@ module _ {P : ℕ → Type 0} {s t : List Float} (kept : Kept P s t) where
       (kept-vec3 kept (i + 3) (λ k a b. w k (omega arith) (omega arith)) j)
       (kept-vec3 kept (i + 6) (λ k a b. w k (omega arith) (omega arith)) j)
 
-  pub kept-state : (i : ℕ) → Over P i 13 → stateAt t i ≡ stateAt s i
+  pub kept-state : (i : ℕ) → Over P i MOVING → stateAt t i ≡ stateAt s i
   kept-state i w = λ j. record {
     origin = kept-vec3 kept i (λ k a b. w k (omega arith) (omega arith)) j;
     rotation = kept-quat (i + 3) (λ k a b. w k (omega arith) (omega arith)) j;
@@ -99,20 +99,20 @@ module _ {P : ℕ → Type 0} {s t : List Float} (kept : Kept P s t) where
     «inverse_inertia» = kept-mat (k + 17) (λ n a b. w n (omega arith) (omega arith)) j;
   }
 
-  pub kept-start : (k : ℕ) → Over P (START + 26 * k) 26 → startBodyAt t k ≡ startBodyAt s k
-  kept-start k w = kept-body (START + 26 * k) (START + 26 * k) (λ n a b. w n (omega arith) (omega arith)) (λ n a b. w n (omega arith) (omega arith))
+  pub kept-start : (k : ℕ) → Over P (START + RECORD * k) RECORD → startBodyAt t k ≡ startBodyAt s k
+  kept-start k w = kept-body (START + RECORD * k) (START + RECORD * k) (λ n a b. w n (omega arith) (omega arith)) (λ n a b. w n (omega arith) (omega arith))
 
-  pub kept-candidate : (k : ℕ) → Over P (CANDIDATE + 13 * k) 13 → Over P (START + 26 * k + 13) 13 → candidateAt t k ≡ candidateAt s k
-  kept-candidate k v w = kept-body (CANDIDATE + 13 * k) (START + 26 * k) v w
+  pub kept-candidate : (k : ℕ) → Over P (CANDIDATE + MOVING * k) MOVING → Over P (START + RECORD * k + 13) 13 → candidateAt t k ≡ candidateAt s k
+  kept-candidate k v w = kept-body (CANDIDATE + MOVING * k) (START + RECORD * k) v w
 
-  pub kept-starts : (n : ℕ) → Over P START (26 * n) → startBodiesAt t n ≡ startBodiesAt s n
+  pub kept-starts : (n : ℕ) → Over P START (RECORD * n) → startBodiesAt t n ≡ startBodiesAt s n
   kept-starts n w = tab-ext n λ k h. kept-start k (λ i a b. w i (omega arith) (omega arith))
 
-  pub kept-candidates : (n : ℕ) → Over P START (26 * n) → Over P CANDIDATE (13 * n) → candidatesAt t n ≡ candidatesAt s n
+  pub kept-candidates : (n : ℕ) → Over P START (RECORD * n) → Over P CANDIDATE (MOVING * n) → candidatesAt t n ≡ candidatesAt s n
   kept-candidates n v w = tab-ext n λ k h. kept-candidate k (λ i a b. w i (omega arith) (omega arith)) (λ i a b. v i (omega arith) (omega arith))
 
 -- the 13 doubles of a state, one by one
-pub state-at : (s t : List Float) (i k : ℕ) → stateAt t i ≡ stateAt s k → (j : ℕ) → j < 13 → at t (i + j) ≡ at s (k + j)
+pub state-at : (s t : List Float) (i k : ℕ) → stateAt t i ≡ stateAt s k → (j : ℕ) → j < MOVING → at t (i + j) ≡ at s (k + j)
 state-at s t i k e = by
   where
     o : (f : Vec3 → Float) → f (stateAt t i .origin) ≡ f (stateAt s k .origin)
@@ -139,7 +139,7 @@ state-at s t i k e = by
     zero-s : at s k ≡ at s (k + 0)
     zero-s = ap (at s) (let h : k ≡ k + 0 = omega arith in h)
 
-    by : (j : ℕ) → j < 13 → at t (i + j) ≡ at s (k + j)
+    by : (j : ℕ) → j < MOVING → at t (i + j) ≡ at s (k + j)
     by zero h = zero-t ∙ o (λ v. v .x) ∙ zero-s
     by (suc zero) h = o (λ v. v .y)
     by (suc (suc zero)) h = o (λ v. v .z)
@@ -157,11 +157,11 @@ state-at s t i k e = by
 
 module _ {n : ℕ} {s bodies after : List Float} (h : Handed n s bodies after) (k : ℕ) (l : k < n) where
   -- what stands in the record: 13 doubles of the scratch, and 13 as they were
-  pub handed-new : (j : ℕ) → j < 13 → at after (26 * k + j) ≡ at s (CANDIDATE + 13 * k + j)
-  handed-new = state-at s after (26 * k) (CANDIDATE + 13 * k) (h .there k l)
+  pub handed-new : (j : ℕ) → j < MOVING → at after (RECORD * k + j) ≡ at s (CANDIDATE + MOVING * k + j)
+  handed-new = state-at s after (RECORD * k) (CANDIDATE + MOVING * k) (h .there k l)
 
-  pub handed-old : (j : ℕ) → 13 ≤ j → j < 26 → at after (26 * k + j) ≡ at bodies (26 * k + j)
-  handed-old j a b = h .kept .same (26 * k + j) (λ m q. apart m)
+  pub handed-old : (j : ℕ) → MOVING ≤ j → j < RECORD → at after (RECORD * k + j) ≡ at bodies (RECORD * k + j)
+  handed-old j a b = h .kept .same (RECORD * k + j) (λ m q. apart m)
     where
-      apart : (m : ℕ) → Out (26 * m) 13 (26 * k + j)
+      apart : (m : ℕ) → Out (RECORD * m) MOVING (RECORD * k + j)
       apart m = omega arith

@@ -1,8 +1,8 @@
 // Records of bodies in the caller's slice, and bodies in motion in the scratch.
-use crate::RECORD;
 use crate::checks::within;
 use crate::layout::CANDIDATE;
 use crate::layout::MOVING;
+use crate::layout::RECORD;
 use crate::layout::START;
 use rows::body::BodyState;
 use rows::body::MomentumBody;

@@ -1,8 +1,8 @@
 // Refusals 1 to 9 of SPECIFICATION §7: each number over all bodies or joints before the next.
 use crate::Outcome;
-use crate::RECORD;
-use crate::SCRATCH;
 use crate::bodies::load_record;
+use crate::layout::RECORD;
+use crate::layout::SCRATCH;
 use crate::number;
 use arith::angle::PI;
 use arith::number::abs;

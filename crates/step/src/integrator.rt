@@ -1,5 +1,4 @@
 // The nonlinear loop of `solve` in solver.rs, and the run as a whole.
-use crate::RECORD;
 use crate::bodies::load_candidate;
 use crate::bodies::load_record;
 use crate::bodies::load_start;
@@ -10,6 +9,7 @@ use crate::bodies::store_state;
 use crate::layout::CANDIDATE;
 use crate::layout::IMPULSES;
 use crate::layout::MOVING;
+use crate::layout::RECORD;
 use crate::passes::Passed;
 use crate::passes::Ran;
 use crate::passes::loop_ended;

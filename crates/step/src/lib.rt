@@ -2,7 +2,7 @@
 mod bodies;
 mod checks;
 mod integrator;
-mod layout;
+pub mod layout;
 mod passes;
 mod velocity;
 
@@ -11,6 +11,8 @@ use crate::bodies::write_states;
 use crate::checks::accepted;
 use crate::checks::refusal;
 use crate::integrator::run;
+use crate::layout::RECORD;
+use crate::layout::SCRATCH;
 use rows::geometry::Joint;
 use solves::End;
 use solves::values::clear;
@@ -28,11 +30,6 @@ ghost use Rattle.step.specs.View.{statesAt};
 ghost use Rattle.step.specs.Step.{settled, runFor};
 ghost use Rattle.step.specs.SettleView.{Settles, Reports};
 ghost use Rattle.step.specs.Answered.{Answered};
-
-// The doubles of scratch that a step asks for.
-pub const SCRATCH: usize = 6144;
-// The doubles of a body's record.
-pub const RECORD: usize = 26;
 
 // Accepted, or the refusal of SPECIFICATION §7, in its order.
 pub enum Outcome {

@@ -1,1 +1,2 @@
+-- Readings: the laws that the proofs of this crate's functions cite.
 pub mod Readings
