@@ -5,15 +5,6 @@ use borrow.Author.Needs.{needs}
 use Rattle.bench_c.proofs.rattle_cos.Statement.{statement}
 use Rattle.bench_c.proofs.rattle_cos.Tie as tie
 
-sin-cos-requires : tie.Need-sin-cos-requires
-sin-cos-requires c κs = search needs
-
-enum-known-t : tie.Need-enum-known-t
-enum-known-t c = search needs
-
-enum-told : tie.Need-enum-told
-enum-told c = search needs
-
 returns : tie.Need-returns
 returns c = ap cosineIn (sym (c .before .t .given .1) ∙ c .before .before .before .sin-cos .ensures .is)
 
@@ -21,4 +12,5 @@ returns-2 : tie.Need-returns-2
 returns-2 c = ap cosineIn (sym (c .enum-told .given .1) ∙ c .before .before .sin-cos .ensures .is)
 
 pub rattle-cos-spec : {M : Type 1} → statement M
-rattle-cos-spec = tie.close (tie.spec sin-cos-requires enum-known-t enum-told returns returns-2)
+rattle-cos-spec =
+    tie.close (tie.spec (λ c κs. search needs) (λ c. search needs) (λ c. search needs) returns returns-2)

@@ -4,26 +4,8 @@ use borrow.Author.Needs.{needs}
 use Rattle.pose.proofs.reply_to.Statement.{statement}
 use Rattle.pose.proofs.reply_to.Tie as tie
 
-failed-requires : tie.Need-failed-requires
-failed-requires c κs = search needs
-
 returns : tie.Need-returns
 returns c = (search needs, reply-none _ (c .before .failed .ensures) (c .if1 .taken))
-
-array-share-prefix-file : tie.Need-array-share-prefix-file
-array-share-prefix-file c = search needs
-
-slice-aggregate-pose : tie.Need-slice-aggregate-pose
-slice-aggregate-pose c = search needs
-
-slice-aggregate-pose-2 : tie.Need-slice-aggregate-pose-2
-slice-aggregate-pose-2 c = search needs
-
-slice-aggregate-pose-3 : tie.Need-slice-aggregate-pose-3
-slice-aggregate-pose-3 c = search needs
-
-pose-requires : tie.Need-pose-requires
-pose-requires c κs = search needs
 
 returns-2 : tie.Need-returns-2
 returns-2 c =
@@ -34,13 +16,6 @@ returns-2 c =
 
 pub reply-to-spec : {M : Type 1} → statement M
 reply-to-spec =
-    tie.close
-    (tie.spec
-    failed-requires
-    returns
-    array-share-prefix-file
-    slice-aggregate-pose
-    slice-aggregate-pose-2
-    slice-aggregate-pose-3
-    pose-requires
-    returns-2)
+    tie.close (tie.spec
+      (λ c κs. search needs) returns (λ c. search needs) (λ c. search needs) (λ c. search needs)
+      (λ c. search needs) (λ c κs. search needs) returns-2)

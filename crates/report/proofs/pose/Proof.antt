@@ -13,15 +13,6 @@ returns c =
     let start = c .before .before .before .before in
     poses-none (now (start .args .file)) (now (start .args .scratch)) (now (start .args .out)) (c .if1 .taken)
 
-empty-requires : tie.Need-empty-requires
-empty-requires c κs = search needs
-
-read-requires : tie.Need-read-requires
-read-requires c κs = search needs
-
-number-requires : tie.Need-number-requires
-number-requires c κs = search needs
-
 step-and-report-requires : tie.Need-step-and-report-requires
 step-and-report-requires c κs =
     let at-if2 = c .before .before in
@@ -32,12 +23,6 @@ step-and-report-requires c κs =
     let start = at-if1 .before .before .before .before in
     let reading = at-read .read .ensures ∙ ap (readOf (now (start .args .file))) (at-empty .empty .ensures) in
     (read-few _ reading (at-number .number .ensures) (at-if2 .if2 .taken) .0, at-if1 .if1 .left)
-
-same-length : tie.Need-same-length
-same-length c = search needs
-
-same-length-2 : tie.Need-same-length-2
-same-length-2 c = search needs
 
 returns-2 : tie.Need-returns-2
 returns-2 c =
@@ -51,15 +36,6 @@ returns-2 c =
     poses-read (now (start .args .file)) (now (start .args .scratch)) (now (start .args .out)) (at-if1 .if1 .left)
     (at-read .read .ensures ∙ ap (readOf (now (start .args .file))) (at-empty .empty .ensures)) (at-number .number .ensures) (at-if2 .if2 .taken)
     (at-step .step-and-report .ensures .0) (at-step .step-and-report .ensures .1)
-
-slice-aggregate-report : tie.Need-slice-aggregate-report
-slice-aggregate-report c = search needs
-
-report-requires : tie.Need-report-requires
-report-requires c κs = search needs
-
-same-length-3 : tie.Need-same-length-3
-same-length-3 c = search needs
 
 returns-3 : tie.Need-returns-3
 returns-3 c =
@@ -76,17 +52,7 @@ returns-3 c =
 
 pub pose-spec : {M : Type 1} → statement M
 pose-spec =
-    tie.close
-    (tie.spec
-    returns
-    empty-requires
-    read-requires
-    number-requires
-    step-and-report-requires
-    same-length
-    same-length-2
-    returns-2
-    slice-aggregate-report
-    report-requires
-    same-length-3
-    returns-3)
+    tie.close (tie.spec
+      returns (λ c κs. search needs) (λ c κs. search needs) (λ c κs. search needs) step-and-report-requires
+      (λ c. search needs) (λ c. search needs) returns-2 (λ c. search needs) (λ c κs. search needs)
+      (λ c. search needs) returns-3)

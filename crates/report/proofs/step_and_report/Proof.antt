@@ -12,9 +12,6 @@ use Rattle.report.proofs.step_and_report.Tie as tie
 long : (c : tie.Start) → length (c .args .plan .bodies) ≡ 416
 long c = search needs
 
-mul-used : tie.Need-mul-used
-mul-used c = search needs
-
 array-borrow-prefix-bodies : tie.Need-array-borrow-prefix-bodies
 array-borrow-prefix-bodies c =
     let start = c .before .before .before .before .before in
@@ -24,12 +21,6 @@ slice-aggregate-solve : tie.Need-slice-aggregate-solve
 slice-aggregate-solve c =
     let start = c .before .before .before .before .before .before in
     part-length (start .args .plan .bodies) (start .args .plan .«body_count») (long start) (start .pre .0)
-
-solve-requires : tie.Need-solve-requires
-solve-requires c κs = search needs
-
-number-requires : tie.Need-number-requires
-number-requires c κs = search needs
 
 array-share-prefix-bodies : tie.Need-array-share-prefix-bodies
 array-share-prefix-bodies c =
@@ -44,15 +35,6 @@ slice-aggregate-report c =
     let at-used = at-solve .before .before .before .before in
     let start = at-used .before .before .before .before in
     back-length (start .args .plan .bodies) (start .args .plan .«body_count») (long start) (start .pre .0) (at-solve .solve .last .0) (at-solve .solve .kept .0)
-
-report-requires : tie.Need-report-requires
-report-requires c κs = search needs
-
-same-length : tie.Need-same-length
-same-length c = search needs
-
-same-length-2 : tie.Need-same-length-2
-same-length-2 c = search needs
 
 returns : tie.Need-returns
 returns c =
@@ -71,16 +53,7 @@ returns c =
 
 pub step-and-report-spec : {M : Type 1} → statement M
 step-and-report-spec =
-    tie.close
-    (tie.spec
-    mul-used
-    array-borrow-prefix-bodies
-    slice-aggregate-solve
-    solve-requires
-    number-requires
-    array-share-prefix-bodies
-    slice-aggregate-report
-    report-requires
-    same-length
-    same-length-2
-    returns)
+    tie.close (tie.spec
+      (λ c. search needs) array-borrow-prefix-bodies slice-aggregate-solve (λ c κs. search needs)
+      (λ c κs. search needs) array-share-prefix-bodies slice-aggregate-report (λ c κs. search needs)
+      (λ c. search needs) (λ c. search needs) returns)

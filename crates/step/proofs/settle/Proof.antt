@@ -7,9 +7,6 @@ use Rattle.step.proofs.FinishLaws.{settle-accepts, settle-grounds, sett
 use Rattle.step.proofs.settle.Statement.{statement}
 use Rattle.step.proofs.settle.Tie as tie
 
-enum-told : tie.Need-enum-told
-enum-told c = search needs
-
 in-ground-requires : tie.Need-in-ground-requires
 in-ground-requires c κs =
     let at-entry = c .before .before .before .before in
@@ -20,9 +17,6 @@ write-states-requires c κs =
     let at-slice-known = c .before .before .before .before .before .before in let at-entry = at-slice-known .before in
     (omega arith, at-entry .pre .2, at-entry .pre .3)
 
-same-length : tie.Need-same-length
-same-length c = search needs
-
 returns : tie.Need-returns
 returns c =
     let at-if1 = c .before .before .before .before in let at-in-ground = at-if1 .before in let at-enum-told = at-in-ground .before in
@@ -30,12 +24,6 @@ returns c =
     λ nonlinear linear scratch. settle-accepts (at-entry .args .n) (now (at-entry .args .work)) (now (at-entry .args .bodies))
     (at-in-ground .in-ground .ensures) (at-enum-told .enum-told .given .1) nonlinear linear scratch (at-if1 .if1 .taken) (at-entry .pre .1)
     (at-entry .pre .0) (c .before .before .write-states .ensures)
-
-enum-told-2 : tie.Need-enum-told-2
-enum-told-2 c = search needs
-
-enum-told-3 : tie.Need-enum-told-3
-enum-told-3 c = search needs
 
 returns-2 : tie.Need-returns-2
 returns-2 c =
@@ -57,5 +45,6 @@ returns-4 c =
 
 pub settle-spec : {M : Type 1} → statement M
 settle-spec =
-    tie.close (tie.spec enum-told in-ground-requires write-states-requires same-length returns enum-told-2 enum-told-3 returns-2 returns-3
-    returns-4)
+    tie.close (tie.spec
+      (λ c. search needs) in-ground-requires write-states-requires (λ c. search needs) returns
+      (λ c. search needs) (λ c. search needs) returns-2 returns-3 returns-4)

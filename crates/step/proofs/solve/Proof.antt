@@ -13,15 +13,6 @@ use borrow.Author.Needs.{needs}
 use Rattle.step.proofs.solve.Statement.{statement}
 use Rattle.step.proofs.solve.Tie as tie
 
-refusal-requires : tie.Need-refusal-requires
-refusal-requires c κs = search needs
-
-accepted-requires : tie.Need-accepted-requires
-accepted-requires c κs = search needs
-
-same-length : tie.Need-same-length
-same-length c = search needs
-
 returns : tie.Need-returns
 returns c =
     let at-entry = c .before .before .before .before .before .before in
@@ -57,12 +48,6 @@ solve-in-requires c κs =
           (at-refusal .refusal .ensures) (at-accepted .accepted .ensures) (at-if1 .if1 .left)),
     )
 
-same-length-2 : tie.Need-same-length-2
-same-length-2 c = search needs
-
-same-length-3 : tie.Need-same-length-3
-same-length-3 c = search needs
-
 returns-2 : tie.Need-returns-2
 returns-2 c =
     let at-solve-in = c .before .before .before .before in let at-if1 = at-solve-in .before .before .before in let at-accepted = at-if1 .before in
@@ -75,5 +60,6 @@ returns-2 c =
 
 pub solve-spec : {M : Type 1} → statement M
 solve-spec =
-    tie.close (tie.spec refusal-requires accepted-requires same-length returns slice-relend-prefix-solve-in slice-aggregate-solve-in
-    solve-in-requires same-length-2 same-length-3 returns-2)
+    tie.close (tie.spec
+      (λ c κs. search needs) (λ c κs. search needs) (λ c. search needs) returns slice-relend-prefix-solve-in
+      slice-aggregate-solve-in solve-in-requires (λ c. search needs) (λ c. search needs) returns-2)

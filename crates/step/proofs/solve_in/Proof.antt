@@ -18,15 +18,6 @@ settle-requires c κs =
     let at-run-arg = c .before .before .before .before .before .before in let at-entry = at-run-arg .before .before .before in
     (at-entry .pre .1, refl, omega arith, at-entry .pre .2 .small)
 
-clear-requires : tie.Need-clear-requires
-clear-requires c κs = omega arith
-
-same-length : tie.Need-same-length
-same-length c = search needs
-
-same-length-2 : tie.Need-same-length-2
-same-length-2 c = search needs
-
 returns : tie.Need-returns
 returns c =
     let at-settle = c .before .before .before .before .before .before in let at-run = at-settle .before .before .before .before .before in
@@ -38,4 +29,5 @@ returns c =
 
 pub solve-in-spec : {M : Type 1} → statement M
 solve-in-spec =
-    tie.close (tie.spec run-requires settle-requires clear-requires same-length same-length-2 returns)
+    tie.close (tie.spec
+      run-requires settle-requires (λ c κs. omega arith) (λ c. search needs) (λ c. search needs) returns)

@@ -16,23 +16,8 @@ Inv-loop fd buffer₀ chunk₀ count₀ last₀ buffer chunk count last =
 abbrev μ-loop : tie.MeasureT-loop
 μ-loop fd buffer₀ chunk₀ count₀ last₀ buffer chunk count last = length buffer - count
 
-buffer-requires : tie.Need-buffer-requires Inv-loop μ-loop
-buffer-requires c κs = search needs
-
-slice-aggregate-chunk : tie.Need-slice-aggregate-chunk Inv-loop μ-loop
-slice-aggregate-chunk c = omega arith
-
 loop-holds : tie.Need-loop-holds Inv-loop μ-loop
 loop-holds c = (refl, refl, omega arith, omega arith, reading-none _)
-
-read-to-requires : tie.Need-read-to-requires Inv-loop μ-loop
-read-to-requires c κs = omega arith
-
-bytes-requires : tie.Need-bytes-requires Inv-loop μ-loop
-bytes-requires c κs = search needs
-
-same-length : tie.Need-same-length Inv-loop μ-loop
-same-length c = omega arith
 
 returns : tie.Need-returns Inv-loop μ-loop
 returns c =
@@ -67,9 +52,6 @@ loop-again c =
       reading-more _ _ (at-loop .loop .inv .4) (at-read .read-to .ensures) (at-bytes .bytes .ensures) (c .if1 .left),
     )
 
-same-length-2 : tie.Need-same-length-2 Inv-loop μ-loop
-same-length-2 c = omega arith
-
 returns-2 : tie.Need-returns-2 Inv-loop μ-loop
 returns-2 c =
     let at-loop = c .before .before in
@@ -78,19 +60,7 @@ returns-2 c =
 
 pub read-all-spec : {M : Type 1} → statement M
 read-all-spec =
-    tie.close
-    (tie.spec
-    Inv-loop
-    μ-loop
-    buffer-requires
-    slice-aggregate-chunk
-    loop-holds
-    read-to-requires
-    bytes-requires
-    same-length
-    returns
-    add-count
-    loop-less
-    loop-again
-    same-length-2
-    returns-2)
+    tie.close (tie.spec
+      Inv-loop μ-loop (λ c κs. search needs) (λ c. omega arith) loop-holds (λ c κs. omega arith)
+      (λ c κs. search needs) (λ c. omega arith) returns add-count loop-less loop-again (λ c. omega arith)
+      returns-2)

@@ -16,26 +16,8 @@ use Rattle.streams.proofs.Readings.{moved-most, reads}
 use Rattle.streams.proofs.read_to.Statement.{statement}
 use Rattle.streams.proofs.read_to.Tie as tie
 
-sub-least : tie.Need-sub-least
-sub-least c = search needs
-
-least-requires : tie.Need-least-requires
-least-requires c κs = search needs
-
-slice-relend-prefix-read : tie.Need-slice-relend-prefix-read
-slice-relend-prefix-read c = search needs
-
 slice-aggregate-read : tie.Need-slice-aggregate-read
 slice-aggregate-read c = sym (length-take-le _ _ (omega arith))
-
-read-requires : tie.Need-read-requires
-read-requires c κs = search needs
-
-met-requires : tie.Need-met-requires
-met-requires c κs = search needs
-
-bytes-requires : tie.Need-bytes-requires
-bytes-requires c κs = search needs
 
 -- the chunk, whose front `read` was lent, and how long it is again
 abbrev came : tie.After-read → tie.Start
@@ -77,9 +59,6 @@ copy-requires c κs =
     let start = at-read .before .before .before .before .before in
     omega (arith, most at-bytes, whole at-read, at-read .before .before .least .ensures, start .pre)
 
-same-length : tie.Need-same-length
-same-length c = search needs
-
 same-length-2 : tie.Need-same-length-2
 same-length-2 c =
     let at-bytes = c .before .before .before .before in
@@ -98,16 +77,6 @@ returns c =
 
 pub read-to-spec : {M : Type 1} → statement M
 read-to-spec =
-    tie.close
-    (tie.spec
-    sub-least
-    least-requires
-    slice-relend-prefix-read
-    slice-aggregate-read
-    read-requires
-    met-requires
-    bytes-requires
-    copy-requires
-    same-length
-    same-length-2
-    returns)
+    tie.close (tie.spec
+      (λ c. search needs) (λ c κs. search needs) (λ c. search needs) slice-aggregate-read (λ c κs. search needs)
+      (λ c κs. search needs) (λ c κs. search needs) copy-requires (λ c. search needs) same-length-2 returns)

@@ -4,18 +4,6 @@ use borrow.Author.Needs.{needs}
 use Rattle.arith.proofs.angle.angle_of.Statement.{statement}
 use Rattle.arith.proofs.angle.angle_of.Tie as tie
 
-abs-requires : tie.Need-abs-requires
-abs-requires c κs = search needs
-
-abs-requires-2 : tie.Need-abs-requires-2
-abs-requires-2 c κs = search needs
-
-quadrant-requires : tie.Need-quadrant-requires
-quadrant-requires c κs = search needs
-
-facing-requires : tie.Need-facing-requires
-facing-requires c κs = search needs
-
 returns : tie.Need-returns
 returns c =
     let at-abs2 = c .before .before .before in
@@ -30,5 +18,6 @@ returns-2 c =
 
 pub angle-of-spec : {M : Type 1} → statement M
 angle-of-spec =
-    tie.close
-    (tie.spec abs-requires abs-requires-2 quadrant-requires facing-requires returns returns-2)
+    tie.close (tie.spec
+      (λ c κs. search needs) (λ c κs. search needs) (λ c κs. search needs) (λ c κs. search needs) returns
+      returns-2)

@@ -4,14 +4,8 @@ use borrow.Author.Needs.{needs}
 use Rattle.arith.proofs.angle.atan2.Statement.{statement}
 use Rattle.arith.proofs.angle.atan2.Tie as tie
 
-is-finite-requires : tie.Need-is-finite-requires
-is-finite-requires c κs = search needs
-
 returns : tie.Need-returns
 returns c = atan-answered _ _ (atan-first _ _ (c .before .is-finite .ensures) (c .if1 .taken))
-
-is-finite-requires-2 : tie.Need-is-finite-requires-2
-is-finite-requires-2 c κs = search needs
 
 returns-2 : tie.Need-returns-2
 returns-2 c =
@@ -28,9 +22,6 @@ returns-3 c =
     (atan-zero _ _ (at-y .before .is-finite .ensures) (at-y .if1 .left) (at-x .is-finite2 .ensures) (at-zero .before .if2 .left)
     (at-zero .if3 .taken) (c .if4 .taken))
 
-angle-of-requires : tie.Need-angle-of-requires
-angle-of-requires c κs = search needs
-
 returns-4 : tie.Need-returns-4
 returns-4 c =
     let at-zero = c .before .before in
@@ -39,9 +30,6 @@ returns-4 c =
     atan-answered _ _
     (atan-axis _ _ (at-y .before .is-finite .ensures) (at-y .if1 .left) (at-x .is-finite2 .ensures) (at-zero .before .if2 .left)
     (at-zero .if3 .taken) (c .before .if4 .left) (c .angle-of .ensures))
-
-angle-of-requires-2 : tie.Need-angle-of-requires-2
-angle-of-requires-2 c κs = search needs
 
 returns-5 : tie.Need-returns-5
 returns-5 c =
@@ -54,14 +42,6 @@ returns-5 c =
 
 pub atan2-spec : {M : Type 1} → statement M
 atan2-spec =
-    tie.close
-    (tie.spec
-    is-finite-requires
-    returns
-    is-finite-requires-2
-    returns-2
-    returns-3
-    angle-of-requires
-    returns-4
-    angle-of-requires-2
-    returns-5)
+    tie.close (tie.spec
+      (λ c κs. search needs) returns (λ c κs. search needs) returns-2 returns-3 (λ c κs. search needs) returns-4
+      (λ c κs. search needs) returns-5)

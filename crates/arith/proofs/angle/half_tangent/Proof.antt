@@ -4,11 +4,6 @@ use borrow.Author.Needs.{needs}
 use Rattle.arith.proofs.angle.half_tangent.Statement.{statement}
 use Rattle.arith.proofs.angle.half_tangent.Tie as tie
 
-sqrt-requires : tie.Need-sqrt-requires
-sqrt-requires c κs = search needs
-
-returns : tie.Need-returns
-returns c = half-tangent-is _ (c .sqrt .ensures .is)
-
 pub half-tangent-spec : {M : Type 1} → statement M
-half-tangent-spec = tie.close (tie.spec sqrt-requires returns)
+half-tangent-spec =
+    tie.close (tie.spec (λ c κs. search needs) (λ c. half-tangent-is _ (c .sqrt .ensures .is)))

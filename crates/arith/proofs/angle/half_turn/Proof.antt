@@ -4,14 +4,9 @@ use borrow.Author.Needs.{needs}
 use Rattle.arith.proofs.angle.half_turn.Statement.{statement}
 use Rattle.arith.proofs.angle.half_turn.Tie as tie
 
-sine-sum-requires : tie.Need-sine-sum-requires
-sine-sum-requires c κs = search needs
-
-cosine-sum-requires : tie.Need-cosine-sum-requires
-cosine-sum-requires c κs = search needs
-
 returns : tie.Need-returns
 returns c = half-turn-is _ (c .before .sine-sum .ensures) (c .cosine-sum .ensures)
 
 pub half-turn-spec : {M : Type 1} → statement M
-half-turn-spec = tie.close (tie.spec sine-sum-requires cosine-sum-requires returns)
+half-turn-spec =
+    tie.close (tie.spec (λ c κs. search needs) (λ c κs. search needs) returns)

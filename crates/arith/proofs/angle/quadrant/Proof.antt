@@ -4,17 +4,12 @@ use borrow.Author.Needs.{needs}
 use Rattle.arith.proofs.angle.quadrant.Statement.{statement}
 use Rattle.arith.proofs.angle.quadrant.Tie as tie
 
-octant-requires : tie.Need-octant-requires
-octant-requires c κs = search needs
-
 returns : tie.Need-returns
 returns c = quadrant-steep _ _ (c .before .if1 .taken) (c .octant .ensures)
-
-octant-requires-2 : tie.Need-octant-requires-2
-octant-requires-2 c κs = search needs
 
 returns-2 : tie.Need-returns-2
 returns-2 c = quadrant-flat _ _ (c .before .if1 .left) (c .octant2 .ensures)
 
 pub quadrant-spec : {M : Type 1} → statement M
-quadrant-spec = tie.close (tie.spec octant-requires returns octant-requires-2 returns-2)
+quadrant-spec =
+    tie.close (tie.spec (λ c κs. search needs) returns (λ c κs. search needs) returns-2)

@@ -4,9 +4,6 @@ use borrow.Author.Needs.{needs}
 use Rattle.arith.proofs.angle.rem_tau.Statement.{statement}
 use Rattle.arith.proofs.angle.rem_tau.Tie as tie
 
-remainder-tau-requires : tie.Need-remainder-tau-requires
-remainder-tau-requires c κs = search needs
-
 returns : tie.Need-returns
 returns c = rem-below _ (c .before .remainder-tau .ensures) (c .if1 .taken)
 
@@ -14,4 +11,5 @@ returns-2 : tie.Need-returns-2
 returns-2 c = rem-above _ (c .before .remainder-tau .ensures) (c .if1 .left)
 
 pub rem-tau-spec : {M : Type 1} → statement M
-rem-tau-spec = tie.close (tie.spec remainder-tau-requires returns returns-2)
+rem-tau-spec =
+    tie.close (tie.spec (λ c κs. search needs) returns returns-2)

@@ -4,12 +4,6 @@ use borrow.Author.Needs.{needs}
 use Rattle.arith.proofs.angle.sin_cos.Statement.{statement}
 use Rattle.arith.proofs.angle.sin_cos.Tie as tie
 
-returns : tie.Need-returns
-returns c = sines-answered _ (sines-low _ (c .if1 .taken))
-
-halved-requires : tie.Need-halved-requires
-halved-requires c κs = search needs
-
 returns-2 : tie.Need-returns-2
 returns-2 c = sines-answered _ (sines-in _ (c .before .before .if1 .left) (c .before .if2 .taken) (c .halved .ensures))
 
@@ -17,4 +11,6 @@ returns-3 : tie.Need-returns-3
 returns-3 c = sines-answered _ (sines-high _ (c .before .if1 .left) (c .if2 .left))
 
 pub sin-cos-spec : {M : Type 1} → statement M
-sin-cos-spec = tie.close (tie.spec returns halved-requires returns-2 returns-3)
+sin-cos-spec =
+    tie.close (tie.spec
+      (λ c. sines-answered _ (sines-low _ (c .if1 .taken))) (λ c κs. search needs) returns-2 returns-3)

@@ -17,12 +17,6 @@ returns c = λ e. no e
 returns-2 : tie.Need-returns-2
 returns-2 c = λ e. no e
 
-mul-p : tie.Need-mul-p
-mul-p c = search needs
-
-add-p : tie.Need-add-p
-add-p c = search needs
-
 mul-c : tie.Need-mul-c
 mul-c c = let at-start = c .before .before in omega (arith, mixed (at-start .args .q) (at-start .pre))
 
@@ -32,20 +26,11 @@ returns-3 c = λ e. no e
 returns-4 : tie.Need-returns-4
 returns-4 c = λ e. no e
 
-mul-w : tie.Need-mul-w
-mul-w c = search needs
-
 mul-z : tie.Need-mul-z
 mul-z c = omega (arith, low-square (c .before .before .before .before .args .q))
 
 add-z : tie.Need-add-z
 add-z c = omega (arith, low-square (c .before .before .before .before .args .q))
-
-add-if5 : tie.Need-add-if5
-add-if5 c = search needs
-
-add-result : tie.Need-add-result
-add-result c = search needs
 
 returns-5 : tie.Need-returns-5
 returns-5 c = λ e.
@@ -59,20 +44,6 @@ returns-6 c = λ e. no e
 
 pub is-nearest-spec : {M : Type 1} → statement M
 is-nearest-spec =
-    tie.close
-    (tie.spec
-    mul-aa
-    returns
-    returns-2
-    mul-p
-    add-p
-    mul-c
-    returns-3
-    returns-4
-    mul-w
-    mul-z
-    add-z
-    add-if5
-    add-result
-    returns-5
-    returns-6)
+    tie.close (tie.spec
+      mul-aa returns returns-2 (λ c. search needs) (λ c. search needs) mul-c returns-3 returns-4
+      (λ c. search needs) mul-z add-z (λ c. search needs) (λ c. search needs) returns-5 returns-6)

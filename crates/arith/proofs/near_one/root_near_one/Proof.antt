@@ -7,24 +7,6 @@ use borrow.Author.Needs.{needs}
 use Rattle.arith.proofs.near_one.root_near_one.Statement.{statement}
 use Rattle.arith.proofs.near_one.root_near_one.Tie as tie
 
-guess-requires : tie.Need-guess-requires
-guess-requires c κs = search needs
-
-float-to-bits-b : tie.Need-float-to-bits-b
-float-to-bits-b c = at-least-one _ (c .before .before .if1 .taken)
-
-float-to-bits-n : tie.Need-float-to-bits-n
-float-to-bits-n c = at-least-one _ (c .before .if2 .taken)
-
-sub-is-nearest : tie.Need-sub-is-nearest
-sub-is-nearest c = search needs
-
-sub-is-nearest-2 : tie.Need-sub-is-nearest-2
-sub-is-nearest-2 c = search needs
-
-is-nearest-requires : tie.Need-is-nearest-requires
-is-nearest-requires c κs = search needs
-
 returns : tie.Need-returns
 returns c =
     let at-check = c .before in
@@ -35,22 +17,9 @@ returns c =
     root-of-digits (at-start .args .x) (at-guess .guess .result) held guessed
     (at-check .before .before .if3 .taken) (at-check .before .if4 .taken) (at-check .is-nearest .ensures (c .if5 .taken))
 
-sqrt-requires : tie.Need-sqrt-requires
-sqrt-requires c κs = search needs
-
-returns-2 : tie.Need-returns-2
-returns-2 c = c .sqrt .ensures .is
-
 pub root-near-one-spec : {M : Type 1} → statement M
 root-near-one-spec =
-    tie.close
-    (tie.spec
-    guess-requires
-    float-to-bits-b
-    float-to-bits-n
-    sub-is-nearest
-    sub-is-nearest-2
-    is-nearest-requires
-    returns
-    sqrt-requires
-    returns-2)
+    tie.close (tie.spec
+      (λ c κs. search needs) (λ c. at-least-one _ (c .before .before .if1 .taken))
+      (λ c. at-least-one _ (c .before .if2 .taken)) (λ c. search needs) (λ c. search needs)
+      (λ c κs. search needs) returns (λ c κs. search needs) (λ c. c .sqrt .ensures .is))

@@ -8,8 +8,6 @@ use Rattle.arith.proofs.number.abs.Tie as tie
 returns : tie.Need-returns
 returns c = abs-below _ (subst T (sym (c .before .good .0 .1)) tt) (c .if1 .taken)
 
-returns-2 : tie.Need-returns-2
-returns-2 c = abs-above _ (c .if1 .left)
-
 pub abs-spec : {M : Type 1} → statement M
-abs-spec = tie.close (tie.spec returns returns-2)
+abs-spec =
+    tie.close (tie.spec returns (λ c. abs-above _ (c .if1 .left)))

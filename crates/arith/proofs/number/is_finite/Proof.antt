@@ -4,9 +4,6 @@ use borrow.Author.Needs.{needs}
 use Rattle.arith.proofs.number.is_finite.Statement.{statement}
 use Rattle.arith.proofs.number.is_finite.Tie as tie
 
-infinity-requires : tie.Need-infinity-requires
-infinity-requires c κs = search needs
-
 returns : tie.Need-returns
 returns c = finite-yes _ (c .before .infinity .ensures) (c .if1 .taken)
 
@@ -14,4 +11,5 @@ returns-2 : tie.Need-returns-2
 returns-2 c = finite-no _ (c .before .infinity .ensures) (c .if1 .left)
 
 pub is-finite-spec : {M : Type 1} → statement M
-is-finite-spec = tie.close (tie.spec infinity-requires returns returns-2)
+is-finite-spec =
+    tie.close (tie.spec (λ c κs. search needs) returns returns-2)

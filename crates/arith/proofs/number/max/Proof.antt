@@ -3,11 +3,6 @@ use Rattle.arith.specs.FlowLaws.{cond-yes, cond-no}
 use Rattle.arith.proofs.number.max.Statement.{statement}
 use Rattle.arith.proofs.number.max.Tie as tie
 
-returns : tie.Need-returns
-returns c = cond-yes _ _ (c .if1 .taken)
-
-returns-2 : tie.Need-returns-2
-returns-2 c = cond-no _ _ (c .if1 .left)
-
 pub max-spec : {M : Type 1} → statement M
-max-spec = tie.close (tie.spec returns returns-2)
+max-spec =
+    tie.close (tie.spec (λ c. cond-yes _ _ (c .if1 .taken)) (λ c. cond-no _ _ (c .if1 .left)))

@@ -20,19 +20,10 @@ abbrev μ-loop : tie.MeasureT-loop
 loop-holds : tie.Need-loop-holds Inv-loop μ-loop
 loop-holds c = (mod-lt (c .args .m) (lit< tt), mod-times (c .args .m) (2 ^ c .args .n) d)
 
-mul-r : tie.Need-mul-r Inv-loop μ-loop
-mul-r c = omega arith
-
-loop-less : tie.Need-loop-less Inv-loop μ-loop
-loop-less c = omega arith
-
 loop-again : tie.Need-loop-again Inv-loop μ-loop
 loop-again c =
     let l = c .before .loop in
     (mod-lt (l .r * 2048) (lit< tt), eleven (l .r) (l .k) d (c .loop-test .taken) (l .inv .1))
-
-shl-result : tie.Need-shl-result Inv-loop μ-loop
-shl-result c = omega arith
 
 returns : tie.Need-returns Inv-loop μ-loop
 returns c =
@@ -41,4 +32,5 @@ returns c =
 
 pub doubled-spec : {M : Type 1} → statement M
 doubled-spec =
-    tie.close (tie.spec Inv-loop μ-loop loop-holds mul-r loop-less loop-again shl-result returns)
+    tie.close (tie.spec
+      Inv-loop μ-loop loop-holds (λ c. omega arith) (λ c. omega arith) loop-again (λ c. omega arith) returns)

@@ -28,21 +28,12 @@ count c = doublings (bits c / 4503599627370496) (bits c % 4503599627370496)
 returns : tie.Need-returns
 returns c = small (c .before .args .x) (held (c .before)) (c .before .pre) (c .if1 .taken)
 
-infinity-requires : tie.Need-infinity-requires
-infinity-requires c κs = search needs
-
 float-to-bits-b : tie.Need-float-to-bits-b
 float-to-bits-b c = no-nan (c .before .before .before .args .x) (c .before .infinity .ensures) (c .if2 .taken)
-
-add-m : tie.Need-add-m
-add-m c = search needs
 
 sub-n : tie.Need-sub-n
 unfolding bits
 sub-n c = large c .field
-
-doubled-requires : tie.Need-doubled-requires
-doubled-requires c κs = search needs
 
 int-to-float-result : tie.Need-int-to-float-result
 unfolding bits count
@@ -61,14 +52,6 @@ returns-3 c = no-finite (c .before .before .before .args .x) (c .before .infinit
 
 pub unsigned-remainder-spec : {M : Type 1} → statement M
 unsigned-remainder-spec =
-    tie.close
-    (tie.spec
-    returns
-    infinity-requires
-    float-to-bits-b
-    add-m
-    sub-n
-    doubled-requires
-    int-to-float-result
-    returns-2
-    returns-3)
+    tie.close (tie.spec
+      returns (λ c κs. search needs) float-to-bits-b (λ c. search needs) sub-n (λ c κs. search needs)
+      int-to-float-result returns-2 returns-3)

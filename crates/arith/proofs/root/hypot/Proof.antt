@@ -5,38 +5,14 @@ use borrow.Author.Needs.{needs}
 use Rattle.arith.proofs.root.hypot.Statement.{statement}
 use Rattle.arith.proofs.root.hypot.Tie as tie
 
-is-finite-requires : tie.Need-is-finite-requires
-is-finite-requires c κs = search needs
-
-infinity-requires : tie.Need-infinity-requires
-infinity-requires c κs = search needs
-
 returns : tie.Need-returns
 returns c = c .infinity .ensures ∙ hypot-first _ _ (c .before .before .is-finite .ensures) (c .before .if1 .taken)
-
-is-finite-requires-2 : tie.Need-is-finite-requires-2
-is-finite-requires-2 c κs = search needs
-
-infinity-requires-2 : tie.Need-infinity-requires-2
-infinity-requires-2 c κs = search needs
 
 returns-2 : tie.Need-returns-2
 returns-2 c =
     let at-if1 = c .before .before .before in
     c .infinity2 .ensures ∙ hypot-second _ _ (at-if1 .before .is-finite .ensures)
     (at-if1 .if1 .left) (c .before .before .is-finite2 .ensures) (c .before .if2 .taken)
-
-abs-requires : tie.Need-abs-requires
-abs-requires c κs = search needs
-
-abs-requires-2 : tie.Need-abs-requires-2
-abs-requires-2 c κs = search needs
-
-scaled-root-requires : tie.Need-scaled-root-requires
-scaled-root-requires c κs = search needs
-
-scaled-root-requires-2 : tie.Need-scaled-root-requires-2
-scaled-root-requires-2 c κs = search needs
 
 returns-3 : tie.Need-returns-3
 returns-3 c =
@@ -56,17 +32,7 @@ returns-4 c =
 
 pub hypot-spec : {M : Type 1} → statement M
 hypot-spec =
-    tie.close
-    (tie.spec
-    is-finite-requires
-    infinity-requires
-    returns
-    is-finite-requires-2
-    infinity-requires-2
-    returns-2
-    abs-requires
-    abs-requires-2
-    scaled-root-requires
-    scaled-root-requires-2
-    returns-3
-    returns-4)
+    tie.close (tie.spec
+      (λ c κs. search needs) (λ c κs. search needs) returns (λ c κs. search needs) (λ c κs. search needs)
+      returns-2 (λ c κs. search needs) (λ c κs. search needs) (λ c κs. search needs) (λ c κs. search needs)
+      returns-3 returns-4)

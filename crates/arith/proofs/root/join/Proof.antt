@@ -21,51 +21,14 @@ odd c =
     join-odd (at-start .args .m) (at-start .args .h) (c .nearest-root2 .result) (at-start .pre .0)
     (at-start .pre .1) (at-start .pre .2) (at-start .pre .3) (c .before .if1 .left) (c .nearest-root2 .ensures)
 
-sub-result : tie.Need-sub-result
-sub-result c = search needs
-
-mul-result : tie.Need-mul-result
-mul-result c = search needs
-
-nearest-root-requires : tie.Need-nearest-root-requires
-nearest-root-requires c κs = search needs
-
 add-result : tie.Need-add-result
 add-result c = record { fits = lt-of-lt-of-le (even c .0) (lit≤ tt) }
-
-sub-result-2 : tie.Need-sub-result-2
-sub-result-2 c = search needs
-
-mul-result-2 : tie.Need-mul-result-2
-mul-result-2 c = search needs
-
-mul-nearest-root : tie.Need-mul-nearest-root
-mul-nearest-root c = search needs
-
-nearest-root-requires-2 : tie.Need-nearest-root-requires-2
-nearest-root-requires-2 c κs = search needs
 
 add-result-2 : tie.Need-add-result-2
 add-result-2 c = record { fits = lt-of-lt-of-le (odd c .0) (lit≤ tt) }
 
-returns : tie.Need-returns
-returns c = even c
-
-returns-2 : tie.Need-returns-2
-returns-2 c = odd c
-
 pub join-spec : {M : Type 1} → statement M
 join-spec =
-    tie.close
-    (tie.spec
-    sub-result
-    mul-result
-    nearest-root-requires
-    add-result
-    sub-result-2
-    mul-result-2
-    mul-nearest-root
-    nearest-root-requires-2
-    add-result-2
-    returns
-    returns-2)
+    tie.close (tie.spec
+      (λ c. search needs) (λ c. search needs) (λ c κs. search needs) add-result (λ c. search needs)
+      (λ c. search needs) (λ c. search needs) (λ c κs. search needs) add-result-2 (λ c. even c) (λ c. odd c))

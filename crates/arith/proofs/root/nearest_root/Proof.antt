@@ -25,15 +25,6 @@ square-fits x h = omega arith
 up-fits : (s t d : ℕ) → s < 134217728 → t ≤ 67108864 → d ≤ 1 → s * 67108864 + t + d < 2 ^ 64
 up-fits s t d a b c = omega arith
 
-whole-root-requires : tie.Need-whole-root-requires
-whole-root-requires c κs = search needs
-
-mul-d : tie.Need-mul-d
-mul-d c = search needs
-
-sub-d : tie.Need-sub-d
-sub-d c = search needs
-
 mul-d-2 : tie.Need-mul-d-2
 mul-d-2 c = record { fits = d-fits _ (c .whole-root .result) (known c .s-hi) (known c .d-hi) }
 
@@ -69,19 +60,6 @@ returns-2 c = near-stay (c .before .before .args .m) (c .before .whole-root .res
 
 pub nearest-root-spec : {M : Type 1} → statement M
 nearest-root-spec =
-    tie.close
-    (tie.spec
-    whole-root-requires
-    mul-d
-    sub-d
-    mul-d-2
-    div-t
-    rem-p
-    mul-p
-    mul-q
-    add-q
-    mul-if1
-    add-if1
-    add-result
-    returns
-    returns-2)
+    tie.close (tie.spec
+      (λ c κs. search needs) (λ c. search needs) (λ c. search needs) mul-d-2 div-t rem-p mul-p mul-q add-q
+      mul-if1 add-if1 add-result returns returns-2)

@@ -26,32 +26,11 @@ small z h = omega arith
 exponents : (z : ℕ) → z ≤ 63 → (52 ≤ 1085 - z) × (1085 - z < 4000)
 exponents z h = (omega arith, omega arith)
 
-sub-join : tie.Need-sub-join
-sub-join c = up c .z-lo
-
 cast-join : tie.Need-cast-join
 cast-join c = record { fits = lt-of-lt-of-le (small _ (up c .z-hi)) (lit≤ tt) }
 
-shl-join : tie.Need-shl-join
-shl-join c = small _ (up c .z-hi)
-
-sub-join-2 : tie.Need-sub-join-2
-sub-join-2 c = le-trans (up c .z-hi) (lit≤ tt)
-
-cast-join-2 : tie.Need-cast-join-2
-cast-join-2 c = search needs
-
 join-requires : tie.Need-join-requires
 join-requires c κs = (up c .lo, up c .hi, exponents _ (up c .z-hi) .0, exponents _ (up c .z-hi) .1)
-
-add-join : tie.Need-add-join
-add-join c = search needs
-
-add-join-2 : tie.Need-add-join-2
-add-join-2 c = search needs
-
-join-requires-2 : tie.Need-join-requires-2
-join-requires-2 c κs = search needs
 
 returns : tie.Need-returns
 returns c =
@@ -69,16 +48,7 @@ returns-2 c =
 
 pub root-bits-spec : {M : Type 1} → statement M
 root-bits-spec =
-    tie.close
-    (tie.spec
-    sub-join
-    cast-join
-    shl-join
-    sub-join-2
-    cast-join-2
-    join-requires
-    add-join
-    add-join-2
-    join-requires-2
-    returns
-    returns-2)
+    tie.close (tie.spec
+      (λ c. up c .z-lo) cast-join (λ c. small _ (up c .z-hi)) (λ c. le-trans (up c .z-hi) (lit≤ tt))
+      (λ c. search needs) join-requires (λ c. search needs) (λ c. search needs) (λ c κs. search needs) returns
+      returns-2)

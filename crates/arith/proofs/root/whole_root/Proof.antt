@@ -12,9 +12,6 @@ Inv-loop m r₀ r = (m < (r + 1) * (r + 1)) × (r ≤ 268435456)
 abbrev μ-loop : tie.MeasureT-loop
 μ-loop m r₀ r = r
 
-add-r : tie.Need-add-r Inv-loop μ-loop
-add-r c = omega arith
-
 loop-holds : tie.Need-loop-holds Inv-loop μ-loop
 loop-holds c = (newton-above (c .args .m) 94906266 (zero-lt-suc 94906265), omega arith)
 
@@ -36,10 +33,8 @@ loop-again c =
     let r = c .before .loop .r in
     (newton-above m r (sq-pos m r (c .loop-test .taken)), omega (arith, newton-below m r (c .loop-test .taken), c .before .loop .inv .1))
 
-returns : tie.Need-returns Inv-loop μ-loop
-returns c = (c .loop-test .left, c .before .loop .inv .0)
-
 pub whole-root-spec : {M : Type 1} → statement M
 whole-root-spec =
-    tie.close
-    (tie.spec Inv-loop μ-loop add-r loop-holds mul-loop div-r add-r-2 loop-less loop-again returns)
+    tie.close (tie.spec
+      Inv-loop μ-loop (λ c. omega arith) loop-holds mul-loop div-r add-r-2 loop-less loop-again
+      (λ c. (c .loop-test .left, c .before .loop .inv .0)))

@@ -5,15 +5,6 @@ use borrow.Author.Needs.{needs}
 use Rattle.plan.proofs.reader.filled.Statement.{statement}
 use Rattle.plan.proofs.reader.filled.Tie as tie
 
-slice-aggregate-put-bodies : tie.Need-slice-aggregate-put-bodies
-slice-aggregate-put-bodies c = search needs
-
-put-bodies-requires : tie.Need-put-bodies-requires
-put-bodies-requires c κs = search needs
-
-joints-from-requires : tie.Need-joints-from-requires
-joints-from-requires c κs = search needs
-
 returns : tie.Need-returns
 returns c =
     let at-put = c .before .before .before .before in
@@ -21,4 +12,5 @@ returns c =
     filled-is (now (start .args .file)) (start .args .tables) (start .args .notes) (at-put .put-bodies .ensures) (c .joints-from .ensures)
 
 pub filled-spec : {M : Type 1} → statement M
-filled-spec = tie.close (tie.spec slice-aggregate-put-bodies put-bodies-requires joints-from-requires returns)
+filled-spec =
+    tie.close (tie.spec (λ c. search needs) (λ c κs. search needs) (λ c κs. search needs) returns)

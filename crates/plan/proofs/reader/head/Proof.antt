@@ -4,17 +4,8 @@ use borrow.Author.Needs.{needs}
 use Rattle.plan.proofs.reader.head.Statement.{statement}
 use Rattle.plan.proofs.reader.head.Tie as tie
 
-returns : tie.Need-returns
-returns c = head-end _ _ _ _ (c .if1 .taken)
-
 returns-2 : tie.Need-returns-2
 returns-2 c = head-lone _ _ _ _ (c .before .if1 .left) (c .if2 .taken)
-
-marked-requires : tie.Need-marked-requires
-marked-requires c κs = search needs
-
-time-step-head-requires : tie.Need-time-step-head-requires
-time-step-head-requires c κs = search needs
 
 returns-3 : tie.Need-returns-3
 returns-3 c =
@@ -23,12 +14,6 @@ returns-3 c =
     let at-if2 = at-marked .before in
     let at-if1 = at-if2 .before in
     head-time-step _ _ _ _ (at-if1 .if1 .left) (at-if2 .if2 .left) (at-marked .marked .ensures) (at-if3 .if3 .taken) (c .time-step-head .ensures)
-
-marked-requires-2 : tie.Need-marked-requires-2
-marked-requires-2 c κs = search needs
-
-body-head-requires : tie.Need-body-head-requires
-body-head-requires c κs = search needs
 
 returns-4 : tie.Need-returns-4
 returns-4 c =
@@ -40,12 +25,6 @@ returns-4 c =
     let at-if1 = at-if2 .before in
     head-body _ _ _ _ (at-if1 .if1 .left) (at-if2 .if2 .left) (at-marked .marked .ensures) (at-if3 .if3 .left) (at-marked2 .marked2 .ensures)
     (at-if4 .if4 .taken) (c .body-head .ensures)
-
-marked-requires-3 : tie.Need-marked-requires-3
-marked-requires-3 c κs = search needs
-
-joint-head-requires : tie.Need-joint-head-requires
-joint-head-requires c κs = search needs
 
 returns-5 : tie.Need-returns-5
 returns-5 c =
@@ -74,17 +53,7 @@ returns-6 c =
 
 pub head-spec : {M : Type 1} → statement M
 head-spec =
-    tie.close
-    (tie.spec
-    returns
-    returns-2
-    marked-requires
-    time-step-head-requires
-    returns-3
-    marked-requires-2
-    body-head-requires
-    returns-4
-    marked-requires-3
-    joint-head-requires
-    returns-5
-    returns-6)
+    tie.close (tie.spec
+      (λ c. head-end _ _ _ _ (c .if1 .taken)) returns-2 (λ c κs. search needs) (λ c κs. search needs) returns-3
+      (λ c κs. search needs) (λ c κs. search needs) returns-4 (λ c κs. search needs) (λ c κs. search needs)
+      returns-5 returns-6)

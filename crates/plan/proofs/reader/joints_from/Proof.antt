@@ -16,15 +16,6 @@ Inv-loop file count places joints₀ k₀ joints k = (k ≤ count) × (joints �
 abbrev μ-loop : tie.MeasureT-loop
 μ-loop file count places joints₀ k₀ joints k = count - k
 
-loop-holds : tie.Need-loop-holds Inv-loop μ-loop
-loop-holds c = (omega arith, turns-none _ _)
-
-mul-at : tie.Need-mul-at Inv-loop μ-loop
-mul-at c = omega arith
-
-array-read-at : tie.Need-array-read-at Inv-loop μ-loop
-array-read-at c = omega arith
-
 sub-joint-at : tie.Need-sub-joint-at Inv-loop μ-loop
 sub-joint-at c =
     let at-loop = c .before in
@@ -38,9 +29,6 @@ part-joint-at-start c =
     let k = at-loop .loop .k in
     omega (arith, joint-within (now (start .args .file)) (getD (start .args .t3) k 0) (start .pre .1 k (c .loop-test .taken)))
 
-part-joint-at-end : tie.Need-part-joint-at-end Inv-loop μ-loop
-part-joint-at-end c = omega arith
-
 joint-at-requires : tie.Need-joint-at-requires Inv-loop μ-loop
 joint-at-requires c κs =
     let at-test = c .before in
@@ -48,18 +36,6 @@ joint-at-requires c κs =
     let start = at-loop .before .before in
     let k = at-loop .loop .k in
     joint-there (now (start .args .file)) (getD (start .args .t3) k 0) (start .pre .1 k (at-test .loop-test .taken))
-
-mul-joints : tie.Need-mul-joints Inv-loop μ-loop
-mul-joints c = omega arith
-
-array-set-from-joints : tie.Need-array-set-from-joints Inv-loop μ-loop
-array-set-from-joints c = omega arith
-
-add-k : tie.Need-add-k Inv-loop μ-loop
-add-k c = omega arith
-
-loop-less : tie.Need-loop-less Inv-loop μ-loop
-loop-less c = omega arith
 
 loop-again : tie.Need-loop-again Inv-loop μ-loop
 loop-again c =
@@ -76,20 +52,7 @@ returns c =
 
 pub joints-from-spec : {M : Type 1} → statement M
 joints-from-spec =
-    tie.close
-    (tie.spec
-    Inv-loop
-    μ-loop
-    loop-holds
-    mul-at
-    array-read-at
-    sub-joint-at
-    part-joint-at-start
-    part-joint-at-end
-    joint-at-requires
-    mul-joints
-    array-set-from-joints
-    add-k
-    loop-less
-    loop-again
-    returns)
+    tie.close (tie.spec
+      Inv-loop μ-loop (λ c. (omega arith, turns-none _ _)) (λ c. omega arith) (λ c. omega arith) sub-joint-at
+      part-joint-at-start (λ c. omega arith) joint-at-requires (λ c. omega arith) (λ c. omega arith)
+      (λ c. omega arith) (λ c. omega arith) loop-again returns)

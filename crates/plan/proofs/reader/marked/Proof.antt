@@ -5,18 +5,6 @@ use borrow.Author.Needs.{needs}
 use Rattle.plan.proofs.reader.marked.Statement.{statement}
 use Rattle.plan.proofs.reader.marked.Tie as tie
 
-shared-slice-read-if1 : tie.Need-shared-slice-read-if1
-shared-slice-read-if1 c = search needs
-
-array-read-if1 : tie.Need-array-read-if1
-array-read-if1 c = search needs
-
-shared-slice-read-result : tie.Need-shared-slice-read-result
-shared-slice-read-result c = search needs
-
-array-read-result : tie.Need-array-read-result
-array-read-result c = search needs
-
 returns : tie.Need-returns
 returns c = marked-second (now (c .before .before .before .args .file)) (c .before .before .before .args .t2) (c .before .if1 .taken)
 
@@ -25,11 +13,5 @@ returns-2 c = marked-not (now (c .before .before .args .file)) (c .before .befor
 
 pub marked-spec : {M : Type 1} → statement M
 marked-spec =
-    tie.close
-    (tie.spec
-    shared-slice-read-if1
-    array-read-if1
-    shared-slice-read-result
-    array-read-result
-    returns
-    returns-2)
+    tie.close (tie.spec
+      (λ c. search needs) (λ c. search needs) (λ c. search needs) (λ c. search needs) returns returns-2)

@@ -19,15 +19,6 @@ abbrev μ-loop : tie.MeasureT-loop
 loop-holds : tie.Need-loop-holds Inv-loop μ-loop
 loop-holds c = (omega arith, c .before .before .pre .0 .1, turns-none _ _)
 
-mul-at : tie.Need-mul-at Inv-loop μ-loop
-mul-at c = omega arith
-
-array-read-at : tie.Need-array-read-at Inv-loop μ-loop
-array-read-at c = omega arith
-
-mul-put-body : tie.Need-mul-put-body Inv-loop μ-loop
-mul-put-body c = omega arith
-
 sub-put-body : tie.Need-sub-put-body Inv-loop μ-loop
 sub-put-body c =
     let at-loop = c .before .before in
@@ -41,9 +32,6 @@ part-put-body-start c =
     let k = at-loop .loop .k in
     omega (arith, body-within (now (start .args .file)) (getD (start .args .t3) k 0) (start .pre .1 k (c .before .loop-test .taken)))
 
-part-put-body-end : tie.Need-part-put-body-end Inv-loop μ-loop
-part-put-body-end c = omega arith
-
 put-body-requires : tie.Need-put-body-requires Inv-loop μ-loop
 put-body-requires c κs =
     let at-test = c .before .before in
@@ -52,12 +40,6 @@ put-body-requires c κs =
     let k = at-loop .loop .k in
     let there = body-there (now (start .args .file)) (getD (start .args .t3) k 0) (start .pre .1 k (at-test .loop-test .taken)) in
     (there, omega (arith, at-loop .loop .inv .1))
-
-add-k : tie.Need-add-k Inv-loop μ-loop
-add-k c = omega arith
-
-loop-less : tie.Need-loop-less Inv-loop μ-loop
-loop-less c = omega arith
 
 loop-again : tie.Need-loop-again Inv-loop μ-loop
 loop-again c =
@@ -71,9 +53,6 @@ loop-again c =
       bodies-more (now (start .args .file)) (start .args .t3) (at-loop .loop .k) (now (start .args .table)) (inv .2) (at-put .put-body .ensures),
     )
 
-same-length : tie.Need-same-length Inv-loop μ-loop
-same-length c = omega arith
-
 returns : tie.Need-returns Inv-loop μ-loop
 returns c =
     let inv = c .before .loop .inv in
@@ -81,20 +60,7 @@ returns c =
 
 pub put-bodies-spec : {M : Type 1} → statement M
 put-bodies-spec =
-    tie.close
-    (tie.spec
-    Inv-loop
-    μ-loop
-    loop-holds
-    mul-at
-    array-read-at
-    mul-put-body
-    sub-put-body
-    part-put-body-start
-    part-put-body-end
-    put-body-requires
-    add-k
-    loop-less
-    loop-again
-    same-length
-    returns)
+    tie.close (tie.spec
+      Inv-loop μ-loop loop-holds (λ c. omega arith) (λ c. omega arith) (λ c. omega arith) sub-put-body
+      part-put-body-start (λ c. omega arith) put-body-requires (λ c. omega arith) (λ c. omega arith) loop-again
+      (λ c. omega arith) returns)

@@ -4,12 +4,6 @@ use borrow.Author.Needs.{needs}
 use Rattle.plan.proofs.reader.read.Statement.{statement}
 use Rattle.plan.proofs.reader.read.Tie as tie
 
-read-on-requires : tie.Need-read-on-requires
-read-on-requires c κs = search needs
-
-number-requires : tie.Need-number-requires
-number-requires c κs = search needs
-
 filled-requires : tie.Need-filled-requires
 filled-requires c κs =
     let at-read-on = c .before .before in
@@ -31,4 +25,5 @@ returns-2 c =
     read-kept _ tables (at-read-on .read-on .ensures) (at-number .number .ensures) (c .if1 .left)
 
 pub read-spec : {M : Type 1} → statement M
-read-spec = tie.close (tie.spec read-on-requires number-requires filled-requires returns returns-2)
+read-spec =
+    tie.close (tie.spec (λ c κs. search needs) (λ c κs. search needs) filled-requires returns returns-2)

@@ -20,18 +20,6 @@ cone-twist-at-requires c κs =
     let from-2 = c .match .rest .0 .0 in
     there-cone (now (start .args .file)) (start .pre) (from-2 .0 .0 .1) (from-2 .0 .1) (from-2 .1) (c .match .rest .0 .1) (c .match .rest .1)
 
-returns : tie.Need-returns
-returns c = kind-ball _ (c .match .keys1)
-
-returns-2 : tie.Need-returns-2
-returns-2 c = kind-hinge _ (c .match .keys2)
-
-returns-3 : tie.Need-returns-3
-returns-3 c = kind-cylindrical _ (c .match .keys3)
-
-returns-4 : tie.Need-returns-4
-returns-4 c = kind-planar _ (c .match .keys4)
-
 returns-5 : tie.Need-returns-5
 returns-5 c = kind-distance _ (c .before .match .keys5) (c .double-at .ensures)
 
@@ -43,14 +31,7 @@ returns-6 c =
 
 pub kind-at-spec : {M : Type 1} → statement M
 kind-at-spec =
-    tie.close
-    (tie.spec
-    shared-slice-read-match
-    double-at-requires
-    cone-twist-at-requires
-    returns
-    returns-2
-    returns-3
-    returns-4
-    returns-5
-    returns-6)
+    tie.close (tie.spec
+      shared-slice-read-match double-at-requires cone-twist-at-requires (λ c. kind-ball _ (c .match .keys1))
+      (λ c. kind-hinge _ (c .match .keys2)) (λ c. kind-cylindrical _ (c .match .keys3))
+      (λ c. kind-planar _ (c .match .keys4)) returns-5 returns-6)

@@ -19,30 +19,6 @@ abbrev μ-loop : tie.MeasureT-loop
 loop-holds : tie.Need-loop-holds Inv-loop μ-loop
 loop-holds c = (omega arith, refl, put-none (now (c .before .before .args .bodies)) (c .before .before .args .at) (now (c .before .before .args .file)))
 
-mul-double-at : tie.Need-mul-double-at Inv-loop μ-loop
-mul-double-at c = omega arith
-
-add-double-at : tie.Need-add-double-at Inv-loop μ-loop
-add-double-at c = omega arith
-
-double-at-requires : tie.Need-double-at-requires Inv-loop μ-loop
-double-at-requires c κs = omega arith
-
-add-bodies : tie.Need-add-bodies Inv-loop μ-loop
-add-bodies c = omega arith
-
-mul-bodies : tie.Need-mul-bodies Inv-loop μ-loop
-mul-bodies c = omega arith
-
-slice-write-bodies : tie.Need-slice-write-bodies Inv-loop μ-loop
-slice-write-bodies c = omega arith
-
-add-i : tie.Need-add-i Inv-loop μ-loop
-add-i c = omega arith
-
-loop-less : tie.Need-loop-less Inv-loop μ-loop
-loop-less c = omega arith
-
 loop-again : tie.Need-loop-again Inv-loop μ-loop
 loop-again c =
     let at-loop-test = c .before in
@@ -55,9 +31,6 @@ loop-again c =
           (at-loop-test .loop-test .taken) (inv .2) (c .double-at .ensures),
     )
 
-same-length : tie.Need-same-length Inv-loop μ-loop
-same-length c = omega arith
-
 returns : tie.Need-returns Inv-loop μ-loop
 returns c =
     let at-loop = c .before in
@@ -67,19 +40,7 @@ returns c =
 
 pub put-body-spec : {M : Type 1} → statement M
 put-body-spec =
-    tie.close
-    (tie.spec
-    Inv-loop
-    μ-loop
-    loop-holds
-    mul-double-at
-    add-double-at
-    double-at-requires
-    add-bodies
-    mul-bodies
-    slice-write-bodies
-    add-i
-    loop-less
-    loop-again
-    same-length
-    returns)
+    tie.close (tie.spec
+      Inv-loop μ-loop loop-holds (λ c. omega arith) (λ c. omega arith) (λ c κs. omega arith) (λ c. omega arith)
+      (λ c. omega arith) (λ c. omega arith) (λ c. omega arith) (λ c. omega arith) loop-again (λ c. omega arith)
+      returns)

@@ -25,12 +25,6 @@ put-body-requires c κs =
     let taken = at-loop-test .loop-test .taken in
     (lines-room (now (start .args .bodies)) (start .args .count) (start .pre .0) (loop .i) (loop .inv .1) taken, omega arith)
 
-add-i : tie.Need-add-i Inv-loop μ-loop
-add-i c = omega arith
-
-loop-less : tie.Need-loop-less Inv-loop μ-loop
-loop-less c = omega arith
-
 loop-again : tie.Need-loop-again Inv-loop μ-loop
 loop-again c =
     let at-put-body = c .before .before in
@@ -52,14 +46,6 @@ returns c =
 
 pub put-bodies-spec : {M : Type 1} → statement M
 put-bodies-spec =
-    tie.close
-    (tie.spec
-    Inv-loop
-    μ-loop
-    loop-holds
-    put-body-requires
-    add-i
-    loop-less
-    loop-again
-    same-length
-    returns)
+    tie.close (tie.spec
+      Inv-loop μ-loop loop-holds put-body-requires (λ c. omega arith) (λ c. omega arith) loop-again same-length
+      returns)

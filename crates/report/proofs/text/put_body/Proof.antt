@@ -6,20 +6,11 @@ use borrow.Author.Needs.{needs}
 use Rattle.report.proofs.text.put_body.Statement.{statement}
 use Rattle.report.proofs.text.put_body.Tie as tie
 
-put-decimal-requires : tie.Need-put-decimal-requires
-put-decimal-requires c κs = search needs
-
-mul-put-state : tie.Need-mul-put-state
-mul-put-state c = search needs
-
 put-state-requires : tie.Need-put-state-requires
 put-state-requires c κs =
     let at-put-decimal = c .before .before .before in
     let start = at-put-decimal .before .before .before .before in
     (line-1 (now (start .args .bodies)) (start .args .i) (start .pre .0) (at-put-decimal .put-decimal .ensures), omega arith)
-
-slice-aggregate-put : tie.Need-slice-aggregate-put
-slice-aggregate-put c = search needs
 
 put-requires : tie.Need-put-requires
 put-requires c κs =
@@ -27,9 +18,6 @@ put-requires c κs =
     let at-put-decimal = at-put-state .before .before .before .before in
     let start = at-put-decimal .before .before .before .before in
     line-2 (now (start .args .bodies)) (start .args .i) (start .pre .0) (at-put-decimal .put-decimal .ensures) (at-put-state .put-state .ensures)
-
-same-length : tie.Need-same-length
-same-length c = search needs
 
 returns : tie.Need-returns
 returns c =
@@ -42,12 +30,6 @@ returns c =
 
 pub put-body-spec : {M : Type 1} → statement M
 put-body-spec =
-    tie.close
-    (tie.spec
-    put-decimal-requires
-    mul-put-state
-    put-state-requires
-    slice-aggregate-put
-    put-requires
-    same-length
-    returns)
+    tie.close (tie.spec
+      (λ c κs. search needs) (λ c. search needs) put-state-requires (λ c. search needs) put-requires
+      (λ c. search needs) returns)

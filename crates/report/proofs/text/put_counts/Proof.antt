@@ -4,12 +4,6 @@ use borrow.Author.Needs.{needs}
 use Rattle.report.proofs.text.put_counts.Statement.{statement}
 use Rattle.report.proofs.text.put_counts.Tie as tie
 
-put-decimal-requires : tie.Need-put-decimal-requires
-put-decimal-requires c κs = search needs
-
-slice-aggregate-put : tie.Need-slice-aggregate-put
-slice-aggregate-put c = search needs
-
 put-requires : tie.Need-put-requires
 put-requires c κs =
     let at-put-decimal = c .before .before .before .before in
@@ -23,9 +17,6 @@ put-decimal-requires-2 c κs =
     let start = at-put-decimal .before .before .before in
     counts-2 (start .args .nonlinear) (start .args .linear) (start .pre) (at-put-decimal .put-decimal .ensures) (at-put .put .ensures)
 
-slice-aggregate-put-2 : tie.Need-slice-aggregate-put-2
-slice-aggregate-put-2 c = search needs
-
 put-requires-2 : tie.Need-put-requires-2
 put-requires-2 c κs =
     let at-put-decimal2 = c .before .before .before .before in
@@ -34,9 +25,6 @@ put-requires-2 c κs =
     let start = at-put-decimal .before .before .before in
     counts-3 (start .args .nonlinear) (start .args .linear) (start .pre) (at-put-decimal .put-decimal .ensures) (at-put .put .ensures)
     (at-put-decimal2 .put-decimal2 .ensures)
-
-same-length : tie.Need-same-length
-same-length c = search needs
 
 returns : tie.Need-returns
 returns c =
@@ -50,13 +38,6 @@ returns c =
 
 pub put-counts-spec : {M : Type 1} → statement M
 put-counts-spec =
-    tie.close
-    (tie.spec
-    put-decimal-requires
-    slice-aggregate-put
-    put-requires
-    put-decimal-requires-2
-    slice-aggregate-put-2
-    put-requires-2
-    same-length
-    returns)
+    tie.close (tie.spec
+      (λ c κs. search needs) (λ c. search needs) put-requires put-decimal-requires-2 (λ c. search needs)
+      put-requires-2 (λ c. search needs) returns)

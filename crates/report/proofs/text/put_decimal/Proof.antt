@@ -5,23 +5,11 @@ use borrow.Author.Needs.{needs}
 use Rattle.report.proofs.text.put_decimal.Statement.{statement}
 use Rattle.report.proofs.text.put_decimal.Tie as tie
 
-decimal-requires : tie.Need-decimal-requires
-decimal-requires c κs = search needs
-
-array-share-prefix-digits : tie.Need-array-share-prefix-digits
-array-share-prefix-digits c = search needs
-
-slice-aggregate-put : tie.Need-slice-aggregate-put
-slice-aggregate-put c = search needs
-
 put-requires : tie.Need-put-requires
 put-requires c κs =
     let at-decimal = c .before .before in
     let start = at-decimal .before .before .before in
     omega (arith, decimal-short (start .args .n) (start .fits .n .fits) (at-decimal .decimal .ensures .1 .0) (at-decimal .decimal .ensures .1 .1))
-
-same-length : tie.Need-same-length
-same-length c = search needs
 
 returns : tie.Need-returns
 returns c =
@@ -33,11 +21,5 @@ returns c =
 
 pub put-decimal-spec : {M : Type 1} → statement M
 put-decimal-spec =
-    tie.close
-    (tie.spec
-    decimal-requires
-    array-share-prefix-digits
-    slice-aggregate-put
-    put-requires
-    same-length
-    returns)
+    tie.close (tie.spec
+      (λ c κs. search needs) (λ c. search needs) (λ c. search needs) put-requires (λ c. search needs) returns)

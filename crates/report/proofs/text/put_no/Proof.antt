@@ -4,20 +4,11 @@ use borrow.Author.Needs.{needs}
 use Rattle.report.proofs.text.put_no.Statement.{statement}
 use Rattle.report.proofs.text.put_no.Tie as tie
 
-slice-aggregate-put : tie.Need-slice-aggregate-put
-slice-aggregate-put c = search needs
-
-put-requires : tie.Need-put-requires
-put-requires c κs = search needs
-
 put-decimal-requires : tie.Need-put-decimal-requires
 put-decimal-requires c κs =
     let at-put = c .before .before .before in
     let start = at-put .before .before .before .before in
     no-1 (start .args .number) (start .args .nonlinear) (start .args .linear) (start .pre) (at-put .put .ensures)
-
-slice-aggregate-put-2 : tie.Need-slice-aggregate-put-2
-slice-aggregate-put-2 c = search needs
 
 put-requires-2 : tie.Need-put-requires-2
 put-requires-2 c κs =
@@ -35,9 +26,6 @@ put-counts-requires c κs =
     no-3 (start .args .number) (start .args .nonlinear) (start .args .linear) (start .pre) (at-put .put .ensures)
     (at-put-decimal .put-decimal .ensures) (at-put2 .put2 .ensures)
 
-same-length : tie.Need-same-length
-same-length c = search needs
-
 returns : tie.Need-returns
 returns c =
     let at-put-counts = c .before .before in
@@ -50,13 +38,6 @@ returns c =
 
 pub put-no-spec : {M : Type 1} → statement M
 put-no-spec =
-    tie.close
-    (tie.spec
-    slice-aggregate-put
-    put-requires
-    put-decimal-requires
-    slice-aggregate-put-2
-    put-requires-2
-    put-counts-requires
-    same-length
-    returns)
+    tie.close (tie.spec
+      (λ c. search needs) (λ c κs. search needs) put-decimal-requires (λ c. search needs) put-requires-2
+      put-counts-requires (λ c. search needs) returns)

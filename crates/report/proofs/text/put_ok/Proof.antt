@@ -4,18 +4,6 @@ use borrow.Author.Needs.{needs}
 use Rattle.report.proofs.text.put_ok.Statement.{statement}
 use Rattle.report.proofs.text.put_ok.Tie as tie
 
-slice-aggregate-put : tie.Need-slice-aggregate-put
-slice-aggregate-put c = search needs
-
-put-requires : tie.Need-put-requires
-put-requires c κs = search needs
-
-put-counts-requires : tie.Need-put-counts-requires
-put-counts-requires c κs = search needs
-
-same-length : tie.Need-same-length
-same-length c = search needs
-
 returns : tie.Need-returns
 returns c =
     let at-put-counts = c .before .before in
@@ -24,4 +12,6 @@ returns c =
     ok-puts (start .args .nonlinear) (start .args .linear) (start .pre) (at-put .put .ensures) (at-put-counts .put-counts .ensures)
 
 pub put-ok-spec : {M : Type 1} → statement M
-put-ok-spec = tie.close (tie.spec slice-aggregate-put put-requires put-counts-requires same-length returns)
+put-ok-spec =
+    tie.close (tie.spec
+      (λ c. search needs) (λ c κs. search needs) (λ c κs. search needs) (λ c. search needs) returns)

@@ -12,17 +12,11 @@ returns c =
     let args = start .args in
     report-none (args .number) (args .nonlinear) (args .linear) (now (args .bodies)) (now (args .out)) (omega arith)
 
-sub-if2 : tie.Need-sub-if2
-sub-if2 c = search needs
-
 returns-2 : tie.Need-returns-2
 returns-2 c =
     let start = c .before .before .before .before in
     let args = start .args in
     report-none (args .number) (args .nonlinear) (args .linear) (now (args .bodies)) (now (args .out)) (omega arith)
-
-put-head-requires : tie.Need-put-head-requires
-put-head-requires c κs = search needs
 
 put-bodies-requires : tie.Need-put-bodies-requires
 put-bodies-requires c κs =
@@ -31,9 +25,6 @@ put-bodies-requires c κs =
     let args = start .args in
     let line = at-put-head .put-head .ensures in
     (report-room (args .number) (args .nonlinear) (args .linear) (now (args .bodies)) (now (args .out)) (omega arith) line, omega arith)
-
-same-length : tie.Need-same-length
-same-length c = search needs
 
 returns-3 : tie.Need-returns-3
 returns-3 c =
@@ -45,9 +36,6 @@ returns-3 c =
     report-bodies (args .number) (args .nonlinear) (args .linear) (now (args .bodies)) (now (args .out)) (omega arith) (at-if3 .if3 .taken)
     (at-put-head .put-head .ensures) (at-put-bodies .put-bodies .ensures)
 
-same-length-2 : tie.Need-same-length-2
-same-length-2 c = search needs
-
 returns-4 : tie.Need-returns-4
 returns-4 c =
     let at-put-head = c .before .before .before in
@@ -58,14 +46,6 @@ returns-4 c =
 
 pub report-spec : {M : Type 1} → statement M
 report-spec =
-    tie.close
-    (tie.spec
-    returns
-    sub-if2
-    returns-2
-    put-head-requires
-    put-bodies-requires
-    same-length
-    returns-3
-    same-length-2
-    returns-4)
+    tie.close (tie.spec
+      returns (λ c. search needs) returns-2 (λ c κs. search needs) put-bodies-requires (λ c. search needs)
+      returns-3 (λ c. search needs) returns-4)

@@ -4,9 +4,6 @@ use borrow.Author.Needs.{needs}
 use Rattle.rows.proofs.body.finite.Statement.{statement}
 use Rattle.rows.proofs.body.finite.Tie as tie
 
-is-finite-requires : tie.Need-is-finite-requires
-is-finite-requires c κs = search needs
-
 returns : tie.Need-returns
 returns c = finite-yes _ (c .before .is-finite .ensures) (c .if1 .taken)
 
@@ -14,4 +11,5 @@ returns-2 : tie.Need-returns-2
 returns-2 c = finite-no _ (c .before .is-finite .ensures) (c .if1 .left)
 
 pub finite-spec : {M : Type 1} → statement M
-finite-spec = tie.close (tie.spec is-finite-requires returns returns-2)
+finite-spec =
+    tie.close (tie.spec (λ c κs. search needs) returns returns-2)

@@ -7,24 +7,6 @@ use mathlib.Core.Path.{ap}
 use Rattle.rows.proofs.body.in_frame.Statement.{statement}
 use Rattle.rows.proofs.body.in_frame.Tie as tie
 
-conjugate-requires : tie.Need-conjugate-requires
-conjugate-requires c κs = search needs
-
-rotate-as-unit-requires : tie.Need-rotate-as-unit-requires
-rotate-as-unit-requires c κs = search needs
-
-enum-known-local : tie.Need-enum-known-local
-enum-known-local c = search needs
-
-apply-requires : tie.Need-apply-requires
-apply-requires c κs = search needs
-
-rotate-as-unit-requires-2 : tie.Need-rotate-as-unit-requires-2
-rotate-as-unit-requires-2 c κs = search needs
-
-enum-told : tie.Need-enum-told
-enum-told c = search needs
-
 returns : tie.Need-returns
 returns c =
     let at-local = c .before .before .before in
@@ -42,13 +24,6 @@ returns-2 c =
 
 pub in-frame-spec : {M : Type 1} → statement M
 in-frame-spec =
-    tie.close
-    (tie.spec
-    conjugate-requires
-    rotate-as-unit-requires
-    enum-known-local
-    apply-requires
-    rotate-as-unit-requires-2
-    enum-told
-    returns
-    returns-2)
+    tie.close (tie.spec
+      (λ c κs. search needs) (λ c κs. search needs) (λ c. search needs) (λ c κs. search needs)
+      (λ c κs. search needs) (λ c. search needs) returns returns-2)

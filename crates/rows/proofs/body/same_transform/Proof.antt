@@ -5,12 +5,6 @@ use mathlib.Core.Path.{_∙_, sym}
 use Rattle.rows.proofs.body.same_transform.Statement.{statement}
 use Rattle.rows.proofs.body.same_transform.Tie as tie
 
-same-vec3-requires : tie.Need-same-vec3-requires
-same-vec3-requires c κs = search needs
-
-same-quat-requires : tie.Need-same-quat-requires
-same-quat-requires c κs = search needs
-
 returns : tie.Need-returns
 returns c = both-yes (sym (c .before .before .same-vec3 .ensures) ∙ c .before .if1 .taken) (c .same-quat .ensures)
 
@@ -18,4 +12,5 @@ returns-2 : tie.Need-returns-2
 returns-2 c = both-no _ (sym (c .before .same-vec3 .ensures) ∙ c .if1 .left)
 
 pub same-transform-spec : {M : Type 1} → statement M
-same-transform-spec = tie.close (tie.spec same-vec3-requires same-quat-requires returns returns-2)
+same-transform-spec =
+    tie.close (tie.spec (λ c κs. search needs) (λ c κs. search needs) returns returns-2)

@@ -15,8 +15,6 @@ returns-2 c =
     let at-if1 = c .before .before .before in
     both-no _ (sym (both-yes (at-if1 .if1 .taken) (sym (c .if2 .left))))
 
-returns-3 : tie.Need-returns-3
-returns-3 c = both-no _ (sym (both-no _ (c .if1 .left)))
-
 pub same-vec3-spec : {M : Type 1} → statement M
-same-vec3-spec = tie.close (tie.spec returns returns-2 returns-3)
+same-vec3-spec =
+    tie.close (tie.spec returns returns-2 (λ c. both-no _ (sym (both-no _ (c .if1 .left)))))

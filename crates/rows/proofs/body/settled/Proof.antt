@@ -7,15 +7,6 @@ use mathlib.Core.Path.{ap}
 use Rattle.rows.proofs.body.settled.Statement.{statement}
 use Rattle.rows.proofs.body.settled.Tie as tie
 
-integrate-as-unit-requires : tie.Need-integrate-as-unit-requires
-integrate-as-unit-requires c κs = search needs
-
-enum-known-rotation : tie.Need-enum-known-rotation
-enum-known-rotation c = search needs
-
-enum-told : tie.Need-enum-told
-enum-told c = search needs
-
 returns : tie.Need-returns
 returns c =
     let at-integrate-as-unit = c .before .before .before in
@@ -28,4 +19,4 @@ returns-2 c =
 
 pub settled-spec : {M : Type 1} → statement M
 settled-spec =
-    tie.close (tie.spec integrate-as-unit-requires enum-known-rotation enum-told returns returns-2)
+    tie.close (tie.spec (λ c κs. search needs) (λ c. search needs) (λ c. search needs) returns returns-2)

@@ -6,21 +6,6 @@ use borrow.Author.Needs.{needs}
 use Rattle.rows.proofs.body.world_center_of_mass.Statement.{statement}
 use Rattle.rows.proofs.body.world_center_of_mass.Tie as tie
 
-rotate-as-unit-requires : tie.Need-rotate-as-unit-requires
-rotate-as-unit-requires c κs = search needs
-
-enum-known-turned : tie.Need-enum-known-turned
-enum-known-turned c = search needs
-
-add-requires : tie.Need-add-requires
-add-requires c κs = search needs
-
-finite-requires : tie.Need-finite-requires
-finite-requires c κs = search needs
-
-enum-told : tie.Need-enum-told
-enum-told c = search needs
-
 returns : tie.Need-returns
 returns c =
     let at-turned = c .before .before .before in
@@ -35,12 +20,6 @@ returns-2 c =
 
 pub world-center-of-mass-spec : {M : Type 1} → statement M
 world-center-of-mass-spec =
-    tie.close
-    (tie.spec
-    rotate-as-unit-requires
-    enum-known-turned
-    add-requires
-    finite-requires
-    enum-told
-    returns
-    returns-2)
+    tie.close (tie.spec
+      (λ c κs. search needs) (λ c. search needs) (λ c κs. search needs) (λ c κs. search needs)
+      (λ c. search needs) returns returns-2)

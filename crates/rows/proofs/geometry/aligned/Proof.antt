@@ -6,26 +6,8 @@ use borrow.Author.Needs.{needs}
 use Rattle.rows.proofs.geometry.aligned.Statement.{statement}
 use Rattle.rows.proofs.geometry.aligned.Tie as tie
 
-rotate-vector-requires : tie.Need-rotate-vector-requires
-rotate-vector-requires c κs = search needs
-
-enum-known-z : tie.Need-enum-known-z
-enum-known-z c = search needs
-
-enum-told : tie.Need-enum-told
-enum-told c = search needs
-
 returns : tie.Need-returns
 returns c = λ q u. aligned-no-b q _ (axis-turned _ (none-stop arithmeticOverflow (c .before .before .rotate-vector .ensures) (c .enum-told .given .1)))
-
-rotate-as-unit-requires : tie.Need-rotate-as-unit-requires
-rotate-as-unit-requires c κs = search needs
-
-enum-known-za : tie.Need-enum-known-za
-enum-known-za c = search needs
-
-enum-told-2 : tie.Need-enum-told-2
-enum-told-2 c = search needs
 
 returns-2 : tie.Need-returns-2
 returns-2 c =
@@ -35,9 +17,6 @@ returns-2 c =
     aligned-no-a q _
     (axis-turned _ (some-go arithmeticOverflow (at-z .before .before .rotate-vector .ensures) (at-z .z .given .1)))
     (axis-turned q (turned-stop u _ (at-turn .rotate-as-unit .ensures) (c .enum-told2 .given .1)))
-
-dot-requires : tie.Need-dot-requires
-dot-requires c κs = search needs
 
 returns-3 : tie.Need-returns-3
 returns-3 c =
@@ -61,16 +40,6 @@ returns-4 c =
 
 pub aligned-spec : {M : Type 1} → statement M
 aligned-spec =
-    tie.close
-    (tie.spec
-    rotate-vector-requires
-    enum-known-z
-    enum-told
-    returns
-    rotate-as-unit-requires
-    enum-known-za
-    enum-told-2
-    returns-2
-    dot-requires
-    returns-3
-    returns-4)
+    tie.close (tie.spec
+      (λ c κs. search needs) (λ c. search needs) (λ c. search needs) returns (λ c κs. search needs)
+      (λ c. search needs) (λ c. search needs) returns-2 (λ c κs. search needs) returns-3 returns-4)

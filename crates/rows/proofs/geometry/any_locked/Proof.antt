@@ -3,9 +3,6 @@ use Rattle.rows.proofs.RowLaws.{x-is-locked, y-is-locked, twist-decides
 use Rattle.rows.proofs.geometry.any_locked.Statement.{statement}
 use Rattle.rows.proofs.geometry.any_locked.Tie as tie
 
-returns : tie.Need-returns
-returns c = x-is-locked _ (c .if1 .taken)
-
 returns-2 : tie.Need-returns-2
 returns-2 c = y-is-locked _ (c .before .before .if1 .left) (c .if2 .taken)
 
@@ -13,4 +10,5 @@ returns-3 : tie.Need-returns-3
 returns-3 c = twist-decides _ (c .before .before .before .if1 .left) (c .before .if2 .left)
 
 pub any-locked-spec : {M : Type 1} → statement M
-any-locked-spec = tie.close (tie.spec returns returns-2 returns-3)
+any-locked-spec =
+    tie.close (tie.spec (λ c. x-is-locked _ (c .if1 .taken)) returns-2 returns-3)

@@ -7,33 +7,6 @@ use Rattle.rows.specs.declared.geometry.RowAnswer.the-variants as Row
 use Rattle.rows.proofs.geometry.append_row.Statement.{statement}
 use Rattle.rows.proofs.geometry.append_row.Tie as tie
 
-enum-known-answer : tie.Need-enum-known-answer
-enum-known-answer c = search needs
-
-mul-store : tie.Need-mul-store
-mul-store c = search needs
-
-add-store : tie.Need-add-store
-add-store c = search needs
-
-store-requires : tie.Need-store-requires
-store-requires c κs = search needs
-
-add-t10 : tie.Need-add-t10
-add-t10 c = search needs
-
-enum-told : tie.Need-enum-told
-enum-told c = search needs
-
-enum-told-2 : tie.Need-enum-told-2
-enum-told-2 c = search needs
-
-enum-told-3 : tie.Need-enum-told-3
-enum-told-3 c = search needs
-
-same-length : tie.Need-same-length
-same-length c = search needs
-
 returns : tie.Need-returns
 returns c =
     let at-store = c .before .before in
@@ -53,18 +26,7 @@ returns-4 c = append-none Row.ArithmeticOverflow tt (c .enum-told3 .given .1) re
 
 pub append-row-spec : {M : Type 1} → statement M
 append-row-spec =
-    tie.close
-    (tie.spec
-    enum-known-answer
-    mul-store
-    add-store
-    store-requires
-    add-t10
-    enum-told
-    enum-told-2
-    enum-told-3
-    same-length
-    returns
-    returns-2
-    returns-3
-    returns-4)
+    tie.close (tie.spec
+      (λ c. search needs) (λ c. search needs) (λ c. search needs) (λ c κs. search needs) (λ c. search needs)
+      (λ c. search needs) (λ c. search needs) (λ c. search needs) (λ c. search needs) returns returns-2
+      returns-3 returns-4)

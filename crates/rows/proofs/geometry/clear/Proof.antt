@@ -15,45 +15,14 @@ Inv-loop s₀ at k₀ s k = (k ≤ 84) × (length s ≡ length s₀) × (Cleared
 abbrev μ-loop : tie.MeasureT-loop
 μ-loop s₀ at k₀ s k = 84 - k
 
-loop-holds : tie.Need-loop-holds Inv-loop μ-loop
-loop-holds c = (omega arith, refl, cleared-none _ _)
-
-add-s : tie.Need-add-s Inv-loop μ-loop
-add-s c = omega arith
-
-mul-s : tie.Need-mul-s Inv-loop μ-loop
-mul-s c = omega arith
-
-slice-write-s : tie.Need-slice-write-s Inv-loop μ-loop
-slice-write-s c = omega arith
-
-add-k : tie.Need-add-k Inv-loop μ-loop
-add-k c = omega arith
-
-loop-less : tie.Need-loop-less Inv-loop μ-loop
-loop-less c = omega arith
-
 loop-again : tie.Need-loop-again Inv-loop μ-loop
 loop-again c = (omega arith, simp length-set (omega arith), cleared-more (c .before .loop .inv .2) (omega arith) zero-is)
-
-same-length : tie.Need-same-length Inv-loop μ-loop
-same-length c = omega arith
 
 returns : tie.Need-returns Inv-loop μ-loop
 returns c = cleared-all (omega arith) (omega arith) (c .before .loop .inv .2)
 
 pub clear-spec : {M : Type 1} → statement M
 clear-spec =
-    tie.close
-    (tie.spec
-    Inv-loop
-    μ-loop
-    loop-holds
-    add-s
-    mul-s
-    slice-write-s
-    add-k
-    loop-less
-    loop-again
-    same-length
-    returns)
+    tie.close (tie.spec
+      Inv-loop μ-loop (λ c. (omega arith, refl, cleared-none _ _)) (λ c. omega arith) (λ c. omega arith)
+      (λ c. omega arith) (λ c. omega arith) (λ c. omega arith) loop-again (λ c. omega arith) returns)

@@ -4,24 +4,6 @@ use borrow.Author.Needs.{needs}
 use Rattle.rows.proofs.geometry.gradient_row.Statement.{statement}
 use Rattle.rows.proofs.geometry.gradient_row.Tie as tie
 
-local-gradient-requires : tie.Need-local-gradient-requires
-local-gradient-requires c κs = search needs
-
-rotate-as-unit-requires : tie.Need-rotate-as-unit-requires
-rotate-as-unit-requires c κs = search needs
-
-enum-known-angular : tie.Need-enum-known-angular
-enum-known-angular c = search needs
-
-neg-requires : tie.Need-neg-requires
-neg-requires c κs = search needs
-
-turning-requires : tie.Need-turning-requires
-turning-requires c κs = search needs
-
-enum-told : tie.Need-enum-told
-enum-told c = search needs
-
 returns : tie.Need-returns
 returns c =
     let at-angular = c .before .before .before in
@@ -40,13 +22,6 @@ returns-2 c =
 
 pub gradient-row-spec : {M : Type 1} → statement M
 gradient-row-spec =
-    tie.close
-    (tie.spec
-    local-gradient-requires
-    rotate-as-unit-requires
-    enum-known-angular
-    neg-requires
-    turning-requires
-    enum-told
-    returns
-    returns-2)
+    tie.close (tie.spec
+      (λ c κs. search needs) (λ c κs. search needs) (λ c. search needs) (λ c κs. search needs)
+      (λ c κs. search needs) (λ c. search needs) returns returns-2)

@@ -4,14 +4,9 @@ use borrow.Author.Needs.{needs}
 use Rattle.rows.proofs.geometry.half_turned.Statement.{statement}
 use Rattle.rows.proofs.geometry.half_turned.Tie as tie
 
-any-locked-requires : tie.Need-any-locked-requires
-any-locked-requires c κs = search needs
-
 returns : tie.Need-returns
 returns c = half-yes _ _ (c .any-locked .ensures) (c .before .if1 .taken)
 
-returns-2 : tie.Need-returns-2
-returns-2 c = half-no _ _ (c .if1 .left)
-
 pub half-turned-spec : {M : Type 1} → statement M
-half-turned-spec = tie.close (tie.spec any-locked-requires returns returns-2)
+half-turned-spec =
+    tie.close (tie.spec (λ c κs. search needs) returns (λ c. half-no _ _ (c .if1 .left)))

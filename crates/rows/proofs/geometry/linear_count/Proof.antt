@@ -6,15 +6,6 @@ use native.Mathlib.Omega.{arith}
 use Rattle.rows.proofs.geometry.linear_count.Statement.{statement}
 use Rattle.rows.proofs.geometry.linear_count.Tie as tie
 
-enum-told : tie.Need-enum-told
-enum-told c = search needs
-
-enum-told-2 : tie.Need-enum-told-2
-enum-told-2 c = search needs
-
-enum-told-3 : tie.Need-enum-told-3
-enum-told-3 c = search needs
-
 returns : tie.Need-returns
 returns c = (ap linearCount (sym (c .enum-told .given .1)), omega arith)
 
@@ -25,4 +16,5 @@ returns-3 : tie.Need-returns-3
 returns-3 c = (ap linearCount (sym (c .enum-told3 .given .1)), omega arith)
 
 pub linear-count-spec : {M : Type 1} → statement M
-linear-count-spec = tie.close (tie.spec enum-told enum-told-2 enum-told-3 returns returns-2 returns-3)
+linear-count-spec =
+    tie.close (tie.spec (λ c. search needs) (λ c. search needs) (λ c. search needs) returns returns-2 returns-3)

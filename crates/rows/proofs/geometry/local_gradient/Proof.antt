@@ -4,27 +4,6 @@ use borrow.Author.Needs.{needs}
 use Rattle.rows.proofs.geometry.local_gradient.Statement.{statement}
 use Rattle.rows.proofs.geometry.local_gradient.Tie as tie
 
-new-requires : tie.Need-new-requires
-new-requires c κs = search needs
-
-scale-requires : tie.Need-scale-requires
-scale-requires c κs = search needs
-
-cross-requires : tie.Need-cross-requires
-cross-requires c κs = search needs
-
-add-requires : tie.Need-add-requires
-add-requires c κs = search needs
-
-scale-requires-2 : tie.Need-scale-requires-2
-scale-requires-2 c κs = search needs
-
-sub-requires : tie.Need-sub-requires
-sub-requires c κs = search needs
-
-scale-requires-3 : tie.Need-scale-requires-3
-scale-requires-3 c κs = search needs
-
 returns : tie.Need-returns
 returns c =
     let at-add = c .before .before .before in
@@ -34,13 +13,6 @@ returns c =
 
 pub local-gradient-spec : {M : Type 1} → statement M
 local-gradient-spec =
-    tie.close
-    (tie.spec
-    new-requires
-    scale-requires
-    cross-requires
-    add-requires
-    scale-requires-2
-    sub-requires
-    scale-requires-3
-    returns)
+    tie.close (tie.spec
+      (λ c κs. search needs) (λ c κs. search needs) (λ c κs. search needs) (λ c κs. search needs)
+      (λ c κs. search needs) (λ c κs. search needs) (λ c κs. search needs) returns)

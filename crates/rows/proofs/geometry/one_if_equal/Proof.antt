@@ -4,11 +4,7 @@ use native.Mathlib.Omega.{arith}
 use Rattle.rows.proofs.geometry.one_if_equal.Statement.{statement}
 use Rattle.rows.proofs.geometry.one_if_equal.Tie as tie
 
-returns : tie.Need-returns
-returns c = (one-yes (c .if1 .taken), omega arith)
-
-returns-2 : tie.Need-returns-2
-returns-2 c = (one-no (c .if1 .left), omega arith)
-
 pub one-if-equal-spec : {M : Type 1} → statement M
-one-if-equal-spec = tie.close (tie.spec returns returns-2)
+one-if-equal-spec =
+    tie.close (tie.spec
+      (λ c. (one-yes (c .if1 .taken), omega arith)) (λ c. (one-no (c .if1 .left), omega arith)))

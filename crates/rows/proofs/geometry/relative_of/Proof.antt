@@ -6,29 +6,11 @@ use borrow.Author.Needs.{needs}
 use Rattle.rows.proofs.geometry.relative_of.Statement.{statement}
 use Rattle.rows.proofs.geometry.relative_of.Tie as tie
 
-conjugate-requires : tie.Need-conjugate-requires
-conjugate-requires c κs = search needs
-
-product-requires : tie.Need-product-requires
-product-requires c κs = search needs
-
-try-normalize-requires : tie.Need-try-normalize-requires
-try-normalize-requires c κs = search needs
-
-enum-known-q : tie.Need-enum-known-q
-enum-known-q c = search needs
-
-enum-told : tie.Need-enum-told
-enum-told c = search needs
-
 returns : tie.Need-returns
 returns c =
     relative-no-unit _ _ _
     (c .before .before .before .before .conjugate .ensures) (c .before .before .before .product .ensures)
     (quat-stop arithmeticOverflow (c .before .before .try-normalize .ensures) (c .enum-told .given .1))
-
-half-turned-requires : tie.Need-half-turned-requires
-half-turned-requires c κs = search needs
 
 returns-2 : tie.Need-returns-2
 returns-2 c =
@@ -37,9 +19,6 @@ returns-2 c =
     relative-half-turn _ _ _
     (at-normal .before .before .conjugate .ensures) (at-normal .before .product .ensures)
     (quat-go arithmeticOverflow (at-normal .try-normalize .ensures) (at-q .q .given .1)) (c .before .half-turned .ensures) (c .if1 .taken)
-
-sqrt-requires : tie.Need-sqrt-requires
-sqrt-requires c κs = search needs
 
 returns-3 : tie.Need-returns-3
 returns-3 c =
@@ -53,15 +32,6 @@ returns-3 c =
 
 pub relative-of-spec : {M : Type 1} → statement M
 relative-of-spec =
-    tie.close
-    (tie.spec
-    conjugate-requires
-    product-requires
-    try-normalize-requires
-    enum-known-q
-    enum-told
-    returns
-    half-turned-requires
-    returns-2
-    sqrt-requires
-    returns-3)
+    tie.close (tie.spec
+      (λ c κs. search needs) (λ c κs. search needs) (λ c κs. search needs) (λ c. search needs)
+      (λ c. search needs) returns (λ c κs. search needs) returns-2 (λ c κs. search needs) returns-3)

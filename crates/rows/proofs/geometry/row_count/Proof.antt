@@ -4,24 +4,6 @@ use borrow.Author.Needs.{needs}
 use Rattle.rows.proofs.geometry.row_count.Statement.{statement}
 use Rattle.rows.proofs.geometry.row_count.Tie as tie
 
-motions-of-requires : tie.Need-motions-of-requires
-motions-of-requires c κs = search needs
-
-enum-told : tie.Need-enum-told
-enum-told c = search needs
-
-enum-known-linear : tie.Need-enum-known-linear
-enum-known-linear c = search needs
-
-linear-count-requires : tie.Need-linear-count-requires
-linear-count-requires c κs = search needs
-
-turning-count-requires : tie.Need-turning-count-requires
-turning-count-requires c κs = search needs
-
-add-result : tie.Need-add-result
-add-result c = search needs
-
 returns : tie.Need-returns
 returns c =
     let at-motions = c .before .before in
@@ -37,13 +19,6 @@ returns-2 c =
 
 pub row-count-spec : {M : Type 1} → statement M
 row-count-spec =
-    tie.close
-    (tie.spec
-    motions-of-requires
-    enum-told
-    enum-known-linear
-    linear-count-requires
-    turning-count-requires
-    add-result
-    returns
-    returns-2)
+    tie.close (tie.spec
+      (λ c κs. search needs) (λ c. search needs) (λ c. search needs) (λ c κs. search needs)
+      (λ c κs. search needs) (λ c. search needs) returns returns-2)

@@ -4,18 +4,6 @@ use borrow.Author.Needs.{needs}
 use Rattle.rows.proofs.geometry.swing_row.Statement.{statement}
 use Rattle.rows.proofs.geometry.swing_row.Tie as tie
 
-scale-requires : tie.Need-scale-requires
-scale-requires c κs = search needs
-
-scale-requires-2 : tie.Need-scale-requires-2
-scale-requires-2 c κs = search needs
-
-sub-requires : tie.Need-sub-requires
-sub-requires c κs = search needs
-
-gradient-row-requires : tie.Need-gradient-row-requires
-gradient-row-requires c κs = search needs
-
 returns : tie.Need-returns
 returns c =
     let at-sub = c .before .before .before .before .before in
@@ -25,4 +13,5 @@ returns c =
 
 pub swing-row-spec : {M : Type 1} → statement M
 swing-row-spec =
-    tie.close (tie.spec scale-requires scale-requires-2 sub-requires gradient-row-requires returns)
+    tie.close (tie.spec
+      (λ c κs. search needs) (λ c κs. search needs) (λ c κs. search needs) (λ c κs. search needs) returns)

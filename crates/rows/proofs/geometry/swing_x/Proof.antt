@@ -4,11 +4,6 @@ use borrow.Author.Needs.{needs}
 use Rattle.rows.proofs.geometry.swing_x.Statement.{statement}
 use Rattle.rows.proofs.geometry.swing_x.Tie as tie
 
-new-requires : tie.Need-new-requires
-new-requires c κs = search needs
-
-returns : tie.Need-returns
-returns c = swing-x-is _ (c .new .ensures)
-
 pub swing-x-spec : {M : Type 1} → statement M
-swing-x-spec = tie.close (tie.spec new-requires returns)
+swing-x-spec =
+    tie.close (tie.spec (λ c κs. search needs) (λ c. swing-x-is _ (c .new .ensures)))

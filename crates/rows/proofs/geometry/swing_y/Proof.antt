@@ -4,11 +4,6 @@ use borrow.Author.Needs.{needs}
 use Rattle.rows.proofs.geometry.swing_y.Statement.{statement}
 use Rattle.rows.proofs.geometry.swing_y.Tie as tie
 
-new-requires : tie.Need-new-requires
-new-requires c κs = search needs
-
-returns : tie.Need-returns
-returns c = swing-y-is _ (c .new .ensures)
-
 pub swing-y-spec : {M : Type 1} → statement M
-swing-y-spec = tie.close (tie.spec new-requires returns)
+swing-y-spec =
+    tie.close (tie.spec (λ c κs. search needs) (λ c. swing-y-is _ (c .new .ensures)))

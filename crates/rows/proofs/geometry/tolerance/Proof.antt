@@ -6,26 +6,8 @@ use borrow.Author.Needs.{needs}
 use Rattle.rows.proofs.geometry.tolerance.Statement.{statement}
 use Rattle.rows.proofs.geometry.tolerance.Tie as tie
 
-checked-length-requires : tie.Need-checked-length-requires
-checked-length-requires c κs = search needs
-
-enum-known-la : tie.Need-enum-known-la
-enum-known-la c = search needs
-
-enum-told : tie.Need-enum-told
-enum-told c = search needs
-
 returns : tie.Need-returns
 returns c = tolerance-no-a _ _ (number-stop arithmeticOverflow (c .before .before .checked-length .ensures) (c .enum-told .given .1))
-
-checked-length-requires-2 : tie.Need-checked-length-requires-2
-checked-length-requires-2 c κs = search needs
-
-enum-known-lb : tie.Need-enum-known-lb
-enum-known-lb c = search needs
-
-enum-told-2 : tie.Need-enum-told-2
-enum-told-2 c = search needs
 
 returns-2 : tie.Need-returns-2
 returns-2 c =
@@ -33,9 +15,6 @@ returns-2 c =
     tolerance-no-b _ _
     (number-go arithmeticOverflow (at-la .before .before .checked-length .ensures) (at-la .la .given .1))
     (number-stop arithmeticOverflow (c .before .before .checked-length2 .ensures) (c .enum-told2 .given .1))
-
-max-requires : tie.Need-max-requires
-max-requires c κs = search needs
 
 returns-3 : tie.Need-returns-3
 returns-3 c =
@@ -47,15 +26,6 @@ returns-3 c =
 
 pub tolerance-spec : {M : Type 1} → statement M
 tolerance-spec =
-    tie.close
-    (tie.spec
-    checked-length-requires
-    enum-known-la
-    enum-told
-    returns
-    checked-length-requires-2
-    enum-known-lb
-    enum-told-2
-    returns-2
-    max-requires
-    returns-3)
+    tie.close (tie.spec
+      (λ c κs. search needs) (λ c. search needs) (λ c. search needs) returns (λ c κs. search needs)
+      (λ c. search needs) (λ c. search needs) returns-2 (λ c κs. search needs) returns-3)

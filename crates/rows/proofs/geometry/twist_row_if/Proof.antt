@@ -4,9 +4,6 @@ use borrow.Author.Needs.{needs}
 use Rattle.rows.proofs.geometry.twist_row_if.Statement.{statement}
 use Rattle.rows.proofs.geometry.twist_row_if.Tie as tie
 
-twist-row-requires : tie.Need-twist-row-requires
-twist-row-requires c κs = search needs
-
 returns : tie.Need-returns
 returns c = λ q u. row-locked _ (c .before .if1 .taken) (c .twist-row .ensures q u)
 
@@ -14,4 +11,5 @@ returns-2 : tie.Need-returns-2
 returns-2 c = λ q u. row-free _ (c .if1 .left)
 
 pub twist-row-if-spec : {M : Type 1} → statement M
-twist-row-if-spec = tie.close (tie.spec twist-row-requires returns returns-2)
+twist-row-if-spec =
+    tie.close (tie.spec (λ c κs. search needs) returns returns-2)

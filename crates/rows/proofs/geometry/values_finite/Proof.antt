@@ -19,35 +19,11 @@ abbrev μ-loop : tie.MeasureT-loop
 loop-holds : tie.Need-loop-holds Inv-loop μ-loop
 loop-holds c = (omega arith, finite-none (now (c .before .args .s)) (c .before .args .at))
 
-mul-is-finite : tie.Need-mul-is-finite Inv-loop μ-loop
-mul-is-finite c = omega arith
-
-add-is-finite : tie.Need-add-is-finite Inv-loop μ-loop
-add-is-finite c = omega arith
-
-add-is-finite-2 : tie.Need-add-is-finite-2 Inv-loop μ-loop
-add-is-finite-2 c = omega arith
-
-mul-is-finite-2 : tie.Need-mul-is-finite-2 Inv-loop μ-loop
-mul-is-finite-2 c = omega arith
-
-shared-slice-read-is-finite : tie.Need-shared-slice-read-is-finite Inv-loop μ-loop
-shared-slice-read-is-finite c = omega arith
-
-is-finite-requires : tie.Need-is-finite-requires Inv-loop μ-loop
-is-finite-requires c κs = omega arith
-
 returns : tie.Need-returns Inv-loop μ-loop
 returns c =
     let at-test = c .before .before .before in
     let at-start = at-test .before .before .before in
     finite-stop (now (at-start .args .s)) (at-start .args .at) _ _ (at-test .loop-test .taken) (c .before .is-finite .ensures) (c .if1 .taken)
-
-add-k : tie.Need-add-k Inv-loop μ-loop
-add-k c = omega arith
-
-loop-less : tie.Need-loop-less Inv-loop μ-loop
-loop-less c = omega arith
 
 loop-again : tie.Need-loop-again Inv-loop μ-loop
 loop-again c =
@@ -65,19 +41,7 @@ returns-2 c =
 
 pub values-finite-spec : {M : Type 1} → statement M
 values-finite-spec =
-    tie.close
-    (tie.spec
-    Inv-loop
-    μ-loop
-    loop-holds
-    mul-is-finite
-    add-is-finite
-    add-is-finite-2
-    mul-is-finite-2
-    shared-slice-read-is-finite
-    is-finite-requires
-    returns
-    add-k
-    loop-less
-    loop-again
-    returns-2)
+    tie.close (tie.spec
+      Inv-loop μ-loop loop-holds (λ c. omega arith) (λ c. omega arith) (λ c. omega arith) (λ c. omega arith)
+      (λ c. omega arith) (λ c κs. omega arith) returns (λ c. omega arith) (λ c. omega arith) loop-again
+      returns-2)

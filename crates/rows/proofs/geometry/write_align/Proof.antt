@@ -9,22 +9,10 @@ use native.Mathlib.Omega.{arith}
 use Rattle.rows.proofs.geometry.write_align.Statement.{statement}
 use Rattle.rows.proofs.geometry.write_align.Tie as tie
 
-aligned-requires : tie.Need-aligned-requires
-aligned-requires c κs = search needs
-
-enum-known-z : tie.Need-enum-known-z
-enum-known-z c = search needs
-
-align-row-requires : tie.Need-align-row-requires
-align-row-requires c κs = search needs
-
 append-requires : tie.Need-append-requires
 append-requires c κs =
     let at-z = c .before .before .before in
     room-here (at-z .before .before .before .before .pre .0) (omega arith)
-
-align-row-requires-2 : tie.Need-align-row-requires-2
-align-row-requires-2 c κs = search needs
 
 append-requires-2 : tie.Need-append-requires-2
 append-requires-2 c κs =
@@ -32,24 +20,15 @@ append-requires-2 c κs =
     let at-z = at-one .before .before .before .before in
     room-here (room-after (at-z .before .before .before .before .pre .0) (at-one .append .ensures)) (omega arith)
 
-enum-told : tie.Need-enum-told
-enum-told c = search needs
-
 append-requires-3 : tie.Need-append-requires-3
 append-requires-3 c κs =
     let at-told = c .before in
     room-here (at-told .before .before .before .before .pre .0) (omega arith)
 
-enum-told-2 : tie.Need-enum-told-2
-enum-told-2 c = search needs
-
 append-requires-4 : tie.Need-append-requires-4
 append-requires-4 c κs =
     let at-told = c .before in
     room-here (at-told .before .before .before .before .pre .0) (omega arith)
-
-same-length : tie.Need-same-length
-same-length c = search needs
 
 returns : tie.Need-returns
 returns c =
@@ -63,18 +42,12 @@ returns c =
     (at-one .append .ensures) (at-one .before .before .align-row .ensures _ u)
     (at-two .append2 .ensures) (at-two .before .before .align-row2 .ensures _ u)
 
-same-length-2 : tie.Need-same-length-2
-same-length-2 c = search needs
-
 returns-2 : tie.Need-returns-2
 returns-2 c =
     let at-told = c .before .before .before .before in
     let at-start = at-told .before .before .before .before in
     align-lost (at-start .args .joint) (at-start .args .e) nonConvergent refl
     (axis-as (at-told .before .before .aligned .ensures _ (at-start .pre .1)) (at-told .enum-told .given .1)) (c .before .before .append3 .ensures)
-
-same-length-3 : tie.Need-same-length-3
-same-length-3 c = search needs
 
 returns-3 : tie.Need-returns-3
 returns-3 c =
@@ -85,21 +58,7 @@ returns-3 c =
 
 pub write-align-spec : {M : Type 1} → statement M
 write-align-spec =
-    tie.close
-    (tie.spec
-    aligned-requires
-    enum-known-z
-    align-row-requires
-    append-requires
-    align-row-requires-2
-    append-requires-2
-    enum-told
-    append-requires-3
-    enum-told-2
-    append-requires-4
-    same-length
-    returns
-    same-length-2
-    returns-2
-    same-length-3
-    returns-3)
+    tie.close (tie.spec
+      (λ c κs. search needs) (λ c. search needs) (λ c κs. search needs) append-requires (λ c κs. search needs)
+      append-requires-2 (λ c. search needs) append-requires-3 (λ c. search needs) append-requires-4
+      (λ c. search needs) returns (λ c. search needs) returns-2 (λ c. search needs) returns-3)

@@ -9,37 +9,16 @@ use native.Mathlib.Omega.{arith}
 use Rattle.rows.proofs.geometry.write_cone.Statement.{statement}
 use Rattle.rows.proofs.geometry.write_cone.Tie as tie
 
-relative-of-requires : tie.Need-relative-of-requires
-relative-of-requires c κs = search needs
-
-enum-known-r : tie.Need-enum-known-r
-enum-known-r c = search needs
-
-swing-x-requires : tie.Need-swing-x-requires
-swing-x-requires c κs = search needs
-
-swing-row-if-requires : tie.Need-swing-row-if-requires
-swing-row-if-requires c κs = search needs
-
 append-requires : tie.Need-append-requires
 append-requires c κs =
     let at-r = c .before .before .before .before in
     room-here (at-r .before .before .before .before .pre .0) (omega arith)
-
-swing-y-requires : tie.Need-swing-y-requires
-swing-y-requires c κs = search needs
-
-swing-row-if-requires-2 : tie.Need-swing-row-if-requires-2
-swing-row-if-requires-2 c κs = search needs
 
 append-requires-2 : tie.Need-append-requires-2
 append-requires-2 c κs =
     let at-one = c .before .before .before .before .before in
     let at-r = at-one .before .before .before .before .before in
     room-here (room-after (at-r .before .before .before .before .pre .0) (at-one .append .ensures)) (omega arith)
-
-twist-row-if-requires : tie.Need-twist-row-if-requires
-twist-row-if-requires c κs = search needs
 
 append-requires-3 : tie.Need-append-requires-3
 append-requires-3 c κs =
@@ -48,24 +27,15 @@ append-requires-3 c κs =
     let at-r = at-one .before .before .before .before .before in
     room-here (room-after (room-after (at-r .before .before .before .before .pre .0) (at-one .append .ensures)) (at-two .append2 .ensures)) (omega arith)
 
-enum-told : tie.Need-enum-told
-enum-told c = search needs
-
 append-requires-4 : tie.Need-append-requires-4
 append-requires-4 c κs =
     let at-told = c .before in
     room-here (at-told .before .before .before .before .pre .0) (omega arith)
 
-enum-told-2 : tie.Need-enum-told-2
-enum-told-2 c = search needs
-
 append-requires-5 : tie.Need-append-requires-5
 append-requires-5 c κs =
     let at-told = c .before in
     room-here (at-told .before .before .before .before .pre .0) (omega arith)
-
-same-length : tie.Need-same-length
-same-length c = search needs
 
 returns : tie.Need-returns
 returns c =
@@ -81,18 +51,12 @@ returns c =
     (at-two .before .before .before .swing-y .ensures) (at-two .append2 .ensures) (at-two .before .before .swing-row-if2 .ensures _ u)
     (at-three .append3 .ensures) (at-three .before .before .twist-row-if .ensures _ u)
 
-same-length-2 : tie.Need-same-length-2
-same-length-2 c = search needs
-
 returns-2 : tie.Need-returns-2
 returns-2 c =
     let at-told = c .before .before .before .before in
     let at-start = at-told .before .before .before .before in
     cone-lost (at-start .args .joint) (at-start .args .e) (at-start .args .cone) nonConvergent refl
     (relative-as (at-told .before .before .relative-of .ensures) (at-told .enum-told .given .1)) (c .before .before .append4 .ensures)
-
-same-length-3 : tie.Need-same-length-3
-same-length-3 c = search needs
 
 returns-3 : tie.Need-returns-3
 returns-3 c =
@@ -103,25 +67,8 @@ returns-3 c =
 
 pub write-cone-spec : {M : Type 1} → statement M
 write-cone-spec =
-    tie.close
-    (tie.spec
-    relative-of-requires
-    enum-known-r
-    swing-x-requires
-    swing-row-if-requires
-    append-requires
-    swing-y-requires
-    swing-row-if-requires-2
-    append-requires-2
-    twist-row-if-requires
-    append-requires-3
-    enum-told
-    append-requires-4
-    enum-told-2
-    append-requires-5
-    same-length
-    returns
-    same-length-2
-    returns-2
-    same-length-3
-    returns-3)
+    tie.close (tie.spec
+      (λ c κs. search needs) (λ c. search needs) (λ c κs. search needs) (λ c κs. search needs) append-requires
+      (λ c κs. search needs) (λ c κs. search needs) append-requires-2 (λ c κs. search needs) append-requires-3
+      (λ c. search needs) append-requires-4 (λ c. search needs) append-requires-5 (λ c. search needs) returns
+      (λ c. search needs) returns-2 (λ c. search needs) returns-3)

@@ -11,30 +11,12 @@ use Rattle.rows.specs.declared.geometry.Written.the-variants as Written
 use Rattle.rows.proofs.geometry.write_frames.Statement.{statement}
 use Rattle.rows.proofs.geometry.write_frames.Tie as tie
 
-tolerance-requires : tie.Need-tolerance-requires
-tolerance-requires c κs = search needs
-
-enum-known-tolerance : tie.Need-enum-known-tolerance
-enum-known-tolerance c = search needs
-
-enum-told : tie.Need-enum-told
-enum-told c = search needs
-
 returns : tie.Need-returns
 returns c =
     let at-start = c .before .before .before .before in
     frames-early (at-start .args .joint) (at-start .args .e)
     (long-row _ _ (tolerance-stop (c .before .before .tolerance .ensures) (c .enum-told .given .1)))
     (at-start .args .linear) (at-start .args .turning) _
-
-try-normalize-requires : tie.Need-try-normalize-requires
-try-normalize-requires c κs = search needs
-
-enum-known-unit : tie.Need-enum-known-unit
-enum-known-unit c = search needs
-
-enum-told-2 : tie.Need-enum-told-2
-enum-told-2 c = search needs
 
 returns-2 : tie.Need-returns-2
 returns-2 c =
@@ -64,9 +46,6 @@ write-turning-requires c κs =
       unit-of (at-unit .before .before .try-normalize .ensures) (at-unit .unit .given .1),
     )
 
-enum-known-written : tie.Need-enum-known-written
-enum-known-written c = search needs
-
 values-finite-requires : tie.Need-values-finite-requires
 values-finite-requires c κs =
     let at-turning = c .before .before .before .before .before .before in
@@ -76,9 +55,6 @@ values-finite-requires c κs =
     let all = at-turning .write-turning .ensures _ _ (at-linear .write-linear .ensures) in
     let six = at-tolerance .before .before .before .before .pre in
     omega (arith, all .kept .size, all .within, count-rows (c .before .before .written .given .1))
-
-same-length : tie.Need-same-length
-same-length c = search needs
 
 returns-3 : tie.Need-returns-3
 returns-3 c =
@@ -92,15 +68,6 @@ returns-3 c =
     (at-turning .write-turning .ensures _ _ (at-linear .write-linear .ensures))
     (at-written .written .given .1) (c .before .values-finite .ensures _ _) (c .if1 .taken)
 
-enum-told-3 : tie.Need-enum-told-3
-enum-told-3 c = search needs
-
-enum-told-4 : tie.Need-enum-told-4
-enum-told-4 c = search needs
-
-same-length-2 : tie.Need-same-length-2
-same-length-2 c = search needs
-
 returns-4 : tie.Need-returns-4
 returns-4 c =
     let at-written = c .before .before .before .before in
@@ -113,9 +80,6 @@ returns-4 c =
     (at-turning .write-turning .ensures _ _ (at-linear .write-linear .ensures))
     (at-written .written .given .1) (c .before .values-finite .ensures _ _) (c .if1 .left)
 
-same-length-3 : tie.Need-same-length-3
-same-length-3 c = search needs
-
 returns-5 : tie.Need-returns-5
 returns-5 c =
     let at-turning = c .before .before .before .before in
@@ -126,9 +90,6 @@ returns-5 c =
     frames-lost (at-start .args .linear) (at-start .args .turning) (at-start .args .joint) (at-start .args .e)
     (at-turning .write-turning .ensures _ _ (at-linear .write-linear .ensures))
     Written.NonConvergent nonConvergent refl refl (c .enum-told3 .given .1)
-
-same-length-4 : tie.Need-same-length-4
-same-length-4 c = search needs
 
 returns-6 : tie.Need-returns-6
 returns-6 c =
@@ -143,27 +104,9 @@ returns-6 c =
 
 pub write-frames-spec : {M : Type 1} → statement M
 write-frames-spec =
-    tie.close
-    (tie.spec
-    tolerance-requires
-    enum-known-tolerance
-    enum-told
-    returns
-    try-normalize-requires
-    enum-known-unit
-    enum-told-2
-    returns-2
-    write-linear-requires
-    write-turning-requires
-    enum-known-written
-    values-finite-requires
-    same-length
-    returns-3
-    enum-told-3
-    enum-told-4
-    same-length-2
-    returns-4
-    same-length-3
-    returns-5
-    same-length-4
-    returns-6)
+    tie.close (tie.spec
+      (λ c κs. search needs) (λ c. search needs) (λ c. search needs) returns (λ c κs. search needs)
+      (λ c. search needs) (λ c. search needs) returns-2 write-linear-requires write-turning-requires
+      (λ c. search needs) values-finite-requires (λ c. search needs) returns-3 (λ c. search needs)
+      (λ c. search needs) (λ c. search needs) returns-4 (λ c. search needs) returns-5 (λ c. search needs)
+      returns-6)

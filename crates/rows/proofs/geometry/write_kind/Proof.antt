@@ -7,26 +7,8 @@ use native.Mathlib.Omega.{arith}
 use Rattle.rows.proofs.geometry.write_kind.Statement.{statement}
 use Rattle.rows.proofs.geometry.write_kind.Tie as tie
 
-ends-of-requires : tie.Need-ends-of-requires
-ends-of-requires c κs = search needs
-
-enum-known-e : tie.Need-enum-known-e
-enum-known-e c = search needs
-
-enum-told : tie.Need-enum-told
-enum-told c = search needs
-
 returns : tie.Need-returns
 returns c = kind-lost _ _ _ _ (ends-stop (c .before .before .ends-of .ensures) (c .enum-told .given .1))
-
-motions-of-requires : tie.Need-motions-of-requires
-motions-of-requires c κs = search needs
-
-enum-known-length : tie.Need-enum-known-length
-enum-known-length c = search needs
-
-distance-row-requires : tie.Need-distance-row-requires
-distance-row-requires c κs = search needs
 
 append-requires : tie.Need-append-requires
 append-requires c κs =
@@ -34,17 +16,11 @@ append-requires c κs =
     let at-e = at-length .before .before .before .before in
     omega (arith, at-e .before .before .before .pre)
 
-enum-known-linear : tie.Need-enum-known-linear
-enum-known-linear c = search needs
-
 write-frames-requires : tie.Need-write-frames-requires
 write-frames-requires c κs =
     let at-linear = c .before .before .before in
     let at-e = at-linear .before .before .before .before in
     at-e .before .before .before .pre
-
-same-length : tie.Need-same-length
-same-length c = search needs
 
 returns-2 : tie.Need-returns-2
 returns-2 c =
@@ -55,9 +31,6 @@ returns-2 c =
     (ends-go (at-e .before .before .ends-of .ensures) (at-e .e .given .1))
     (sym (at-motions .motions-of .ensures) ∙ at-length .length .given .1)
     (c .before .before .append .ensures) (c .before .before .before .distance-row .ensures)
-
-same-length-2 : tie.Need-same-length-2
-same-length-2 c = search needs
 
 returns-3 : tie.Need-returns-3
 returns-3 c =
@@ -71,19 +44,7 @@ returns-3 c =
 
 pub write-kind-spec : {M : Type 1} → statement M
 write-kind-spec =
-    tie.close
-    (tie.spec
-    ends-of-requires
-    enum-known-e
-    enum-told
-    returns
-    motions-of-requires
-    enum-known-length
-    distance-row-requires
-    append-requires
-    enum-known-linear
-    write-frames-requires
-    same-length
-    returns-2
-    same-length-2
-    returns-3)
+    tie.close (tie.spec
+      (λ c κs. search needs) (λ c. search needs) (λ c. search needs) returns (λ c κs. search needs)
+      (λ c. search needs) (λ c κs. search needs) append-requires (λ c. search needs) write-frames-requires
+      (λ c. search needs) returns-2 (λ c. search needs) returns-3)

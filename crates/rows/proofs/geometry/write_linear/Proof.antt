@@ -6,9 +6,6 @@ use native.Mathlib.Omega.{arith}
 use Rattle.rows.proofs.geometry.write_linear.Statement.{statement}
 use Rattle.rows.proofs.geometry.write_linear.Tie as tie
 
-axes-of-requires : tie.Need-axes-of-requires
-axes-of-requires c κs = search needs
-
 linear-row-if-requires : tie.Need-linear-row-if-requires
 linear-row-if-requires c κs =
     let at-start = c .before .before in
@@ -43,9 +40,6 @@ append-requires-3 c κs =
     let at-start = at-one .before .before .before .before .before in
     room-here (room-after (room-after (room-none _ _ (at-start .pre .0)) (at-one .append .ensures)) (at-two .append2 .ensures)) (omega arith)
 
-same-length : tie.Need-same-length
-same-length c = search needs
-
 returns : tie.Need-returns
 returns c =
     let at-three = c .before .before in
@@ -60,14 +54,6 @@ returns c =
 
 pub write-linear-spec : {M : Type 1} → statement M
 write-linear-spec =
-    tie.close
-    (tie.spec
-    axes-of-requires
-    linear-row-if-requires
-    append-requires
-    linear-row-if-requires-2
-    append-requires-2
-    linear-row-if-requires-3
-    append-requires-3
-    same-length
-    returns)
+    tie.close (tie.spec
+      (λ c κs. search needs) linear-row-if-requires append-requires linear-row-if-requires-2 append-requires-2
+      linear-row-if-requires-3 append-requires-3 (λ c. search needs) returns)

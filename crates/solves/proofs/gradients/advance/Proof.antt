@@ -20,9 +20,6 @@ operator-requires c κs =
           (omega (arith, start .pre .whole)),
     )
 
-done-requires : tie.Need-done-requires
-done-requires c κs = search needs
-
 same-length : tie.Need-same-length
 same-length c =
     let at-operator = c .before .before .before .before in
@@ -37,15 +34,6 @@ returns c =
     does-eq (fails _ end (at-done .done .ensures) (c .if1 .taken))
     (advance-unmoved (start .args .t) (start .pre) (start .args .rho)
     (failed _ end (at-done .done .ensures) (at-operator .operator .ensures) (c .if1 .taken)))
-
-dot-requires : tie.Need-dot-requires
-dot-requires c κs = omega arith
-
-enum-known-curvature : tie.Need-enum-known-curvature
-enum-known-curvature c = search needs
-
-enum-told : tie.Need-enum-told
-enum-told c = search needs
 
 same-length-2 : tie.Need-same-length-2
 same-length-2 c =
@@ -78,9 +66,6 @@ returns-3 c =
     (went _ (at-operator .operator .result) (at-done .done .ensures) (at-operator .operator .ensures) (at-dot .before .before .if1 .left))
     zero-is (sum-there (at-dot .dot .ensures) (c .before .before .curvature .given .1)) (c .if2 .taken)
 
-is-finite-requires : tie.Need-is-finite-requires
-is-finite-requires c κs = search needs
-
 same-length-4 : tie.Need-same-length-4
 same-length-4 c =
     let at-dot = c .before .before .before .before .before .before in
@@ -97,12 +82,6 @@ returns-4 c =
     (went _ (at-operator .operator .result) (at-if1 .before .done .ensures) (at-operator .operator .ensures) (at-if1 .if1 .left))
     zero-is (sum-there (at-curvature .before .before .dot .ensures) (at-curvature .curvature .given .1)) (c .before .before .if2 .left)
     (c .before .is-finite .ensures) (c .if3 .taken)
-
-add-scaled-requires : tie.Need-add-scaled-requires
-add-scaled-requires c κs = omega arith
-
-sub-scaled-requires : tie.Need-sub-scaled-requires
-sub-scaled-requires c κs = omega arith
 
 same-length-5 : tie.Need-same-length-5
 same-length-5 c =
@@ -128,6 +107,7 @@ returns-5 c =
 
 pub advance-spec : {M : Type 1} → statement M
 advance-spec =
-    tie.close
-    (tie.spec operator-requires done-requires same-length returns dot-requires enum-known-curvature enum-told same-length-2 returns-2
-    same-length-3 returns-3 is-finite-requires same-length-4 returns-4 add-scaled-requires sub-scaled-requires same-length-5 returns-5)
+    tie.close (tie.spec
+      operator-requires (λ c κs. search needs) same-length returns (λ c κs. omega arith) (λ c. search needs)
+      (λ c. search needs) same-length-2 returns-2 same-length-3 returns-3 (λ c κs. search needs) same-length-4
+      returns-4 (λ c κs. omega arith) (λ c κs. omega arith) same-length-5 returns-5)

@@ -4,24 +4,6 @@ use Rattle.solves.proofs.GradientLaws.{diagonal-is}
 use Rattle.solves.proofs.gradients.diagonal_entry.Statement.{statement}
 use Rattle.solves.proofs.gradients.diagonal_entry.Tie as tie
 
-length-squared-requires : tie.Need-length-squared-requires
-length-squared-requires c κs = search needs
-
-apply-requires : tie.Need-apply-requires
-apply-requires c κs = search needs
-
-dot-requires : tie.Need-dot-requires
-dot-requires c κs = search needs
-
-length-squared-requires-2 : tie.Need-length-squared-requires-2
-length-squared-requires-2 c κs = search needs
-
-apply-requires-2 : tie.Need-apply-requires-2
-apply-requires-2 c κs = search needs
-
-dot-requires-2 : tie.Need-dot-requires-2
-dot-requires-2 c κs = search needs
-
 returns : tie.Need-returns
 returns c =
     let at-length-squared2 = c .before .before .before in
@@ -33,5 +15,6 @@ returns c =
 
 pub diagonal-entry-spec : {M : Type 1} → statement M
 diagonal-entry-spec =
-    tie.close
-    (tie.spec length-squared-requires apply-requires dot-requires length-squared-requires-2 apply-requires-2 dot-requires-2 returns)
+    tie.close (tie.spec
+      (λ c κs. search needs) (λ c κs. search needs) (λ c κs. search needs) (λ c κs. search needs)
+      (λ c κs. search needs) (λ c κs. search needs) returns)

@@ -10,15 +10,6 @@ use Rattle.solves.proofs.OperatorLaws.{rows-kept}
 use Rattle.solves.proofs.gradients.gradient_pass.Statement.{statement}
 use Rattle.solves.proofs.gradients.gradient_pass.Tie as tie
 
-residual-test-requires : tie.Need-residual-test-requires
-residual-test-requires c κs = omega arith
-
-enum-known-end : tie.Need-enum-known-end
-enum-known-end c = search needs
-
-same-length : tie.Need-same-length
-same-length c = search needs
-
 returns : tie.Need-returns
 returns c =
     let at-end = c .before in
@@ -26,16 +17,10 @@ returns c =
     pass-over (start .args .t) (start .pre) (start .args .tolerance) (start .args .rho) (at-end .end .given .0 .0) (at-end .end .given .1)
     (at-end .before .before .residual-test .ensures)
 
-enum-told : tie.Need-enum-told
-enum-told c = search needs
-
 advance-requires : tie.Need-advance-requires
 advance-requires c κs =
     let start = c .before .before .before .before .before .before in
     start .pre
-
-done-requires : tie.Need-done-requires
-done-requires c κs = search needs
 
 same-length-2 : tie.Need-same-length-2
 same-length-2 c =
@@ -79,6 +64,6 @@ returns-3 c =
 
 pub gradient-pass-spec : {M : Type 1} → statement M
 gradient-pass-spec =
-    tie.close
-    (tie.spec residual-test-requires enum-known-end same-length returns enum-told advance-requires done-requires same-length-2 returns-2
-    settle-requires same-length-3 returns-3)
+    tie.close (tie.spec
+      (λ c κs. omega arith) (λ c. search needs) (λ c. search needs) returns (λ c. search needs) advance-requires
+      (λ c κs. search needs) same-length-2 returns-2 settle-requires same-length-3 returns-3)

@@ -15,18 +15,6 @@ use Rattle.solves.proofs.SearchLaws.{tenth-12, new-ended}
 use Rattle.solves.proofs.gradients.gradients.Statement.{statement}
 use Rattle.solves.proofs.gradients.gradients.Tie as tie
 
-prepare-requires : tie.Need-prepare-requires
-prepare-requires c κs = c .before .before .pre
-
-enum-known-rho : tie.Need-enum-known-rho
-enum-known-rho c = search needs
-
-enum-told : tie.Need-enum-told
-enum-told c = search needs
-
-new-requires : tie.Need-new-requires
-new-requires c κs = search needs
-
 same-length : tie.Need-same-length
 same-length c =
     let at-prepare = c .before .before .before .before .before in
@@ -40,18 +28,6 @@ returns c =
     (gradients-refused (start .args .t) (start .pre)
     (does-as (λ r. preparedAs r (at-prepare .prepare .last .0) (start .args .t .rows)) (c .before .enum-told .given .1)
     (at-prepare .prepare .ensures)))
-
-tolerance-for-requires : tie.Need-tolerance-for-requires
-tolerance-for-requires c κs = omega arith
-
-enum-known-tolerance : tie.Need-enum-known-tolerance
-enum-known-tolerance c = search needs
-
-enum-told-2 : tie.Need-enum-told-2
-enum-told-2 c = search needs
-
-new-requires-2 : tie.Need-new-requires-2
-new-requires-2 c κs = search needs
 
 same-length-2 : tie.Need-same-length-2
 same-length-2 c =
@@ -98,6 +74,7 @@ returns-3 c =
 
 pub gradients-spec : {M : Type 1} → statement M
 gradients-spec =
-    tie.close
-    (tie.spec prepare-requires enum-known-rho enum-told new-requires same-length returns tolerance-for-requires enum-known-tolerance enum-told-2
-    new-requires-2 same-length-2 returns-2 search-requires same-length-3 returns-3)
+    tie.close (tie.spec
+      (λ c κs. c .before .before .pre) (λ c. search needs) (λ c. search needs) (λ c κs. search needs)
+      same-length returns (λ c κs. omega arith) (λ c. search needs) (λ c. search needs) (λ c κs. search needs)
+      same-length-2 returns-2 search-requires same-length-3 returns-3)

@@ -28,9 +28,6 @@ abbrev μ-loop : tie.MeasureT-loop
 loop-holds : tie.Need-loop-holds Inv-loop μ-loop
 loop-holds c = (omega arith, refl, prepared-none (c .before .pre) _ zero-is)
 
-load-row-requires : tie.Need-load-row-requires Inv-loop μ-loop
-load-row-requires c κs = omega arith
-
 load-mass-requires : tie.Need-load-mass-requires Inv-loop μ-loop
 load-mass-requires c κs =
     let in-loop = c .before .before .before in
@@ -42,12 +39,6 @@ load-mass-requires-2 c κs =
     let at-loop = at-load-row .before .before .before in
     omega
     (arith, on-b (at-loop .before .before .pre) (at-load-row .before .before .loop-test .taken) (at-loop .loop .s) (at-load-row .load-row .ensures))
-
-diagonal-entry-requires : tie.Need-diagonal-entry-requires Inv-loop μ-loop
-diagonal-entry-requires c κs = omega arith
-
-is-finite-requires : tie.Need-is-finite-requires Inv-loop μ-loop
-is-finite-requires c κs = omega arith
 
 same-length : tie.Need-same-length Inv-loop μ-loop
 same-length c =
@@ -82,42 +73,12 @@ returns-2 c =
     (at-load-mass .load-mass .ensures) (at-diagonal-entry .before .load-mass2 .ensures) (at-diagonal-entry .diagonal-entry .ensures)
     (c .before .before .is-finite .ensures) zero-is (c .before .if1 .left) (c .if2 .taken)
 
-add-r : tie.Need-add-r Inv-loop μ-loop
-add-r c = omega arith
-
-mul-r : tie.Need-mul-r Inv-loop μ-loop
-mul-r c = omega arith
-
-slice-read-r : tie.Need-slice-read-r Inv-loop μ-loop
-slice-read-r c = omega arith
-
-add-s : tie.Need-add-s Inv-loop μ-loop
-add-s c = omega arith
-
-mul-s : tie.Need-mul-s Inv-loop μ-loop
-mul-s c = omega arith
-
-slice-write-s : tie.Need-slice-write-s Inv-loop μ-loop
-slice-write-s c = omega arith
-
-add-s-2 : tie.Need-add-s-2 Inv-loop μ-loop
-add-s-2 c = omega arith
-
-mul-s-2 : tie.Need-mul-s-2 Inv-loop μ-loop
-mul-s-2 c = omega arith
-
 slice-write-s-2 : tie.Need-slice-write-s-2 Inv-loop μ-loop
 slice-write-s-2 c =
     let at-load-mass-arg2 = c .before .before .before .before .before .before in
     let in-loop = at-load-mass-arg2 .before .before .before .before .before in
     let start = in-loop .before .before .before in
     simp length-set (omega (arith, start .pre .whole, start .pre .most, in-loop .before .loop .inv .1, in-loop .loop-test .taken))
-
-add-k : tie.Need-add-k Inv-loop μ-loop
-add-k c = omega arith
-
-loop-less : tie.Need-loop-less Inv-loop μ-loop
-loop-less c = omega arith
 
 loop-again : tie.Need-loop-again Inv-loop μ-loop
 loop-again c =
@@ -133,15 +94,14 @@ loop-again c =
           (at-is-finite .is-finite .ensures) zero-is (c .before .before .if1 .left) (c .before .if2 .left),
     )
 
-same-length-3 : tie.Need-same-length-3 Inv-loop μ-loop
-same-length-3 c = c .before .loop .inv .1
-
 returns-3 : tie.Need-returns-3 Inv-loop μ-loop
 returns-3 c = prepared-ends (c .before .before .before .pre) _ (c .before .loop .inv .2) (omega arith) (c .loop-test .left)
 
 pub prepare-spec : {M : Type 1} → statement M
 prepare-spec =
-    tie.close
-    (tie.spec Inv-loop μ-loop loop-holds load-row-requires load-mass-requires load-mass-requires-2 diagonal-entry-requires is-finite-requires
-    same-length returns same-length-2 returns-2 add-r mul-r slice-read-r add-s mul-s slice-write-s add-s-2 mul-s-2 slice-write-s-2 add-k
-    loop-less loop-again same-length-3 returns-3)
+    tie.close (tie.spec
+      Inv-loop μ-loop loop-holds (λ c κs. omega arith) load-mass-requires load-mass-requires-2
+      (λ c κs. omega arith) (λ c κs. omega arith) same-length returns same-length-2 returns-2 (λ c. omega arith)
+      (λ c. omega arith) (λ c. omega arith) (λ c. omega arith) (λ c. omega arith) (λ c. omega arith)
+      (λ c. omega arith) (λ c. omega arith) slice-write-s-2 (λ c. omega arith) (λ c. omega arith) loop-again
+      (λ c. c .before .loop .inv .1) returns-3)

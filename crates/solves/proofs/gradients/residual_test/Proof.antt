@@ -9,23 +9,11 @@ use Rattle.solves.proofs.GradientLaws.{test-over, test-there}
 use Rattle.solves.proofs.gradients.residual_test.Statement.{statement}
 use Rattle.solves.proofs.gradients.residual_test.Tie as tie
 
-dot-requires : tie.Need-dot-requires
-dot-requires c κs = search needs
-
-enum-known-square : tie.Need-enum-known-square
-enum-known-square c = search needs
-
-enum-told : tie.Need-enum-told
-enum-told c = search needs
-
 returns : tie.Need-returns
 returns c =
     let start = c .before .before .before .before in
     test-over (vecAt (now (start .args .s)) RESIDUAL (start .args .n)) (start .args .tolerance)
     (sum-over (c .before .before .dot .ensures) (c .enum-told .given .1))
-
-sqrt-requires : tie.Need-sqrt-requires
-sqrt-requires c κs = search needs
 
 returns-2 : tie.Need-returns-2
 returns-2 c =
@@ -43,5 +31,6 @@ returns-3 c =
 
 pub residual-test-spec : {M : Type 1} → statement M
 residual-test-spec =
-    tie.close
-    (tie.spec dot-requires enum-known-square enum-told returns sqrt-requires returns-2 returns-3)
+    tie.close (tie.spec
+      (λ c κs. search needs) (λ c. search needs) (λ c. search needs) returns (λ c κs. search needs) returns-2
+      returns-3)

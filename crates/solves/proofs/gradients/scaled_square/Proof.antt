@@ -19,33 +19,6 @@ Inv-loop s n total₀ k₀ total k = (k ≤ n) × (total ≡ turns (squareTurn (
 abbrev μ-loop : tie.MeasureT-loop
 μ-loop s n total₀ k₀ total k = n - k
 
-loop-holds : tie.Need-loop-holds Inv-loop μ-loop
-loop-holds c = (omega arith, zero-is ∙ turns-none _ _)
-
-add-r : tie.Need-add-r Inv-loop μ-loop
-add-r c = omega arith
-
-mul-r : tie.Need-mul-r Inv-loop μ-loop
-mul-r c = omega arith
-
-shared-slice-read-r : tie.Need-shared-slice-read-r Inv-loop μ-loop
-shared-slice-read-r c = omega arith
-
-add-total : tie.Need-add-total Inv-loop μ-loop
-add-total c = omega arith
-
-mul-total : tie.Need-mul-total Inv-loop μ-loop
-mul-total c = omega arith
-
-shared-slice-read-total : tie.Need-shared-slice-read-total Inv-loop μ-loop
-shared-slice-read-total c = omega arith
-
-add-k : tie.Need-add-k Inv-loop μ-loop
-add-k c = omega arith
-
-loop-less : tie.Need-loop-less Inv-loop μ-loop
-loop-less c = omega arith
-
 loop-again : tie.Need-loop-again Inv-loop μ-loop
 loop-again c =
     let at-loop = c .before .before .before in
@@ -63,6 +36,7 @@ returns c =
 
 pub scaled-square-spec : {M : Type 1} → statement M
 scaled-square-spec =
-    tie.close
-    (tie.spec Inv-loop μ-loop loop-holds add-r mul-r shared-slice-read-r add-total mul-total shared-slice-read-total add-k loop-less loop-again
-    returns)
+    tie.close (tie.spec
+      Inv-loop μ-loop (λ c. (omega arith, zero-is ∙ turns-none _ _)) (λ c. omega arith) (λ c. omega arith)
+      (λ c. omega arith) (λ c. omega arith) (λ c. omega arith) (λ c. omega arith) (λ c. omega arith)
+      (λ c. omega arith) loop-again returns)

@@ -7,12 +7,6 @@ use Rattle.solves.proofs.GradientLaws.{settle-over, settle-next}
 use Rattle.solves.proofs.gradients.settle.Statement.{statement}
 use Rattle.solves.proofs.gradients.settle.Tie as tie
 
-true-residual-requires : tie.Need-true-residual-requires
-true-residual-requires c κs = c .before .before .pre
-
-enum-known-end : tie.Need-enum-known-end
-enum-known-end c = search needs
-
 same-length : tie.Need-same-length
 same-length c =
     let at-true-residual = c .before .before .before .before .before in
@@ -25,15 +19,6 @@ returns c =
     let start = at-true-residual .before .before .before in
     settle-over (start .args .t) (start .pre) (start .args .tolerance) (start .args .rho) (at-true-residual .true-residual .result)
     (at-end .end .given .0 .0) (at-end .end .given .1) (at-true-residual .true-residual .ensures)
-
-enum-told : tie.Need-enum-told
-enum-told c = search needs
-
-scaled-square-requires : tie.Need-scaled-square-requires
-scaled-square-requires c κs = omega arith
-
-next-direction-requires : tie.Need-next-direction-requires
-next-direction-requires c κs = omega arith
 
 same-length-2 : tie.Need-same-length-2
 same-length-2 c =
@@ -52,6 +37,6 @@ returns-2 c =
 
 pub settle-spec : {M : Type 1} → statement M
 settle-spec =
-    tie.close
-    (tie.spec true-residual-requires enum-known-end same-length returns enum-told scaled-square-requires next-direction-requires same-length-2
-    returns-2)
+    tie.close (tie.spec
+      (λ c κs. c .before .before .pre) (λ c. search needs) same-length returns (λ c. search needs)
+      (λ c κs. omega arith) (λ c κs. omega arith) same-length-2 returns-2)

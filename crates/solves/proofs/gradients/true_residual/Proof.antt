@@ -13,28 +13,10 @@ use Rattle.solves.proofs.OperatorLaws.{place-of}
 use Rattle.solves.proofs.gradients.true_residual.Statement.{statement}
 use Rattle.solves.proofs.gradients.true_residual.Tie as tie
 
-residual-test-requires : tie.Need-residual-test-requires
-residual-test-requires c κs = omega arith
-
-enum-known-near : tie.Need-enum-known-near
-enum-known-near c = search needs
-
-enum-told : tie.Need-enum-told
-enum-told c = search needs
-
-same-length : tie.Need-same-length
-same-length c = search needs
-
 returns : tie.Need-returns
 returns c =
     let start = c .before .before .before .before .before in
     true-beyond (start .args .t) (start .pre) (start .args .tolerance) (test-is (c .before .before .residual-test .ensures) (c .enum-told .given .1))
-
-done-requires : tie.Need-done-requires
-done-requires c κs = search needs
-
-same-length-2 : tie.Need-same-length-2
-same-length-2 c = search needs
 
 returns-2 : tie.Need-returns-2
 returns-2 c =
@@ -56,9 +38,6 @@ operator-requires c κs =
           (omega (arith, start .pre .whole)),
     )
 
-done-requires-2 : tie.Need-done-requires-2
-done-requires-2 c κs = search needs
-
 same-length-3 : tie.Need-same-length-3
 same-length-3 c =
     let at-operator = c .before .before .before .before in
@@ -77,12 +56,6 @@ returns-3 c =
     (sym (ran-done true (at-near .near .given .0 .0) (sym (at-done .done .ensures) ∙ not-no _ (at-operator .before .before .if1 .left)))
     ∙ test-is (at-near .before .before .residual-test .ensures) (at-near .near .given .1))
     (failed _ end (at-done2 .done2 .ensures) (at-operator .operator .ensures) (c .if2 .taken)))
-
-difference-requires : tie.Need-difference-requires
-difference-requires c κs = omega arith
-
-residual-test-requires-2 : tie.Need-residual-test-requires-2
-residual-test-requires-2 c κs = omega arith
 
 same-length-4 : tie.Need-same-length-4
 same-length-4 c =
@@ -106,6 +79,7 @@ returns-4 c =
 
 pub true-residual-spec : {M : Type 1} → statement M
 true-residual-spec =
-    tie.close
-    (tie.spec residual-test-requires enum-known-near enum-told same-length returns done-requires same-length-2 returns-2 operator-requires
-    done-requires-2 same-length-3 returns-3 difference-requires residual-test-requires-2 same-length-4 returns-4)
+    tie.close (tie.spec
+      (λ c κs. omega arith) (λ c. search needs) (λ c. search needs) (λ c. search needs) returns
+      (λ c κs. search needs) (λ c. search needs) returns-2 operator-requires (λ c κs. search needs)
+      same-length-3 returns-3 (λ c κs. omega arith) (λ c κs. omega arith) same-length-4 returns-4)

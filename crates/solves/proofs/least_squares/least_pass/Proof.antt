@@ -13,9 +13,6 @@ use Rattle.solves.proofs.LeastLaws.{pass-solved, pass-unmoved, pass-unm
 use Rattle.solves.proofs.least_squares.least_pass.Statement.{statement}
 use Rattle.solves.proofs.least_squares.least_pass.Tie as tie
 
-sqrt-requires : tie.Need-sqrt-requires
-sqrt-requires c κs = search needs
-
 returns : tie.Need-returns
 returns c =
     let start = c .before .before .before in
@@ -29,9 +26,6 @@ operator-requires c κs =
       place-of PRODUCT (omega arith) (omega arith)
           (omega (arith, start .pre .whole)),
     )
-
-done-requires : tie.Need-done-requires
-done-requires c κs = search needs
 
 same-length : tie.Need-same-length
 same-length c =
@@ -49,15 +43,6 @@ returns-2 c =
     (pass-unmoved (start .args .t) (start .pre) (start .args .tolerance) (start .args .norm) (at-sqrt .sqrt .ensures .is)
     (at-operator .before .before .if1 .left)
     (failed _ end (at-done .done .ensures) (at-operator .operator .ensures) (c .if2 .taken)))
-
-dot-requires : tie.Need-dot-requires
-dot-requires c κs = omega arith
-
-enum-known-denominator : tie.Need-enum-known-denominator
-enum-known-denominator c = search needs
-
-enum-told : tie.Need-enum-told
-enum-told c = search needs
 
 same-length-2 : tie.Need-same-length-2
 same-length-2 c =
@@ -94,12 +79,6 @@ returns-4 c =
     (went _ (at-operator .operator .result) (at-done .done .ensures) (at-operator .operator .ensures) (at-dot .before .before .if2 .left))
     zero-is (sum-there (at-dot .dot .ensures) (c .before .before .denominator .given .1)) (c .if3 .taken)
 
-add-scaled-requires : tie.Need-add-scaled-requires
-add-scaled-requires c κs = omega arith
-
-sub-scaled-requires : tie.Need-sub-scaled-requires
-sub-scaled-requires c κs = omega arith
-
 operator-requires-2 : tie.Need-operator-requires-2
 operator-requires-2 c κs =
     let at-sub-scaled = c .before .before .before in
@@ -114,9 +93,6 @@ operator-requires-2 c κs =
       place-of NORMAL
           (omega arith) (omega arith) (omega (arith, size, start .pre .whole)),
     )
-
-done-requires-2 : tie.Need-done-requires-2
-done-requires-2 c κs = search needs
 
 same-length-4 : tie.Need-same-length-4
 same-length-4 c =
@@ -163,12 +139,6 @@ dot-requires-2 c κs =
       at-operator2 .operator2 .ensures .kept .size ∙ at-sub-scaled .sub-scaled .ensures .kept .size
           ∙ at-add-scaled .add-scaled .ensures .kept .size ∙ at-operator .operator .ensures .kept .size,
     )
-
-enum-known-next : tie.Need-enum-known-next
-enum-known-next c = search needs
-
-enum-told-2 : tie.Need-enum-told-2
-enum-told-2 c = search needs
 
 same-length-5 : tie.Need-same-length-5
 same-length-5 c =
@@ -251,7 +221,9 @@ returns-7 c =
 
 pub least-pass-spec : {M : Type 1} → statement M
 least-pass-spec =
-    tie.close
-    (tie.spec sqrt-requires returns operator-requires done-requires same-length returns-2 dot-requires enum-known-denominator enum-told
-    same-length-2 returns-3 same-length-3 returns-4 add-scaled-requires sub-scaled-requires operator-requires-2 done-requires-2 same-length-4
-    returns-5 dot-requires-2 enum-known-next enum-told-2 same-length-5 returns-6 add-scaled-requires-2 same-length-6 returns-7)
+    tie.close (tie.spec
+      (λ c κs. search needs) returns operator-requires (λ c κs. search needs) same-length returns-2
+      (λ c κs. omega arith) (λ c. search needs) (λ c. search needs) same-length-2 returns-3 same-length-3
+      returns-4 (λ c κs. omega arith) (λ c κs. omega arith) operator-requires-2 (λ c κs. search needs)
+      same-length-4 returns-5 dot-requires-2 (λ c. search needs) (λ c. search needs) same-length-5 returns-6
+      add-scaled-requires-2 same-length-6 returns-7)

@@ -25,12 +25,6 @@ operator-requires c κs =
           (omega (arith, start .pre .whole)),
     )
 
-done-requires : tie.Need-done-requires
-done-requires c κs = search needs
-
-new-requires : tie.Need-new-requires
-new-requires c κs = search needs
-
 same-length : tie.Need-same-length
 same-length c =
     let at-operator = c .before .before .before .before .before in
@@ -46,18 +40,6 @@ returns c =
     new-ended (vecAt (at-operator .operator .last .0) SOLUTION (start .args .t .rows)) (c .new .ensures)
     (does-eq (ap (λ x. ran x 0 0) (fails _ end (at-done .done .ensures) (at-if1 .if1 .taken)))
     (least-unmoved (start .args .t) (start .pre) (failed _ end (at-done .done .ensures) (at-operator .operator .ensures) (at-if1 .if1 .taken))))
-
-dot-requires : tie.Need-dot-requires
-dot-requires c κs = omega arith
-
-enum-known-norm : tie.Need-enum-known-norm
-enum-known-norm c = search needs
-
-enum-told : tie.Need-enum-told
-enum-told c = search needs
-
-new-requires-2 : tie.Need-new-requires-2
-new-requires-2 c κs = search needs
 
 same-length-2 : tie.Need-same-length-2
 same-length-2 c =
@@ -75,18 +57,6 @@ returns-2 c =
     (least-unmeasured (start .args .t) (start .pre)
     (went _ (at-operator .operator .result) (at-done .done .ensures) (at-operator .operator .ensures) (at-dot .before .before .if1 .left))
     (sum-over (at-dot .dot .ensures) (c .before .enum-told .given .1)))
-
-tolerance-for-requires : tie.Need-tolerance-for-requires
-tolerance-for-requires c κs = omega arith
-
-enum-known-tolerance : tie.Need-enum-known-tolerance
-enum-known-tolerance c = search needs
-
-enum-told-2 : tie.Need-enum-told-2
-enum-told-2 c = search needs
-
-new-requires-3 : tie.Need-new-requires-3
-new-requires-3 c κs = search needs
 
 same-length-3 : tie.Need-same-length-3
 same-length-3 c =
@@ -108,9 +78,6 @@ returns-3 c =
     (sum-there (at-norm .before .before .dot .ensures) (at-norm .norm .given .1))
     (sum-over (at-tolerance-for .tolerance-for .ensures) (c .before .enum-told2 .given .1) ∙ ap
     (λ (x : Float). toleranceFor x (vecAt (at-operator .operator .last .0) RHS (start .args .t .rows))) tenth-14))
-
-copy-requires : tie.Need-copy-requires
-copy-requires c κs = omega arith
 
 search-requires : tie.Need-search-requires
 search-requires c κs =
@@ -145,7 +112,8 @@ returns-4 c =
 
 pub least-squares-spec : {M : Type 1} → statement M
 least-squares-spec =
-    tie.close
-    (tie.spec operator-requires done-requires new-requires same-length returns dot-requires enum-known-norm enum-told new-requires-2
-    same-length-2 returns-2 tolerance-for-requires enum-known-tolerance enum-told-2 new-requires-3 same-length-3 returns-3 copy-requires
-    search-requires same-length-4 returns-4)
+    tie.close (tie.spec
+      operator-requires (λ c κs. search needs) (λ c κs. search needs) same-length returns (λ c κs. omega arith)
+      (λ c. search needs) (λ c. search needs) (λ c κs. search needs) same-length-2 returns-2
+      (λ c κs. omega arith) (λ c. search needs) (λ c. search needs) (λ c κs. search needs) same-length-3
+      returns-3 (λ c κs. omega arith) search-requires same-length-4 returns-4)

@@ -5,12 +5,6 @@ use Rattle.solves.proofs.OperatorLaws.{same-body, other-body}
 use Rattle.solves.proofs.operator.add_through.Statement.{statement}
 use Rattle.solves.proofs.operator.add_through.Tie as tie
 
-load-mass-requires : tie.Need-load-mass-requires
-load-mass-requires c κs = search needs
-
-through-requires : tie.Need-through-requires
-through-requires c κs = search needs
-
 returns : tie.Need-returns
 returns c =
     let start = c .before .before .before .before in
@@ -24,4 +18,5 @@ returns-2 c =
     (start .args .bl) (start .args .ba) (start .args .value) (c .if1 .left)
 
 pub add-through-spec : {M : Type 1} → statement M
-add-through-spec = tie.close (tie.spec load-mass-requires through-requires returns returns-2)
+add-through-spec =
+    tie.close (tie.spec (λ c κs. search needs) (λ c κs. search needs) returns returns-2)

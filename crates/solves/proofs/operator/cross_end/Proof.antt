@@ -4,16 +4,11 @@ use Rattle.solves.proofs.OperatorLaws.{end-is}
 use Rattle.solves.proofs.operator.cross_end.Statement.{statement}
 use Rattle.solves.proofs.operator.cross_end.Tie as tie
 
-add-through-requires : tie.Need-add-through-requires
-add-through-requires c κs = search needs
-
-add-through-requires-2 : tie.Need-add-through-requires-2
-add-through-requires-2 c κs = search needs
-
 returns : tie.Need-returns
 returns c =
     let start = c .before .before .before in
     end-is _ _ _ _ (start .args .b) (start .args .value) (c .before .add-through .ensures) (c .add-through2 .ensures)
 
 pub cross-end-spec : {M : Type 1} → statement M
-cross-end-spec = tie.close (tie.spec add-through-requires add-through-requires-2 returns)
+cross-end-spec =
+    tie.close (tie.spec (λ c κs. search needs) (λ c κs. search needs) returns)

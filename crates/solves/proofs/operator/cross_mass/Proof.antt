@@ -5,15 +5,6 @@ use Rattle.solves.proofs.OperatorLaws.{cross-there, cross-over}
 use Rattle.solves.proofs.operator.cross_mass.Statement.{statement}
 use Rattle.solves.proofs.operator.cross_mass.Tie as tie
 
-cross-end-requires : tie.Need-cross-end-requires
-cross-end-requires c κs = search needs
-
-cross-end-requires-2 : tie.Need-cross-end-requires-2
-cross-end-requires-2 c κs = search needs
-
-is-finite-requires : tie.Need-is-finite-requires
-is-finite-requires c κs = search needs
-
 returns : tie.Need-returns
 returns c =
     let at-cross-end = c .before .before .before in
@@ -30,5 +21,4 @@ returns-2 c =
 
 pub cross-mass-spec : {M : Type 1} → statement M
 cross-mass-spec =
-    tie.close
-    (tie.spec cross-end-requires cross-end-requires-2 is-finite-requires returns returns-2)
+    tie.close (tie.spec (λ c κs. search needs) (λ c κs. search needs) (λ c κs. search needs) returns returns-2)

@@ -5,12 +5,6 @@ use Rattle.solves.proofs.OperatorLaws.{dot-there, dot-over}
 use Rattle.solves.proofs.operator.dot.Statement.{statement}
 use Rattle.solves.proofs.operator.dot.Tie as tie
 
-products-requires : tie.Need-products-requires
-products-requires c κs = search needs
-
-is-finite-requires : tie.Need-is-finite-requires
-is-finite-requires c κs = search needs
-
 returns : tie.Need-returns
 returns c =
     let start = c .before .before .before .before in
@@ -24,4 +18,5 @@ returns-2 c =
     (c .before .is-finite .ensures) (c .if1 .left)
 
 pub dot-spec : {M : Type 1} → statement M
-dot-spec = tie.close (tie.spec products-requires is-finite-requires returns returns-2)
+dot-spec =
+    tie.close (tie.spec (λ c κs. search needs) (λ c κs. search needs) returns returns-2)

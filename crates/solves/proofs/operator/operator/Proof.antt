@@ -12,9 +12,6 @@ transpose-requires c κs =
     let start = c .before .before in
     (start .pre .0, start .pre .1)
 
-done-requires : tie.Need-done-requires
-done-requires c κs = omega arith
-
 same-length : tie.Need-same-length
 same-length c =
     let at-transpose = c .before .before .before .before in
@@ -29,12 +26,6 @@ returns c =
     does-eq (fails _ end (at-done .done .ensures) (c .if1 .taken))
     (operator-pushes-failed (start .args .t) (start .pre .0) (start .args .input) (start .args .out)
     (failed _ end (at-done .done .ensures) (at-transpose .transpose .ensures .0) (c .if1 .taken)))
-
-scale-all-requires : tie.Need-scale-all-requires
-scale-all-requires c κs = omega arith
-
-done-requires-2 : tie.Need-done-requires-2
-done-requires-2 c κs = omega arith
 
 same-length-2 : tie.Need-same-length-2
 same-length-2 c =
@@ -87,6 +78,6 @@ returns-3 c =
 
 pub operator-spec : {M : Type 1} → statement M
 operator-spec =
-    tie.close
-    (tie.spec transpose-requires done-requires same-length returns scale-all-requires done-requires-2 same-length-2 returns-2 rates-requires
-    same-length-3 returns-3)
+    tie.close (tie.spec
+      transpose-requires (λ c κs. omega arith) same-length returns (λ c κs. omega arith) (λ c κs. omega arith)
+      same-length-2 returns-2 rates-requires same-length-3 returns-3)

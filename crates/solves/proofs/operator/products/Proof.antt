@@ -17,33 +17,6 @@ Inv-loop s a b n total₀ k₀ total k = (k ≤ n) × (total ≡ sumProducts (ve
 abbrev μ-loop : tie.MeasureT-loop
 μ-loop s a b n total₀ k₀ total k = n - k
 
-loop-holds : tie.Need-loop-holds Inv-loop μ-loop
-loop-holds c = (omega arith, zero-is ∙ turns-none _ _)
-
-add-total : tie.Need-add-total Inv-loop μ-loop
-add-total c = omega arith
-
-mul-total : tie.Need-mul-total Inv-loop μ-loop
-mul-total c = omega arith
-
-shared-slice-read-total : tie.Need-shared-slice-read-total Inv-loop μ-loop
-shared-slice-read-total c = omega arith
-
-add-total-2 : tie.Need-add-total-2 Inv-loop μ-loop
-add-total-2 c = omega arith
-
-mul-total-2 : tie.Need-mul-total-2 Inv-loop μ-loop
-mul-total-2 c = omega arith
-
-shared-slice-read-total-2 : tie.Need-shared-slice-read-total-2 Inv-loop μ-loop
-shared-slice-read-total-2 c = omega arith
-
-add-k : tie.Need-add-k Inv-loop μ-loop
-add-k c = omega arith
-
-loop-less : tie.Need-loop-less Inv-loop μ-loop
-loop-less c = omega arith
-
 loop-again : tie.Need-loop-again Inv-loop μ-loop
 loop-again c =
     let at-loop = c .before .before .before in
@@ -60,6 +33,7 @@ returns c =
 
 pub products-spec : {M : Type 1} → statement M
 products-spec =
-    tie.close
-    (tie.spec Inv-loop μ-loop loop-holds add-total mul-total shared-slice-read-total add-total-2 mul-total-2 shared-slice-read-total-2 add-k
-    loop-less loop-again returns)
+    tie.close (tie.spec
+      Inv-loop μ-loop (λ c. (omega arith, zero-is ∙ turns-none _ _)) (λ c. omega arith) (λ c. omega arith)
+      (λ c. omega arith) (λ c. omega arith) (λ c. omega arith) (λ c. omega arith) (λ c. omega arith)
+      (λ c. omega arith) loop-again returns)

@@ -4,18 +4,6 @@ use borrow.Author.Needs.{needs}
 use Rattle.solves.proofs.operator.push_into.Statement.{statement}
 use Rattle.solves.proofs.operator.push_into.Tie as tie
 
-load-generalized-requires : tie.Need-load-generalized-requires
-load-generalized-requires c κs = search needs
-
-pushed-requires : tie.Need-pushed-requires
-pushed-requires c κs = search needs
-
-store-generalized-requires : tie.Need-store-generalized-requires
-store-generalized-requires c κs = search needs
-
-same-length : tie.Need-same-length
-same-length c = search needs
-
 returns : tie.Need-returns
 returns c =
     let at-store-generalized = c .before .before in
@@ -27,10 +15,5 @@ returns c =
 
 pub push-into-spec : {M : Type 1} → statement M
 push-into-spec =
-    tie.close
-    (tie.spec
-    load-generalized-requires
-    pushed-requires
-    store-generalized-requires
-    same-length
-    returns)
+    tie.close (tie.spec
+      (λ c κs. search needs) (λ c κs. search needs) (λ c κs. search needs) (λ c. search needs) returns)

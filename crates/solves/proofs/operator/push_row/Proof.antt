@@ -4,15 +4,6 @@ use borrow.Author.Needs.{needs}
 use Rattle.solves.proofs.operator.push_row.Statement.{statement}
 use Rattle.solves.proofs.operator.push_row.Tie as tie
 
-push-into-requires : tie.Need-push-into-requires
-push-into-requires c κs = search needs
-
-push-into-requires-2 : tie.Need-push-into-requires-2
-push-into-requires-2 c κs = search needs
-
-same-length : tie.Need-same-length
-same-length c = search needs
-
 returns : tie.Need-returns
 returns c =
     let at-push-into2 = c .before .before in
@@ -21,4 +12,5 @@ returns c =
     row-then (start .args .bodies) (start .args .row) (start .args .value) _ (at-push-into .push-into .ensures) (at-push-into2 .push-into2 .ensures)
 
 pub push-row-spec : {M : Type 1} → statement M
-push-row-spec = tie.close (tie.spec push-into-requires push-into-requires-2 same-length returns)
+push-row-spec =
+    tie.close (tie.spec (λ c κs. search needs) (λ c κs. search needs) (λ c. search needs) returns)

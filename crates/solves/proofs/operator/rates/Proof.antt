@@ -25,9 +25,6 @@ loop-holds c =
     let start = c .before in
     (omega arith, refl, rates-none (start .pre .0) (start .pre .1) _)
 
-load-row-requires : tie.Need-load-row-requires Inv-loop μ-loop
-load-row-requires c κs = omega arith
-
 load-generalized-requires : tie.Need-load-generalized-requires Inv-loop μ-loop
 load-generalized-requires c κs =
     let in-loop = c .before .before .before in
@@ -43,9 +40,6 @@ load-generalized-requires-2 c κs =
       on-b (at-loop .before .before .pre .0) (at-load-row .before .before .loop-test .taken) (at-loop .loop .s)
           (at-load-row .load-row .ensures),
     )
-
-rate-requires : tie.Need-rate-requires Inv-loop μ-loop
-rate-requires c κs = omega arith
 
 add-s : tie.Need-add-s Inv-loop μ-loop
 add-s c =
@@ -67,9 +61,6 @@ slice-write-s c =
     let in-loop = at-load-row-arg .before in
     let start = in-loop .before .before .before in
     omega (arith, in-loop .loop-test .taken, in-loop .before .loop .inv .1, start .pre .0 .whole, start .pre .0 .most, start .pre .1 .there)
-
-is-finite-requires : tie.Need-is-finite-requires Inv-loop μ-loop
-is-finite-requires c κs = omega arith
 
 same-length : tie.Need-same-length Inv-loop μ-loop
 same-length c =
@@ -95,9 +86,6 @@ add-k c =
     let in-loop = at-load-generalized-arg .before .before .before in
     omega (arith, in-loop .loop-test .taken, in-loop .before .before .before .pre .0 .most)
 
-loop-less : tie.Need-loop-less Inv-loop μ-loop
-loop-less c = omega arith
-
 loop-again : tie.Need-loop-again Inv-loop μ-loop
 loop-again c =
     let at-load-generalized2 = c .before .before .before in
@@ -114,9 +102,6 @@ loop-again c =
           (not-no _ (c .if1 .left)),
     )
 
-same-length-2 : tie.Need-same-length-2 Inv-loop μ-loop
-same-length-2 c = c .before .loop .inv .1
-
 returns-2 : tie.Need-returns-2 Inv-loop μ-loop
 returns-2 c =
     let start = c .before .before .before in
@@ -124,6 +109,7 @@ returns-2 c =
 
 pub rates-spec : {M : Type 1} → statement M
 rates-spec =
-    tie.close
-    (tie.spec Inv-loop μ-loop loop-holds load-row-requires load-generalized-requires load-generalized-requires-2 rate-requires add-s mul-s
-    slice-write-s is-finite-requires same-length returns add-k loop-less loop-again same-length-2 returns-2)
+    tie.close (tie.spec
+      Inv-loop μ-loop loop-holds (λ c κs. omega arith) load-generalized-requires load-generalized-requires-2
+      (λ c κs. omega arith) add-s mul-s slice-write-s (λ c κs. omega arith) same-length returns add-k
+      (λ c. omega arith) loop-again (λ c. c .before .loop .inv .1) returns-2)

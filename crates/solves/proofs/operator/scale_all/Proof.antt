@@ -26,27 +26,6 @@ abbrev μ-loop : tie.MeasureT-loop
 loop-holds : tie.Need-loop-holds Inv-loop μ-loop
 loop-holds c = (omega arith, refl, scale-none _ _ (c .before .pre .1))
 
-load-generalized-requires : tie.Need-load-generalized-requires Inv-loop μ-loop
-load-generalized-requires c κs = omega arith
-
-load-mass-requires : tie.Need-load-mass-requires Inv-loop μ-loop
-load-mass-requires c κs = omega arith
-
-scaled-requires : tie.Need-scaled-requires Inv-loop μ-loop
-scaled-requires c κs = omega arith
-
-enum-known-g : tie.Need-enum-known-g Inv-loop μ-loop
-enum-known-g c = search needs
-
-store-generalized-requires : tie.Need-store-generalized-requires Inv-loop μ-loop
-store-generalized-requires c κs = omega arith
-
-enum-told : tie.Need-enum-told Inv-loop μ-loop
-enum-told c = search needs
-
-same-length : tie.Need-same-length Inv-loop μ-loop
-same-length c = omega arith
-
 returns : tie.Need-returns Inv-loop μ-loop
 returns c =
     let at-load-mass = c .before .before .before in
@@ -54,12 +33,6 @@ returns c =
     scale-stops _ _ (in-loop .before .before .before .pre .1) (in-loop .before .loop .inv .2) (in-loop .loop-test .taken)
     (at-load-mass .before .before .load-generalized .ensures) (at-load-mass .load-mass .ensures)
     (share-over (c .before .before .scaled .ensures) (c .enum-told .given .1))
-
-add-k : tie.Need-add-k Inv-loop μ-loop
-add-k c = omega arith
-
-loop-less : tie.Need-loop-less Inv-loop μ-loop
-loop-less c = omega arith
 
 loop-again : tie.Need-loop-again Inv-loop μ-loop
 loop-again c =
@@ -75,14 +48,12 @@ loop-again c =
           (share-there (at-g .before .before .scaled .ensures) (at-g .g .given .1)) (at-store-generalized .store-generalized .ensures),
     )
 
-same-length-2 : tie.Need-same-length-2 Inv-loop μ-loop
-same-length-2 c = omega arith
-
 returns-2 : tie.Need-returns-2 Inv-loop μ-loop
 returns-2 c = scale-ends _ _ (c .before .before .before .pre .1) (c .before .loop .inv .2) (omega arith) (c .loop-test .left)
 
 pub scale-all-spec : {M : Type 1} → statement M
 scale-all-spec =
-    tie.close
-    (tie.spec Inv-loop μ-loop loop-holds load-generalized-requires load-mass-requires scaled-requires enum-known-g store-generalized-requires
-    enum-told same-length returns add-k loop-less loop-again same-length-2 returns-2)
+    tie.close (tie.spec
+      Inv-loop μ-loop loop-holds (λ c κs. omega arith) (λ c κs. omega arith) (λ c κs. omega arith)
+      (λ c. search needs) (λ c κs. omega arith) (λ c. search needs) (λ c. omega arith) returns
+      (λ c. omega arith) (λ c. omega arith) loop-again (λ c. omega arith) returns-2)

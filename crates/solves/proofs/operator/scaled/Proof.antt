@@ -4,18 +4,6 @@ use Rattle.solves.proofs.PlaceLaws.{scaled-1, scaled-2, scaled-3}
 use Rattle.solves.proofs.operator.scaled.Statement.{statement}
 use Rattle.solves.proofs.operator.scaled.Tie as tie
 
-scale-requires : tie.Need-scale-requires
-scale-requires c κs = search needs
-
-is-finite-requires : tie.Need-is-finite-requires
-is-finite-requires c κs = search needs
-
-apply-requires : tie.Need-apply-requires
-apply-requires c κs = search needs
-
-is-finite-requires-2 : tie.Need-is-finite-requires-2
-is-finite-requires-2 c κs = search needs
-
 returns : tie.Need-returns
 returns c =
     let at-if1 = c .before .before .before in
@@ -33,5 +21,6 @@ returns-3 c = scaled-1 _ _ (c .before .before .scale .ensures) (c .before .is-fi
 
 pub scaled-spec : {M : Type 1} → statement M
 scaled-spec =
-    tie.close
-    (tie.spec scale-requires is-finite-requires apply-requires is-finite-requires-2 returns returns-2 returns-3)
+    tie.close (tie.spec
+      (λ c κs. search needs) (λ c κs. search needs) (λ c κs. search needs) (λ c κs. search needs) returns
+      returns-2 returns-3)

@@ -16,15 +16,6 @@ Inv-loop s bodies k₀ k = (k ≤ bodies) × (true ≡ every k (shareTest s bodi
 abbrev μ-loop : tie.MeasureT-loop
 μ-loop s bodies k₀ k = bodies - k
 
-loop-holds : tie.Need-loop-holds Inv-loop μ-loop
-loop-holds c = (omega arith, every-none _)
-
-load-generalized-requires : tie.Need-load-generalized-requires Inv-loop μ-loop
-load-generalized-requires c κs = omega arith
-
-is-finite-requires : tie.Need-is-finite-requires Inv-loop μ-loop
-is-finite-requires c κs = omega arith
-
 returns : tie.Need-returns Inv-loop μ-loop
 returns c =
     let at-load-generalized = c .before .before in
@@ -33,9 +24,6 @@ returns c =
     let s = now (start .args .s) in
     let h = in-loop .loop-test .taken in
     all-of s _ (every-fail _ _ h (linear-wild s _ h (at-load-generalized .load-generalized .ensures) (c .before .is-finite .ensures) (c .if1 .taken)))
-
-is-finite-requires-2 : tie.Need-is-finite-requires-2 Inv-loop μ-loop
-is-finite-requires-2 c κs = omega arith
 
 returns-2 : tie.Need-returns-2 Inv-loop μ-loop
 returns-2 c =
@@ -48,12 +36,6 @@ returns-2 c =
     all-of s _ (every-fail _ _ h
     (angular-wild s _ h (at-load-generalized .load-generalized .ensures) (at-if1 .before .is-finite .ensures) (at-if1 .if1 .left)
     (c .before .is-finite2 .ensures) (c .if2 .taken)))
-
-add-k : tie.Need-add-k Inv-loop μ-loop
-add-k c = omega arith
-
-loop-less : tie.Need-loop-less Inv-loop μ-loop
-loop-less c = omega arith
 
 loop-again : tie.Need-loop-again Inv-loop μ-loop
 loop-again c =
@@ -76,17 +58,6 @@ returns-3 c =
 
 pub shares-finite-spec : {M : Type 1} → statement M
 shares-finite-spec =
-    tie.close
-    (tie.spec
-    Inv-loop
-    μ-loop
-    loop-holds
-    load-generalized-requires
-    is-finite-requires
-    returns
-    is-finite-requires-2
-    returns-2
-    add-k
-    loop-less
-    loop-again
-    returns-3)
+    tie.close (tie.spec
+      Inv-loop μ-loop (λ c. (omega arith, every-none _)) (λ c κs. omega arith) (λ c κs. omega arith) returns
+      (λ c κs. omega arith) returns-2 (λ c. omega arith) (λ c. omega arith) loop-again returns-3)

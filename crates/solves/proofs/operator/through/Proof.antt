@@ -4,15 +4,6 @@ use Rattle.solves.proofs.OperatorLaws.{through-is}
 use Rattle.solves.proofs.operator.through.Statement.{statement}
 use Rattle.solves.proofs.operator.through.Tie as tie
 
-dot-requires : tie.Need-dot-requires
-dot-requires c κs = search needs
-
-apply-requires : tie.Need-apply-requires
-apply-requires c κs = search needs
-
-dot-requires-2 : tie.Need-dot-requires-2
-dot-requires-2 c κs = search needs
-
 returns : tie.Need-returns
 returns c =
     let at-dot = c .before .before .before in
@@ -20,4 +11,5 @@ returns c =
     through-is (start .args .mass) _ (start .args .aa) _ (start .args .ba) (at-dot .dot .ensures) (c .before .apply .ensures) (c .dot2 .ensures)
 
 pub through-spec : {M : Type 1} → statement M
-through-spec = tie.close (tie.spec dot-requires apply-requires dot-requires-2 returns)
+through-spec =
+    tie.close (tie.spec (λ c κs. search needs) (λ c κs. search needs) (λ c κs. search needs) returns)

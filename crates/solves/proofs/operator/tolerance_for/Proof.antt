@@ -6,22 +6,10 @@ use Rattle.solves.proofs.SearchLaws.{tolerance-go, tolerance-stop}
 use Rattle.solves.proofs.operator.tolerance_for.Statement.{statement}
 use Rattle.solves.proofs.operator.tolerance_for.Tie as tie
 
-dot-requires : tie.Need-dot-requires
-dot-requires c κs = search needs
-
-enum-known-square : tie.Need-enum-known-square
-enum-known-square c = search needs
-
-enum-told : tie.Need-enum-told
-enum-told c = search needs
-
 returns : tie.Need-returns
 returns c =
     let start = c .before .before .before .before in
     tolerance-stop (start .args .scale) _ (sum-over (c .before .before .dot .ensures) (c .enum-told .given .1))
-
-sqrt-requires : tie.Need-sqrt-requires
-sqrt-requires c κs = search needs
 
 returns-2 : tie.Need-returns-2
 returns-2 c =
@@ -31,4 +19,5 @@ returns-2 c =
 
 pub tolerance-for-spec : {M : Type 1} → statement M
 tolerance-for-spec =
-    tie.close (tie.spec dot-requires enum-known-square enum-told returns sqrt-requires returns-2)
+    tie.close (tie.spec
+      (λ c κs. search needs) (λ c. search needs) (λ c. search needs) returns (λ c κs. search needs) returns-2)

@@ -23,12 +23,6 @@ Inv-loop s₀ ia ib t values n bodies k₀ s k =
 abbrev μ-loop : tie.MeasureT-loop
 μ-loop s₀ ia ib t values n bodies k₀ s k = t .rows - k
 
-mul-clear : tie.Need-mul-clear Inv-loop μ-loop
-mul-clear c = omega arith
-
-clear-requires : tie.Need-clear-requires Inv-loop μ-loop
-clear-requires c κs = omega arith
-
 loop-holds : tie.Need-loop-holds Inv-loop μ-loop
 loop-holds c =
     let at-clear = c .before .before in
@@ -119,9 +113,6 @@ add-k c =
     let start = at-clear .before .before .before in
     omega (arith, in-loop .loop-test .taken, start .pre .0 .most)
 
-loop-less : tie.Need-loop-less Inv-loop μ-loop
-loop-less c = omega arith
-
 loop-again : tie.Need-loop-again Inv-loop μ-loop
 loop-again c =
     let at-push-row = c .before .before in
@@ -178,23 +169,7 @@ returns-2 c =
 
 pub transpose-spec : {M : Type 1} → statement M
 transpose-spec =
-    tie.close
-    (tie.spec
-    Inv-loop
-    μ-loop
-    mul-clear
-    clear-requires
-    loop-holds
-    load-row-requires
-    add-value
-    mul-value
-    slice-read-value
-    push-row-requires
-    add-k
-    loop-less
-    loop-again
-    shares-finite-requires
-    same-length
-    returns
-    same-length-2
-    returns-2)
+    tie.close (tie.spec
+      Inv-loop μ-loop (λ c. omega arith) (λ c κs. omega arith) loop-holds load-row-requires add-value mul-value
+      slice-read-value push-row-requires add-k (λ c. omega arith) loop-again shares-finite-requires same-length
+      returns same-length-2 returns-2)

@@ -27,51 +27,6 @@ loop-holds c =
     let pre = start .pre in
     (omega arith, refl, backwards-none (args .n) (pre .1) (now (args .order)) (pre .2) _)
 
-sub-i : tie.Need-sub-i Inv-loop μ-loop
-sub-i c = omega arith
-
-sub-i-2 : tie.Need-sub-i-2 Inv-loop μ-loop
-sub-i-2 c = omega arith
-
-add-backward-sum : tie.Need-add-backward-sum Inv-loop μ-loop
-add-backward-sum c = omega arith
-
-mul-backward-sum : tie.Need-mul-backward-sum Inv-loop μ-loop
-mul-backward-sum c = omega arith
-
-slice-reshared-read-backward-sum : tie.Need-slice-reshared-read-backward-sum Inv-loop μ-loop
-slice-reshared-read-backward-sum c = omega arith
-
-backward-sum-requires : tie.Need-backward-sum-requires Inv-loop μ-loop
-backward-sum-requires c κs = omega arith
-
-mul-value : tie.Need-mul-value Inv-loop μ-loop
-mul-value c = omega arith
-
-add-value : tie.Need-add-value Inv-loop μ-loop
-add-value c = omega arith
-
-mul-value-2 : tie.Need-mul-value-2 Inv-loop μ-loop
-mul-value-2 c = omega arith
-
-slice-read-value : tie.Need-slice-read-value Inv-loop μ-loop
-slice-read-value c = omega arith
-
-add-s : tie.Need-add-s Inv-loop μ-loop
-add-s c = omega arith
-
-mul-s : tie.Need-mul-s Inv-loop μ-loop
-mul-s c = omega arith
-
-slice-write-s : tie.Need-slice-write-s Inv-loop μ-loop
-slice-write-s c = omega arith
-
-mul-at : tie.Need-mul-at Inv-loop μ-loop
-mul-at c = omega arith
-
-element-copy-out-at : tie.Need-element-copy-out-at Inv-loop μ-loop
-element-copy-out-at c = omega arith
-
 add-at : tie.Need-add-at Inv-loop μ-loop
 add-at c =
     let at-loop-test = c .before .before .before .before in
@@ -93,12 +48,6 @@ slice-read-s c =
     let start = at-loop .before .before in
     simp length-set
     (omega (arith, start .pre .2 (start .args .n - 1 - at-loop .loop .k) (omega (arith, at-loop-test .loop-test .taken))))
-
-add-s-2 : tie.Need-add-s-2 Inv-loop μ-loop
-add-s-2 c = omega arith
-
-mul-s-3 : tie.Need-mul-s-3 Inv-loop μ-loop
-mul-s-3 c = omega arith
 
 slice-read-s-2 : tie.Need-slice-read-s-2 Inv-loop μ-loop
 slice-read-s-2 c =
@@ -123,12 +72,6 @@ slice-write-s-2 c =
     simp length-set
     (omega (arith, start .pre .2 (start .args .n - 1 - at-loop .loop .k) (omega (arith, at-loop-test .loop-test .taken))))
 
-add-k : tie.Need-add-k Inv-loop μ-loop
-add-k c = omega arith
-
-loop-less : tie.Need-loop-less Inv-loop μ-loop
-loop-less c = omega arith
-
 loop-again : tie.Need-loop-again Inv-loop μ-loop
 loop-again c =
     let at-backward-sum = c .before .before .before .before in
@@ -143,9 +86,6 @@ loop-again c =
           (omega (arith, pre .0, pre .1, at-loop .loop .inv .1, at-loop-test .loop-test .taken)) (at-backward-sum .backward-sum .ensures),
     )
 
-same-length : tie.Need-same-length Inv-loop μ-loop
-same-length c = c .before .loop .inv .1
-
 returns : tie.Need-returns Inv-loop μ-loop
 returns c =
     let at-loop = c .before in
@@ -156,7 +96,10 @@ returns c =
 
 pub backward-spec : {M : Type 1} → statement M
 backward-spec =
-    tie.close
-    (tie.spec Inv-loop μ-loop loop-holds sub-i sub-i-2 add-backward-sum mul-backward-sum slice-reshared-read-backward-sum backward-sum-requires
-    mul-value add-value mul-value-2 slice-read-value add-s mul-s slice-write-s mul-at element-copy-out-at add-at mul-s-2 slice-read-s add-s-2
-    mul-s-3 slice-read-s-2 mul-s-4 slice-write-s-2 add-k loop-less loop-again same-length returns)
+    tie.close (tie.spec
+      Inv-loop μ-loop loop-holds (λ c. omega arith) (λ c. omega arith) (λ c. omega arith) (λ c. omega arith)
+      (λ c. omega arith) (λ c κs. omega arith) (λ c. omega arith) (λ c. omega arith) (λ c. omega arith)
+      (λ c. omega arith) (λ c. omega arith) (λ c. omega arith) (λ c. omega arith) (λ c. omega arith)
+      (λ c. omega arith) add-at mul-s-2 slice-read-s (λ c. omega arith) (λ c. omega arith) slice-read-s-2
+      mul-s-4 slice-write-s-2 (λ c. omega arith) (λ c. omega arith) loop-again (λ c. c .before .loop .inv .1)
+      returns)

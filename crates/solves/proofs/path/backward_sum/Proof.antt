@@ -5,21 +5,6 @@ use Rattle.solves.proofs.SweepLaws.{column-lies, side-lies, backward-is
 use Rattle.solves.proofs.path.backward_sum.Statement.{statement}
 use Rattle.solves.proofs.path.backward_sum.Tie as tie
 
-add-from : tie.Need-add-from
-add-from c = omega arith
-
-column-line-requires : tie.Need-column-line-requires
-column-line-requires c κs = omega arith
-
-side-line-requires : tie.Need-side-line-requires
-side-line-requires c κs = omega arith
-
-band-end-requires : tie.Need-band-end-requires
-band-end-requires c κs = omega arith
-
-sub-less-products : tie.Need-sub-less-products
-sub-less-products c = omega arith
-
 less-products-requires : tie.Need-less-products-requires
 less-products-requires c κs =
     let at-side-line = c .before in
@@ -42,5 +27,6 @@ returns c =
 
 pub backward-sum-spec : {M : Type 1} → statement M
 backward-sum-spec =
-    tie.close
-    (tie.spec add-from column-line-requires side-line-requires band-end-requires sub-less-products less-products-requires returns)
+    tie.close (tie.spec
+      (λ c. omega arith) (λ c κs. omega arith) (λ c κs. omega arith) (λ c κs. omega arith) (λ c. omega arith)
+      less-products-requires returns)

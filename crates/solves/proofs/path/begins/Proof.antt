@@ -8,36 +8,6 @@ use Rattle.solves.proofs.path.begins.Tie as tie
 returns : tie.Need-returns
 returns c = begins-first (now (c .before .args .ia)) (now (c .before .args .ib)) (c .before .args .i) (c .if1 .taken)
 
-mul-if2 : tie.Need-mul-if2
-mul-if2 c = search needs
-
-element-copy-out-if2 : tie.Need-element-copy-out-if2
-element-copy-out-if2 c = search needs
-
-sub-if2 : tie.Need-sub-if2
-sub-if2 c = search needs
-
-mul-if2-2 : tie.Need-mul-if2-2
-mul-if2-2 c = search needs
-
-element-copy-out-if2-2 : tie.Need-element-copy-out-if2-2
-element-copy-out-if2-2 c = search needs
-
-mul-if3 : tie.Need-mul-if3
-mul-if3 c = search needs
-
-element-copy-out-if3 : tie.Need-element-copy-out-if3
-element-copy-out-if3 c = search needs
-
-sub-if3 : tie.Need-sub-if3
-sub-if3 c = search needs
-
-mul-if3-2 : tie.Need-mul-if3-2
-mul-if3-2 c = search needs
-
-element-copy-out-if3-2 : tie.Need-element-copy-out-if3-2
-element-copy-out-if3-2 c = search needs
-
 returns-2 : tie.Need-returns-2
 returns-2 c =
     let at-if2 = c .before .before .before in
@@ -60,6 +30,7 @@ returns-4 c =
 
 pub begins-spec : {M : Type 1} → statement M
 begins-spec =
-    tie.close
-    (tie.spec returns mul-if2 element-copy-out-if2 sub-if2 mul-if2-2 element-copy-out-if2-2 mul-if3 element-copy-out-if3 sub-if3 mul-if3-2
-    element-copy-out-if3-2 returns-2 returns-3 returns-4)
+    tie.close (tie.spec
+      returns (λ c. search needs) (λ c. search needs) (λ c. search needs) (λ c. search needs)
+      (λ c. search needs) (λ c. search needs) (λ c. search needs) (λ c. search needs) (λ c. search needs)
+      (λ c. search needs) returns-2 returns-3 returns-4)

@@ -6,23 +6,11 @@ use Rattle.solves.proofs.FactorLaws.{cross-at}
 use Rattle.solves.proofs.path.cross_at.Statement.{statement}
 use Rattle.solves.proofs.path.cross_at.Tie as tie
 
-mul-load-row : tie.Need-mul-load-row
-mul-load-row c = omega arith
-
-element-copy-out-load-row : tie.Need-element-copy-out-load-row
-element-copy-out-load-row c = omega arith
-
 load-row-requires : tie.Need-load-row-requires
 load-row-requires c κs =
     let start = c .before .before in
     let pre = start .pre in
     omega (arith, pre .1 (start .args .i) (pre .2), pre .0 .whole, pre .0 .most, pre .0 .table)
-
-mul-load-row-2 : tie.Need-mul-load-row-2
-mul-load-row-2 c = omega arith
-
-element-copy-out-load-row-2 : tie.Need-element-copy-out-load-row-2
-element-copy-out-load-row-2 c = omega arith
 
 load-row-requires-2 : tie.Need-load-row-requires-2
 load-row-requires-2 c κs =
@@ -54,6 +42,6 @@ returns c =
 
 pub cross-at-spec : {M : Type 1} → statement M
 cross-at-spec =
-    tie.close
-    (tie.spec mul-load-row element-copy-out-load-row load-row-requires mul-load-row-2 element-copy-out-load-row-2 load-row-requires-2
-    cross-mass-requires returns)
+    tie.close (tie.spec
+      (λ c. omega arith) (λ c. omega arith) load-row-requires (λ c. omega arith) (λ c. omega arith)
+      load-row-requires-2 cross-mass-requires returns)

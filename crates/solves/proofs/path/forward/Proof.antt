@@ -28,12 +28,6 @@ loop-holds c =
     let pre = start .pre in
     (omega arith, refl, forwards-none (args .n) (pre .1) (now (args .order)) (pre .2) _)
 
-mul-start : tie.Need-mul-start Inv-loop μ-loop
-mul-start c = omega arith
-
-element-copy-out-start : tie.Need-element-copy-out-start Inv-loop μ-loop
-element-copy-out-start c = omega arith
-
 add-start : tie.Need-add-start Inv-loop μ-loop
 add-start c =
     let at-loop-test = c .before in
@@ -52,45 +46,6 @@ slice-read-start c =
     let at-loop = at-loop-test .before in
     omega (arith, at-loop .before .before .pre .2 (at-loop .loop .i) (at-loop-test .loop-test .taken))
 
-add-start-2 : tie.Need-add-start-2 Inv-loop μ-loop
-add-start-2 c = omega arith
-
-mul-start-3 : tie.Need-mul-start-3 Inv-loop μ-loop
-mul-start-3 c = omega arith
-
-slice-read-start-2 : tie.Need-slice-read-start-2 Inv-loop μ-loop
-slice-read-start-2 c = omega arith
-
-forward-sum-requires : tie.Need-forward-sum-requires Inv-loop μ-loop
-forward-sum-requires c κs = omega arith
-
-mul-s : tie.Need-mul-s Inv-loop μ-loop
-mul-s c = omega arith
-
-add-s : tie.Need-add-s Inv-loop μ-loop
-add-s c = omega arith
-
-mul-s-2 : tie.Need-mul-s-2 Inv-loop μ-loop
-mul-s-2 c = omega arith
-
-slice-read-s : tie.Need-slice-read-s Inv-loop μ-loop
-slice-read-s c = omega arith
-
-add-s-2 : tie.Need-add-s-2 Inv-loop μ-loop
-add-s-2 c = omega arith
-
-mul-s-3 : tie.Need-mul-s-3 Inv-loop μ-loop
-mul-s-3 c = omega arith
-
-slice-write-s : tie.Need-slice-write-s Inv-loop μ-loop
-slice-write-s c = omega arith
-
-add-i : tie.Need-add-i Inv-loop μ-loop
-add-i c = omega arith
-
-loop-less : tie.Need-loop-less Inv-loop μ-loop
-loop-less c = omega arith
-
 loop-again : tie.Need-loop-again Inv-loop μ-loop
 loop-again c =
     let at-forward-sum = c .before in
@@ -105,9 +60,6 @@ loop-again c =
           (omega (arith, pre .0, pre .1, at-loop .loop .inv .1, at-loop-test .loop-test .taken)) (at-forward-sum .forward-sum .ensures),
     )
 
-same-length : tie.Need-same-length Inv-loop μ-loop
-same-length c = c .before .loop .inv .1
-
 returns : tie.Need-returns Inv-loop μ-loop
 returns c =
     let at-loop = c .before in
@@ -118,7 +70,8 @@ returns c =
 
 pub forward-spec : {M : Type 1} → statement M
 forward-spec =
-    tie.close
-    (tie.spec Inv-loop μ-loop loop-holds mul-start element-copy-out-start add-start mul-start-2 slice-read-start add-start-2 mul-start-3
-    slice-read-start-2 forward-sum-requires mul-s add-s mul-s-2 slice-read-s add-s-2 mul-s-3 slice-write-s add-i loop-less loop-again same-length
-    returns)
+    tie.close (tie.spec
+      Inv-loop μ-loop loop-holds (λ c. omega arith) (λ c. omega arith) add-start mul-start-2 slice-read-start
+      (λ c. omega arith) (λ c. omega arith) (λ c. omega arith) (λ c κs. omega arith) (λ c. omega arith)
+      (λ c. omega arith) (λ c. omega arith) (λ c. omega arith) (λ c. omega arith) (λ c. omega arith)
+      (λ c. omega arith) (λ c. omega arith) (λ c. omega arith) loop-again (λ c. c .before .loop .inv .1) returns)

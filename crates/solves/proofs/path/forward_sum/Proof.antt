@@ -6,18 +6,6 @@ use Rattle.solves.proofs.SweepLaws.{row-lies, side-lies, forward-is}
 use Rattle.solves.proofs.path.forward_sum.Statement.{statement}
 use Rattle.solves.proofs.path.forward_sum.Tie as tie
 
-band-start-requires : tie.Need-band-start-requires
-band-start-requires c κs = search needs
-
-row-line-requires : tie.Need-row-line-requires
-row-line-requires c κs = omega arith
-
-side-line-requires : tie.Need-side-line-requires
-side-line-requires c κs = omega arith
-
-sub-less-products : tie.Need-sub-less-products
-sub-less-products c = omega arith
-
 less-products-requires : tie.Need-less-products-requires
 less-products-requires c κs =
     let at-row-line = c .before in
@@ -40,5 +28,6 @@ returns c =
 
 pub forward-sum-spec : {M : Type 1} → statement M
 forward-sum-spec =
-    tie.close
-    (tie.spec band-start-requires row-line-requires side-line-requires sub-less-products less-products-requires returns)
+    tie.close (tie.spec
+      (λ c κs. search needs) (λ c κs. omega arith) (λ c κs. omega arith) (λ c. omega arith)
+      less-products-requires returns)

@@ -8,21 +8,12 @@ use Rattle.solves.proofs.WalkLaws.{end-visited, end-a, end-b}
 use Rattle.solves.proofs.path.is_end.Statement.{statement}
 use Rattle.solves.proofs.path.is_end.Tie as tie
 
-element-copy-out-if1 : tie.Need-element-copy-out-if1
-element-copy-out-if1 c = search needs
-
 returns : tie.Need-returns
 returns c =
     let start = c .before .before in
     let args = start .args in
     let pre = start .pre in
     end-visited (pre .0) (pre .1) (now (args .visited)) (args .block) (c .if1 .taken)
-
-mul-row : tie.Need-mul-row
-mul-row c = search needs
-
-element-copy-out-row : tie.Need-element-copy-out-row
-element-copy-out-row c = search needs
 
 mul-neighbor : tie.Need-mul-neighbor
 mul-neighbor c =
@@ -79,6 +70,6 @@ returns-3 c =
 
 pub is-end-spec : {M : Type 1} → statement M
 is-end-spec =
-    tie.close
-    (tie.spec element-copy-out-if1 returns mul-row element-copy-out-row mul-neighbor element-copy-out-neighbor neighbor-requires returns-2
-    mul-neighbor-2 element-copy-out-neighbor-2 neighbor-requires-2 returns-3)
+    tie.close (tie.spec
+      (λ c. search needs) returns (λ c. search needs) (λ c. search needs) mul-neighbor element-copy-out-neighbor
+      neighbor-requires returns-2 mul-neighbor-2 element-copy-out-neighbor-2 neighbor-requires-2 returns-3)

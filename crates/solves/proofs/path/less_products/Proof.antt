@@ -16,9 +16,6 @@ Inv-loop s start a b terms value₀ t₀ value t = (t ≤ terms) × (value ≡ l
 abbrev μ-loop : tie.MeasureT-loop
 μ-loop s start a b terms value₀ t₀ value t = terms - t
 
-loop-holds : tie.Need-loop-holds Inv-loop μ-loop
-loop-holds c = (omega arith, turns-none _ _)
-
 place-requires : tie.Need-place-requires Inv-loop μ-loop
 place-requires c κs =
     let at-loop = c .before in
@@ -54,12 +51,6 @@ shared-slice-read-value-2 c =
     let at-loop = at-loop-test .before in
     omega (arith, at-loop .before .before .pre .2 (at-loop .loop .t) (at-loop-test .loop-test .taken))
 
-add-t : tie.Need-add-t Inv-loop μ-loop
-add-t c = omega arith
-
-loop-less : tie.Need-loop-less Inv-loop μ-loop
-loop-less c = omega arith
-
 loop-again : tie.Need-loop-again Inv-loop μ-loop
 loop-again c =
     let at-place2 = c .before in
@@ -78,6 +69,7 @@ returns c =
 
 pub less-products-spec : {M : Type 1} → statement M
 less-products-spec =
-    tie.close
-    (tie.spec Inv-loop μ-loop loop-holds place-requires mul-value shared-slice-read-value place-requires-2 mul-value-2 shared-slice-read-value-2
-    add-t loop-less loop-again returns)
+    tie.close (tie.spec
+      Inv-loop μ-loop (λ c. (omega arith, turns-none _ _)) place-requires mul-value shared-slice-read-value
+      place-requires-2 mul-value-2 shared-slice-read-value-2 (λ c. omega arith) (λ c. omega arith) loop-again
+      returns)

@@ -5,18 +5,6 @@ use Rattle.arith.specs.FlowLaws.{cond-yes, cond-no}
 use Rattle.solves.proofs.path.note_start.Statement.{statement}
 use Rattle.solves.proofs.path.note_start.Tie as tie
 
-begins-requires : tie.Need-begins-requires
-begins-requires c κs = search needs
-
-mul-starts : tie.Need-mul-starts
-mul-starts c = search needs
-
-element-write-starts : tie.Need-element-write-starts
-element-write-starts c = search needs
-
-add-result : tie.Need-add-result
-add-result c = search needs
-
 returns : tie.Need-returns
 returns c =
     let at-begins = c .before in
@@ -29,5 +17,5 @@ returns-2 c =
 
 pub note-start-spec : {M : Type 1} → statement M
 note-start-spec =
-    tie.close
-    (tie.spec begins-requires mul-starts element-write-starts add-result returns returns-2)
+    tie.close (tie.spec
+      (λ c κs. search needs) (λ c. search needs) (λ c. search needs) (λ c. search needs) returns returns-2)

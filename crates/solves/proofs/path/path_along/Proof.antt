@@ -16,15 +16,6 @@ use Rattle.solves.proofs.SolveLaws.{along-refused, along-intolerant, al
 use Rattle.solves.proofs.path.path_along.Statement.{statement}
 use Rattle.solves.proofs.path.path_along.Tie as tie
 
-path-factored-requires : tie.Need-path-factored-requires
-path-factored-requires c κs = c .before .before .pre
-
-done-requires : tie.Need-done-requires
-done-requires c κs = search needs
-
-new-requires : tie.Need-new-requires
-new-requires c κs = search needs
-
 same-length : tie.Need-same-length
 same-length c =
     let at-path-factored = c .before .before .before .before .before in
@@ -41,18 +32,6 @@ returns c =
     (does-eq (ap (λ x. ran x 0 0) (fails _ end (at-done .done .ensures) (at-if1 .if1 .taken)))
     (along-refused (start .args .t) (start .pre .0) (now (start .args .order))
     (failed _ end (at-done .done .ensures) (at-path-factored .path-factored .ensures) (at-if1 .if1 .taken))))
-
-tolerance-for-requires : tie.Need-tolerance-for-requires
-tolerance-for-requires c κs = omega arith
-
-enum-known-tolerance : tie.Need-enum-known-tolerance
-enum-known-tolerance c = search needs
-
-enum-told : tie.Need-enum-told
-enum-told c = search needs
-
-new-requires-2 : tie.Need-new-requires-2
-new-requires-2 c κs = search needs
 
 same-length-2 : tie.Need-same-length-2
 same-length-2 c =
@@ -72,9 +51,6 @@ returns-2 c =
     (at-tolerance-for .before .before .if1 .left))
     (sum-over (at-tolerance-for .tolerance-for .ensures) (c .before .enum-told .given .1) ∙ ap
     (λ (x : Float). toleranceFor x (vecAt (at-path-factored .path-factored .last .0) RHS (start .args .t .rows))) tenth-12))
-
-copy-requires : tie.Need-copy-requires
-copy-requires c κs = omega arith
 
 refinements-requires : tie.Need-refinements-requires
 refinements-requires c κs =
@@ -106,6 +82,7 @@ returns-3 c =
 
 pub path-along-spec : {M : Type 1} → statement M
 path-along-spec =
-    tie.close
-    (tie.spec path-factored-requires done-requires new-requires same-length returns tolerance-for-requires enum-known-tolerance enum-told
-    new-requires-2 same-length-2 returns-2 copy-requires refinements-requires same-length-3 returns-3)
+    tie.close (tie.spec
+      (λ c κs. c .before .before .pre) (λ c κs. search needs) (λ c κs. search needs) same-length returns
+      (λ c κs. omega arith) (λ c. search needs) (λ c. search needs) (λ c κs. search needs) same-length-2
+      returns-2 (λ c κs. omega arith) refinements-requires same-length-3 returns-3)

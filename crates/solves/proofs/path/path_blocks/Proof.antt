@@ -11,18 +11,6 @@ Inv-loop ia ib n starts₀ blocks₀ i₀ starts blocks i = (i ≤ n) × (Starts
 abbrev μ-loop : tie.MeasureT-loop
 μ-loop ia ib n starts₀ blocks₀ i₀ starts blocks i = n - i
 
-loop-holds : tie.Need-loop-holds Inv-loop μ-loop
-loop-holds c = (omega arith, starts-none _ _ _ _ (c .pre .3))
-
-note-start-requires : tie.Need-note-start-requires Inv-loop μ-loop
-note-start-requires c κs = omega arith
-
-add-i : tie.Need-add-i Inv-loop μ-loop
-add-i c = omega arith
-
-loop-less : tie.Need-loop-less Inv-loop μ-loop
-loop-less c = omega arith
-
 loop-again : tie.Need-loop-again Inv-loop μ-loop
 loop-again c =
     let at-loop-test = c .before .before in
@@ -32,12 +20,6 @@ loop-again c =
           (c .note-start .ensures .1),
     )
 
-mul-starts : tie.Need-mul-starts Inv-loop μ-loop
-mul-starts c = omega arith
-
-element-write-starts : tie.Need-element-write-starts Inv-loop μ-loop
-element-write-starts c = omega arith
-
 returns : tie.Need-returns Inv-loop μ-loop
 returns c =
     let at-loop = c .before in
@@ -46,5 +28,6 @@ returns c =
 
 pub path-blocks-spec : {M : Type 1} → statement M
 path-blocks-spec =
-    tie.close
-    (tie.spec Inv-loop μ-loop loop-holds note-start-requires add-i loop-less loop-again mul-starts element-write-starts returns)
+    tie.close (tie.spec
+      Inv-loop μ-loop (λ c. (omega arith, starts-none _ _ _ _ (c .pre .3))) (λ c κs. omega arith)
+      (λ c. omega arith) (λ c. omega arith) loop-again (λ c. omega arith) (λ c. omega arith) returns)

@@ -14,15 +14,6 @@ Inv-loop ia ib starts blocks edges₀ k₀ edges k = (k ≤ blocks) × (EdgesSo 
 abbrev μ-loop : tie.MeasureT-loop
 μ-loop ia ib starts blocks edges₀ k₀ edges k = blocks - k
 
-loop-holds : tie.Need-loop-holds Inv-loop μ-loop
-loop-holds c = (omega arith, edges-none (c .pre .1))
-
-mul-row : tie.Need-mul-row Inv-loop μ-loop
-mul-row c = omega arith
-
-element-copy-out-row : tie.Need-element-copy-out-row Inv-loop μ-loop
-element-copy-out-row c = omega arith
-
 mul-add-edge : tie.Need-mul-add-edge Inv-loop μ-loop
 mul-add-edge c =
     let at-loop-test = c .before .before in
@@ -78,12 +69,6 @@ returns-2 c =
       λ e. absurd (false-true e),
     )
 
-add-k : tie.Need-add-k Inv-loop μ-loop
-add-k c = omega arith
-
-loop-less : tie.Need-loop-less Inv-loop μ-loop
-loop-less c = omega arith
-
 loop-again : tie.Need-loop-again Inv-loop μ-loop
 loop-again c =
     let at-add-edge2 = c .before in
@@ -104,6 +89,8 @@ returns-3 c =
 
 pub path-edges-spec : {M : Type 1} → statement M
 path-edges-spec =
-    tie.close
-    (tie.spec Inv-loop μ-loop loop-holds mul-row element-copy-out-row mul-add-edge element-copy-out-add-edge add-edge-requires returns
-    mul-add-edge-2 element-copy-out-add-edge-2 add-edge-requires-2 returns-2 add-k loop-less loop-again returns-3)
+    tie.close (tie.spec
+      Inv-loop μ-loop (λ c. (omega arith, edges-none (c .pre .1))) (λ c. omega arith) (λ c. omega arith)
+      mul-add-edge element-copy-out-add-edge add-edge-requires returns mul-add-edge-2
+      element-copy-out-add-edge-2 add-edge-requires-2 returns-2 (λ c. omega arith) (λ c. omega arith) loop-again
+      returns-3)

@@ -22,12 +22,6 @@ Inv-loop s₀ ia ib rows order n count i₀ s i =
 abbrev μ-loop : tie.MeasureT-loop
 μ-loop s₀ ia ib rows order n count i₀ s i = n - i
 
-mul-clear : tie.Need-mul-clear Inv-loop μ-loop
-mul-clear c = omega arith
-
-clear-requires : tie.Need-clear-requires Inv-loop μ-loop
-clear-requires c κs = omega arith
-
 loop-holds : tie.Need-loop-holds Inv-loop μ-loop
 loop-holds c =
     let start = c .before .before .before .before .before in
@@ -40,12 +34,6 @@ path-row-requires c κs =
     let at-clear = at-loop .before .before .before in
     let pre = at-clear .before .before .before .pre in
     (rows-kept (pre .0) (at-loop .loop .inv .1 ∙ at-clear .clear .ensures .kept .size), pre .1, at-loop-test .loop-test .taken)
-
-enum-told : tie.Need-enum-told Inv-loop μ-loop
-enum-told c = search needs
-
-enum-told-2 : tie.Need-enum-told-2 Inv-loop μ-loop
-enum-told-2 c = search needs
 
 same-length : tie.Need-same-length Inv-loop μ-loop
 same-length c =
@@ -68,9 +56,6 @@ returns c =
     (does-as (λ (q : End). ranAs q (bandAt (at-path-row .path-row .last .0) (args .n))) (c .enum-told2 .given .1)
     (at-path-row .path-row .ensures)))
 
-enum-told-3 : tie.Need-enum-told-3 Inv-loop μ-loop
-enum-told-3 c = search needs
-
 same-length-2 : tie.Need-same-length-2 Inv-loop μ-loop
 same-length-2 c =
     let at-path-row = c .before .before .before .before in
@@ -91,12 +76,6 @@ returns-2 c =
     (rows-stop (pre .0) (now (args .order)) _ (at-loop .loop .i) (at-loop .loop .inv .2) (at-loop-test .loop-test .taken)
     (does-as (λ (q : End). ranAs q (bandAt (at-path-row .path-row .last .0) (args .n))) (c .enum-told3 .given .1)
     (at-path-row .path-row .ensures)))
-
-add-i : tie.Need-add-i Inv-loop μ-loop
-add-i c = omega arith
-
-loop-less : tie.Need-loop-less Inv-loop μ-loop
-loop-less c = omega arith
 
 loop-again : tie.Need-loop-again Inv-loop μ-loop
 loop-again c =
@@ -130,6 +109,7 @@ returns-3 c =
 
 pub path-factor-spec : {M : Type 1} → statement M
 path-factor-spec =
-    tie.close
-    (tie.spec Inv-loop μ-loop mul-clear clear-requires loop-holds path-row-requires enum-told enum-told-2 same-length returns enum-told-3
-    same-length-2 returns-2 add-i loop-less loop-again same-length-3 returns-3)
+    tie.close (tie.spec
+      Inv-loop μ-loop (λ c. omega arith) (λ c κs. omega arith) loop-holds path-row-requires (λ c. search needs)
+      (λ c. search needs) same-length returns (λ c. search needs) same-length-2 returns-2 (λ c. omega arith)
+      (λ c. omega arith) loop-again same-length-3 returns-3)

@@ -18,20 +18,11 @@ path-scale-requires c κs =
     let pre = c .before .before .pre in
     (pre .0, pre .1)
 
-enum-told : tie.Need-enum-told
-enum-told c = search needs
-
 path-factor-requires : tie.Need-path-factor-requires
 path-factor-requires c κs =
     let at-path-scale = c .before .before .before .before .before in
     let pre = at-path-scale .before .before .before .pre in
     (rows-kept (pre .0) (at-path-scale .path-scale .ensures .kept .size), pre .1)
-
-enum-told-2 : tie.Need-enum-told-2
-enum-told-2 c = search needs
-
-enum-told-3 : tie.Need-enum-told-3
-enum-told-3 c = search needs
 
 same-length : tie.Need-same-length
 same-length c =
@@ -50,9 +41,6 @@ returns c =
     (does-as (λ (q : End). ranAs q (vecAt (at-path-scale .path-scale .last .0) PATH-SCALE (args .n))) (at-enum-told .enum-told .given .1)
     (at-path-scale .path-scale .ensures)) (at-path-factor .path-factor .result) (at-path-factor .path-factor .ensures)
 
-same-length-2 : tie.Need-same-length-2
-same-length-2 c = search needs
-
 returns-2 : tie.Need-returns-2
 returns-2 c =
     let at-path-scale = c .before .before .before .before in
@@ -61,9 +49,6 @@ returns-2 c =
     factored-unscaled (start .pre .0) (now (args .order))
     (does-as (λ (q : End). ranAs q (vecAt (at-path-scale .path-scale .last .0) PATH-SCALE (args .n))) (c .enum-told2 .given .1)
     (at-path-scale .path-scale .ensures))
-
-same-length-3 : tie.Need-same-length-3
-same-length-3 c = search needs
 
 returns-3 : tie.Need-returns-3
 returns-3 c =
@@ -76,6 +61,6 @@ returns-3 c =
 
 pub path-factored-spec : {M : Type 1} → statement M
 path-factored-spec =
-    tie.close
-    (tie.spec path-scale-requires enum-told path-factor-requires enum-told-2 enum-told-3 same-length returns same-length-2 returns-2
-    same-length-3 returns-3)
+    tie.close (tie.spec
+      path-scale-requires (λ c. search needs) path-factor-requires (λ c. search needs) (λ c. search needs)
+      same-length returns (λ c. search needs) returns-2 (λ c. search needs) returns-3)

@@ -6,14 +6,8 @@ use Rattle.solves.proofs.WalkLaws.{listed-none, order-declined, order-l
 use Rattle.solves.proofs.path.path_order.Statement.{statement}
 use Rattle.solves.proofs.path.path_order.Tie as tie
 
-path-blocks-requires : tie.Need-path-blocks-requires
-path-blocks-requires c κs = search needs
-
 path-edges-requires : tie.Need-path-edges-requires
 path-edges-requires c κs = (c .before .before .path-blocks .ensures .are, linked-none _)
-
-no-path-requires : tie.Need-no-path-requires
-no-path-requires c κs = search needs
 
 returns : tie.Need-returns
 returns c =
@@ -29,9 +23,6 @@ path-walks-requires c κs =
     let at-path-edges = at-if1 .before in
     let at-path-blocks = at-path-edges .before .before .before in
     (at-path-blocks .path-blocks .ensures .are, at-path-edges .path-edges .ensures .1 (not-no _ (at-if1 .if1 .left)), listed-none _)
-
-no-path-requires-2 : tie.Need-no-path-requires-2
-no-path-requires-2 c κs = search needs
 
 returns-2 : tie.Need-returns-2
 returns-2 c =
@@ -54,9 +45,6 @@ returns-3 c =
     (edges-yes (at-path-edges .path-edges .result) _ (at-path-edges .path-edges .ensures .0) (not-no _ (at-if1 .if1 .left)))
     (at-path-walks .path-walks .ensures) (not-no _ (at-if2 .if2 .left)) (c .if3 .taken)
 
-no-path-requires-3 : tie.Need-no-path-requires-3
-no-path-requires-3 c κs = search needs
-
 returns-4 : tie.Need-returns-4
 returns-4 c =
     let at-if3 = c .before in
@@ -71,6 +59,6 @@ returns-4 c =
 
 pub path-order-spec : {M : Type 1} → statement M
 path-order-spec =
-    tie.close
-    (tie.spec path-blocks-requires path-edges-requires no-path-requires returns path-walks-requires no-path-requires-2 returns-2 returns-3
-    no-path-requires-3 returns-4)
+    tie.close (tie.spec
+      (λ c κs. search needs) path-edges-requires (λ c κs. search needs) returns path-walks-requires
+      (λ c κs. search needs) returns-2 returns-3 (λ c κs. search needs) returns-4)

@@ -23,12 +23,6 @@ Inv-loop s₀ ia ib rows order n count i j₀ j-end s j =
 abbrev μ-loop : tie.MeasureT-loop
 μ-loop s₀ ia ib rows order n count i j₀ j-end s j = i + 1 - j
 
-band-start-requires : tie.Need-band-start-requires Inv-loop μ-loop
-band-start-requires c κs = search needs
-
-add-j-end : tie.Need-add-j-end Inv-loop μ-loop
-add-j-end c = omega arith
-
 loop-holds : tie.Need-loop-holds Inv-loop μ-loop
 loop-holds c =
     let start = c .before .before in
@@ -46,12 +40,6 @@ path-entry-requires c κs =
     let pre = at-loop .before .before .before .pre in
     (rows-kept (pre .0) (at-loop .loop .inv .2), pre .1, pre .2, omega (arith, at-loop-test .loop-test .taken), omega (arith, at-loop .loop .inv .0))
 
-enum-told : tie.Need-enum-told Inv-loop μ-loop
-enum-told c = search needs
-
-enum-told-2 : tie.Need-enum-told-2 Inv-loop μ-loop
-enum-told-2 c = search needs
-
 same-length : tie.Need-same-length Inv-loop μ-loop
 same-length c =
     let at-path-entry = c .before .before .before .before in
@@ -67,9 +55,6 @@ returns c =
     entries-stop (start .pre .0) (now (args .order)) (args .i) _ (at-loop .loop .inv .3) (at-loop .loop .inv .0) (at-loop-test .loop-test .taken)
     (does-as (λ (q : End). ranAs q (bandAt (at-path-entry .path-entry .last .0) (args .n))) (c .enum-told2 .given .1)
     (at-path-entry .path-entry .ensures))
-
-enum-told-3 : tie.Need-enum-told-3 Inv-loop μ-loop
-enum-told-3 c = search needs
 
 same-length-2 : tie.Need-same-length-2 Inv-loop μ-loop
 same-length-2 c =
@@ -87,12 +72,6 @@ returns-2 c =
     (does-as (λ (q : End). ranAs q (bandAt (at-path-entry .path-entry .last .0) (args .n))) (c .enum-told3 .given .1)
     (at-path-entry .path-entry .ensures))
 
-add-j : tie.Need-add-j Inv-loop μ-loop
-add-j c = omega arith
-
-loop-less : tie.Need-loop-less Inv-loop μ-loop
-loop-less c = omega arith
-
 loop-again : tie.Need-loop-again Inv-loop μ-loop
 loop-again c =
     let at-path-entry = c .before .before .before .before in
@@ -108,9 +87,6 @@ loop-again c =
           (at-path-entry .path-entry .ensures)),
     )
 
-same-length-3 : tie.Need-same-length-3 Inv-loop μ-loop
-same-length-3 c = c .before .loop .inv .2
-
 returns-3 : tie.Need-returns-3 Inv-loop μ-loop
 returns-3 c =
     let at-loop = c .before in
@@ -120,6 +96,7 @@ returns-3 c =
 
 pub path-row-spec : {M : Type 1} → statement M
 path-row-spec =
-    tie.close
-    (tie.spec Inv-loop μ-loop band-start-requires add-j-end loop-holds path-entry-requires enum-told enum-told-2 same-length returns enum-told-3
-    same-length-2 returns-2 add-j loop-less loop-again same-length-3 returns-3)
+    tie.close (tie.spec
+      Inv-loop μ-loop (λ c κs. search needs) (λ c. omega arith) loop-holds path-entry-requires
+      (λ c. search needs) (λ c. search needs) same-length returns (λ c. search needs) same-length-2 returns-2
+      (λ c. omega arith) (λ c. omega arith) loop-again (λ c. c .before .loop .inv .2) returns-3)

@@ -37,12 +37,6 @@ cross-at-requires c κs =
     let pre = at-loop .before .before .pre in
     (rows-kept (pre .0) (at-loop .loop .inv .1), pre .1, at-loop-test .loop-test .taken, at-loop-test .loop-test .taken)
 
-enum-known-value : tie.Need-enum-known-value Inv-loop μ-loop
-enum-known-value c = search needs
-
-enum-told : tie.Need-enum-told Inv-loop μ-loop
-enum-told c = search needs
-
 same-length : tie.Need-same-length Inv-loop μ-loop
 same-length c =
     let at-loop = c .before .before .before .before .before in
@@ -74,24 +68,6 @@ returns-2 c =
     scales-refused (pre .0) (now (start .args .order)) (pre .1) _ (at-loop .loop .inv .2) (at-loop-test .loop-test .taken) (at-loop .loop .inv .1)
     zero-is (sum-there (at-cross-at .cross-at .ensures) (at-value .value .given .1)) (c .if1 .taken)
 
-sqrt-requires : tie.Need-sqrt-requires Inv-loop μ-loop
-sqrt-requires c κs = search needs
-
-add-s : tie.Need-add-s Inv-loop μ-loop
-add-s c = omega arith
-
-mul-s : tie.Need-mul-s Inv-loop μ-loop
-mul-s c = omega arith
-
-slice-write-s : tie.Need-slice-write-s Inv-loop μ-loop
-slice-write-s c = omega arith
-
-add-i : tie.Need-add-i Inv-loop μ-loop
-add-i c = omega arith
-
-loop-less : tie.Need-loop-less Inv-loop μ-loop
-loop-less c = omega arith
-
 loop-again : tie.Need-loop-again Inv-loop μ-loop
 loop-again c =
     let at-if1 = c .before in
@@ -107,9 +83,6 @@ loop-again c =
           zero-is (sum-there (at-cross-at .cross-at .ensures) (at-value .value .given .1)) (at-if1 .if1 .left) (c .sqrt .ensures .is),
     )
 
-same-length-3 : tie.Need-same-length-3 Inv-loop μ-loop
-same-length-3 c = c .before .loop .inv .1
-
 returns-3 : tie.Need-returns-3 Inv-loop μ-loop
 returns-3 c =
     let at-loop = c .before in
@@ -119,6 +92,7 @@ returns-3 c =
 
 pub path-scale-spec : {M : Type 1} → statement M
 path-scale-spec =
-    tie.close
-    (tie.spec Inv-loop μ-loop loop-holds cross-at-requires enum-known-value enum-told same-length returns same-length-2 returns-2 sqrt-requires
-    add-s mul-s slice-write-s add-i loop-less loop-again same-length-3 returns-3)
+    tie.close (tie.spec
+      Inv-loop μ-loop loop-holds cross-at-requires (λ c. search needs) (λ c. search needs) same-length returns
+      same-length-2 returns-2 (λ c κs. search needs) (λ c. omega arith) (λ c. omega arith) (λ c. omega arith)
+      (λ c. omega arith) (λ c. omega arith) loop-again (λ c. c .before .loop .inv .1) returns-3)

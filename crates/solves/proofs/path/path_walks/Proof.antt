@@ -33,12 +33,6 @@ returns c =
     walks-lost (pre .0) (pre .1) (at-loop .loop .inv .1) (at-loop-test .loop-test .taken) (at-walk-from .walk-from .ensures)
     (not-yes _ (c .if1 .taken))
 
-add-first : tie.Need-add-first Inv-loop μ-loop
-add-first c = omega arith
-
-loop-less : tie.Need-loop-less Inv-loop μ-loop
-loop-less c = omega arith
-
 loop-again : tie.Need-loop-again Inv-loop μ-loop
 loop-again c =
     let at-walk-from = c .before .before in
@@ -58,5 +52,6 @@ returns-2 c =
 
 pub path-walks-spec : {M : Type 1} → statement M
 path-walks-spec =
-    tie.close
-    (tie.spec Inv-loop μ-loop loop-holds walk-from-requires returns add-first loop-less loop-again returns-2)
+    tie.close (tie.spec
+      Inv-loop μ-loop loop-holds walk-from-requires returns (λ c. omega arith) (λ c. omega arith) loop-again
+      returns-2)

@@ -33,9 +33,6 @@ operator-requires c κs =
       place-of PRODUCT (omega arith) (omega arith) (omega (arith, size, start .pre .0 .whole)),
     )
 
-done-requires : tie.Need-done-requires
-done-requires c κs = search needs
-
 same-length : tie.Need-same-length
 same-length c =
     let at-operator = c .before .before .before .before in
@@ -91,5 +88,6 @@ returns-2 c =
 
 pub refine-spec : {M : Type 1} → statement M
 refine-spec =
-    tie.close
-    (tie.spec forward-requires backward-requires operator-requires done-requires same-length returns difference-requires same-length-2 returns-2)
+    tie.close (tie.spec
+      forward-requires backward-requires operator-requires (λ c κs. search needs) same-length returns
+      difference-requires same-length-2 returns-2)

@@ -40,12 +40,6 @@ refine-requires c κs =
     let start = c .before .before .before .before in
     (rows-kept (start .pre .0) (c .before .before .loop .inv .kept .size), start .pre .1)
 
-done-requires : tie.Need-done-requires Inv-loop μ-loop
-done-requires c κs = search needs
-
-new-requires : tie.Need-new-requires Inv-loop μ-loop
-new-requires c κs = search needs
-
 same-length : tie.Need-same-length Inv-loop μ-loop
 same-length c =
     let at-refine = c .before .before .before .before .before in
@@ -67,18 +61,6 @@ returns c =
     (refined-failed (start .args .t) (start .pre .0) (now (start .args .order)) (start .args .tolerance) _ (at-loop .loop .inv)
     (at-refine .before .before .loop-test .taken)
     (failed _ end (at-done .done .ensures) (at-refine .refine .ensures) (at-if1 .if1 .taken)))))
-
-residual-test-requires : tie.Need-residual-test-requires Inv-loop μ-loop
-residual-test-requires c κs = omega arith
-
-enum-known-end : tie.Need-enum-known-end Inv-loop μ-loop
-enum-known-end c = search needs
-
-add-new : tie.Need-add-new Inv-loop μ-loop
-add-new c = omega arith
-
-new-requires-2 : tie.Need-new-requires-2 Inv-loop μ-loop
-new-requires-2 c κs = search needs
 
 same-length-2 : tie.Need-same-length-2 Inv-loop μ-loop
 same-length-2 c =
@@ -102,15 +84,6 @@ returns-2 c =
     (at-residual-test .before .before .if1 .left))
     (at-residual-test .residual-test .result) (at-residual-test .residual-test .ensures) (c .before .before .end .given .1)))
 
-enum-told : tie.Need-enum-told Inv-loop μ-loop
-enum-told c = search needs
-
-add-k : tie.Need-add-k Inv-loop μ-loop
-add-k c = omega arith
-
-loop-less : tie.Need-loop-less Inv-loop μ-loop
-loop-less c = omega arith
-
 loop-again : tie.Need-loop-again Inv-loop μ-loop
 loop-again c =
     let at-residual-test = c .before .before in
@@ -122,12 +95,6 @@ loop-again c =
     (at-refine .before .before .loop-test .taken)
     (went _ (at-refine .refine .result) (at-done .done .ensures) (at-refine .refine .ensures) (at-residual-test .before .before .if1 .left))
     (at-residual-test .residual-test .result) (at-residual-test .residual-test .ensures) (c .enum-told .given .1)
-
-new-requires-3 : tie.Need-new-requires-3 Inv-loop μ-loop
-new-requires-3 c κs = search needs
-
-same-length-3 : tie.Need-same-length-3 Inv-loop μ-loop
-same-length-3 c = c .before .before .loop .inv .kept .size
 
 returns-3 : tie.Need-returns-3 Inv-loop μ-loop
 returns-3 c =
@@ -141,6 +108,8 @@ returns-3 c =
 
 pub refinements-spec : {M : Type 1} → statement M
 refinements-spec =
-    tie.close
-    (tie.spec Inv-loop μ-loop loop-holds refine-requires done-requires new-requires same-length returns residual-test-requires enum-known-end
-    add-new new-requires-2 same-length-2 returns-2 enum-told add-k loop-less loop-again new-requires-3 same-length-3 returns-3)
+    tie.close (tie.spec
+      Inv-loop μ-loop loop-holds refine-requires (λ c κs. search needs) (λ c κs. search needs) same-length
+      returns (λ c κs. omega arith) (λ c. search needs) (λ c. omega arith) (λ c κs. search needs) same-length-2
+      returns-2 (λ c. search needs) (λ c. omega arith) (λ c. omega arith) loop-again (λ c κs. search needs)
+      (λ c. c .before .before .loop .inv .kept .size) returns-3)

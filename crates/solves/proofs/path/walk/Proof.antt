@@ -18,33 +18,12 @@ abbrev μ-loop : tie.MeasureT-loop
 loop-holds : tie.Need-loop-holds Inv-loop μ-loop
 loop-holds c = (omega arith, walk-none (c .pre .0) (c .pre .1) (c .pre .2) (c .pre .3))
 
-element-copy-out-if1 : tie.Need-element-copy-out-if1 Inv-loop μ-loop
-element-copy-out-if1 c = omega arith
-
 returns : tie.Need-returns Inv-loop μ-loop
 returns c =
     let at-loop-test = c .before .before in
     let at-loop = at-loop-test .before in
     let pre = at-loop .before .pre in
     walk-met (pre .0) (pre .1) (at-loop .loop .inv .1) (at-loop-test .loop-test .taken) (c .if1 .taken)
-
-element-write-visited : tie.Need-element-write-visited Inv-loop μ-loop
-element-write-visited c = omega arith
-
-mul-row : tie.Need-mul-row Inv-loop μ-loop
-mul-row c = omega arith
-
-element-copy-out-row : tie.Need-element-copy-out-row Inv-loop μ-loop
-element-copy-out-row c = omega arith
-
-add-append : tie.Need-add-append Inv-loop μ-loop
-add-append c = omega arith
-
-mul-append : tie.Need-mul-append Inv-loop μ-loop
-mul-append c = omega arith
-
-element-copy-out-append : tie.Need-element-copy-out-append Inv-loop μ-loop
-element-copy-out-append c = omega arith
 
 append-requires : tie.Need-append-requires Inv-loop μ-loop
 append-requires c κs =
@@ -89,9 +68,6 @@ neighbor-requires-2 c κs =
     let at-row = c .before .before .before .before .before .before in
     let at-loop = at-row .before .before .before .before in
     b-body (at-loop .before .pre .0) (at-loop .loop .inv .1 .here)
-
-next-block-requires : tie.Need-next-block-requires Inv-loop μ-loop
-next-block-requires c κs = search needs
 
 returns-2 : tie.Need-returns-2 Inv-loop μ-loop
 returns-2 c =
@@ -142,7 +118,8 @@ returns-3 c =
 
 pub walk-spec : {M : Type 1} → statement M
 walk-spec =
-    tie.close
-    (tie.spec Inv-loop μ-loop loop-holds element-copy-out-if1 returns element-write-visited mul-row element-copy-out-row add-append mul-append
-    element-copy-out-append append-requires mul-neighbor element-copy-out-neighbor neighbor-requires mul-neighbor-2 element-copy-out-neighbor-2
-    neighbor-requires-2 next-block-requires returns-2 add-k loop-less loop-again returns-3)
+    tie.close (tie.spec
+      Inv-loop μ-loop loop-holds (λ c. omega arith) returns (λ c. omega arith) (λ c. omega arith)
+      (λ c. omega arith) (λ c. omega arith) (λ c. omega arith) (λ c. omega arith) append-requires mul-neighbor
+      element-copy-out-neighbor neighbor-requires mul-neighbor-2 element-copy-out-neighbor-2 neighbor-requires-2
+      (λ c κs. search needs) returns-2 add-k loop-less loop-again returns-3)

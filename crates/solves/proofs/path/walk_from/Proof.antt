@@ -6,12 +6,6 @@ use Rattle.solves.proofs.WalkLaws.{from-end, from-other}
 use Rattle.solves.proofs.path.walk_from.Statement.{statement}
 use Rattle.solves.proofs.path.walk_from.Tie as tie
 
-is-end-requires : tie.Need-is-end-requires
-is-end-requires c κs = search needs
-
-walk-requires : tie.Need-walk-requires
-walk-requires c κs = search needs
-
 returns : tie.Need-returns
 returns c =
     let at-if1 = c .before .before .before in
@@ -32,4 +26,5 @@ returns-2 c =
     (c .if1 .left) (pre .3)
 
 pub walk-from-spec : {M : Type 1} → statement M
-walk-from-spec = tie.close (tie.spec is-end-requires walk-requires returns returns-2)
+walk-from-spec =
+    tie.close (tie.spec (λ c κs. search needs) (λ c κs. search needs) returns returns-2)

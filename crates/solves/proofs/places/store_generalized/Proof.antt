@@ -5,24 +5,6 @@ use Rattle.solves.proofs.PlaceLaws.{stored-generalized}
 use Rattle.solves.proofs.places.store_generalized.Statement.{statement}
 use Rattle.solves.proofs.places.store_generalized.Tie as tie
 
-mul-i : tie.Need-mul-i
-mul-i c = search needs
-
-add-i : tie.Need-add-i
-add-i c = search needs
-
-store3-requires : tie.Need-store3-requires
-store3-requires c κs = search needs
-
-add-store3 : tie.Need-add-store3
-add-store3 c = search needs
-
-store3-requires-2 : tie.Need-store3-requires-2
-store3-requires-2 c κs = search needs
-
-same-length : tie.Need-same-length
-same-length c = search needs
-
 returns : tie.Need-returns
 returns c =
     let at-store3 = c .before .before .before .before .before .before in
@@ -31,5 +13,6 @@ returns c =
 
 pub store-generalized-spec : {M : Type 1} → statement M
 store-generalized-spec =
-    tie.close
-    (tie.spec mul-i add-i store3-requires add-store3 store3-requires-2 same-length returns)
+    tie.close (tie.spec
+      (λ c. search needs) (λ c. search needs) (λ c κs. search needs) (λ c. search needs) (λ c κs. search needs)
+      (λ c. search needs) returns)

@@ -8,27 +8,6 @@ use Rattle.solves.proofs.PlaceLaws.{stored-mass}
 use Rattle.solves.proofs.places.store_mass.Statement.{statement}
 use Rattle.solves.proofs.places.store_mass.Tie as tie
 
-mul-i : tie.Need-mul-i
-mul-i c = search needs
-
-add-i : tie.Need-add-i
-add-i c = search needs
-
-mul-s : tie.Need-mul-s
-mul-s c = search needs
-
-slice-write-s : tie.Need-slice-write-s
-slice-write-s c = search needs
-
-add-store3 : tie.Need-add-store3
-add-store3 c = search needs
-
-store3-requires : tie.Need-store3-requires
-store3-requires c κs = simp length-set (omega arith)
-
-add-store3-2 : tie.Need-add-store3-2
-add-store3-2 c = search needs
-
 store3-requires-2 : tie.Need-store3-requires-2
 store3-requires-2 c κs =
     let at-store3 = c .before .before .before in
@@ -40,9 +19,6 @@ store3-requires-2 c κs =
       length-set (now (start .args .s)) (start .args .off + 10 * start .args .k)
           (start .args .linear),
     )
-
-add-store3-3 : tie.Need-add-store3-3
-add-store3-3 c = search needs
 
 store3-requires-3 : tie.Need-store3-requires-3
 store3-requires-3 c κs =
@@ -82,6 +58,7 @@ returns c =
 
 pub store-mass-spec : {M : Type 1} → statement M
 store-mass-spec =
-    tie.close
-    (tie.spec mul-i add-i mul-s slice-write-s add-store3 store3-requires add-store3-2 store3-requires-2 add-store3-3 store3-requires-3
-    same-length returns)
+    tie.close (tie.spec
+      (λ c. search needs) (λ c. search needs) (λ c. search needs) (λ c. search needs) (λ c. search needs)
+      (λ c κs. simp length-set (omega arith)) (λ c. search needs) store3-requires-2 (λ c. search needs)
+      store3-requires-3 same-length returns)

@@ -26,9 +26,6 @@ Inv-loop s₀ ia ib t which tolerance start most rho₀ k₀ s rho k =
 abbrev μ-loop : tie.MeasureT-loop
 μ-loop s₀ ia ib t which tolerance start most rho₀ k₀ s rho k = most - k
 
-limit-requires : tie.Need-limit-requires Inv-loop μ-loop
-limit-requires c κs = c .before .pre .most
-
 loop-holds : tie.Need-loop-holds Inv-loop μ-loop
 loop-holds c =
     let start = c .before .before in
@@ -39,15 +36,6 @@ search-pass-requires : tie.Need-search-pass-requires Inv-loop μ-loop
 search-pass-requires c κs =
     let start = c .before .before .before .before .before in
     rows-kept (start .pre) (c .before .before .loop .inv .kept .size)
-
-enum-known-next : tie.Need-enum-known-next Inv-loop μ-loop
-enum-known-next c = search needs
-
-enum-known-end : tie.Need-enum-known-end Inv-loop μ-loop
-enum-known-end c = search needs
-
-new-requires : tie.Need-new-requires Inv-loop μ-loop
-new-requires c κs = search needs
 
 same-length : tie.Need-same-length Inv-loop μ-loop
 same-length c =
@@ -74,12 +62,6 @@ returns c =
     (searchAt (now (start .args .s)) (start .args .t .rows) (start .args .start)))
     (at-limit .limit .ensures)))
 
-add-k : tie.Need-add-k Inv-loop μ-loop
-add-k c = omega arith
-
-loop-less : tie.Need-loop-less Inv-loop μ-loop
-loop-less c = omega arith
-
 loop-again : tie.Need-loop-again Inv-loop μ-loop
 loop-again c =
     let at-search-pass = c .before .before .before .before .before in
@@ -91,12 +73,6 @@ loop-again c =
     (does-is (at-search-pass .search-pass .ensures)
     (pass-kept (start .args .t) (start .pre) (start .args .which) (start .args .tolerance) (at-loop .loop .inv .kept) _))
     (c .before .next .given .1)
-
-new-requires-2 : tie.Need-new-requires-2 Inv-loop μ-loop
-new-requires-2 c κs = search needs
-
-same-length-2 : tie.Need-same-length-2 Inv-loop μ-loop
-same-length-2 c = c .before .before .loop .inv .kept .size
 
 returns-2 : tie.Need-returns-2 Inv-loop μ-loop
 returns-2 c =
@@ -117,6 +93,7 @@ returns-2 c =
 
 pub search-spec : {M : Type 1} → statement M
 search-spec =
-    tie.close
-    (tie.spec Inv-loop μ-loop limit-requires loop-holds search-pass-requires enum-known-next enum-known-end new-requires same-length returns
-    add-k loop-less loop-again new-requires-2 same-length-2 returns-2)
+    tie.close (tie.spec
+      Inv-loop μ-loop (λ c κs. c .before .pre .most) loop-holds search-pass-requires (λ c. search needs)
+      (λ c. search needs) (λ c κs. search needs) same-length returns (λ c. omega arith) (λ c. omega arith)
+      loop-again (λ c κs. search needs) (λ c. c .before .before .loop .inv .kept .size) returns-2)

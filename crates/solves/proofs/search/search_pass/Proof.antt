@@ -10,16 +10,10 @@ use Rattle.solves.proofs.SearchLaws.{PassAt}
 use Rattle.solves.proofs.search.search_pass.Statement.{statement}
 use Rattle.solves.proofs.search.search_pass.Tie as tie
 
-enum-told : tie.Need-enum-told
-enum-told c = search needs
-
 least-pass-requires : tie.Need-least-pass-requires
 least-pass-requires c κs =
     let start = c .before .before .before .before in
     start .pre
-
-enum-told-2 : tie.Need-enum-told-2
-enum-told-2 c = search needs
 
 gradient-pass-requires : tie.Need-gradient-pass-requires
 gradient-pass-requires c κs =
@@ -56,5 +50,6 @@ returns-2 c =
 
 pub search-pass-spec : {M : Type 1} → statement M
 search-pass-spec =
-    tie.close
-    (tie.spec enum-told least-pass-requires enum-told-2 gradient-pass-requires same-length returns same-length-2 returns-2)
+    tie.close (tie.spec
+      (λ c. search needs) least-pass-requires (λ c. search needs) gradient-pass-requires same-length returns
+      same-length-2 returns-2)

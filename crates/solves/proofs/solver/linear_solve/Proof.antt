@@ -9,12 +9,6 @@ use Rattle.solves.proofs.SolveLaws.{linear-least, linear-gradients, lin
 use Rattle.solves.proofs.solver.linear_solve.Statement.{statement}
 use Rattle.solves.proofs.solver.linear_solve.Tie as tie
 
-clear-requires : tie.Need-clear-requires
-clear-requires c κs = omega arith
-
-copy-requires : tie.Need-copy-requires
-copy-requires c κs = omega arith
-
 least-squares-requires : tie.Need-least-squares-requires
 least-squares-requires c κs =
     let at-copy = c .before .before .before .before in
@@ -110,6 +104,6 @@ returns-3 c =
 
 pub linear-solve-spec : {M : Type 1} → statement M
 linear-solve-spec =
-    tie.close
-    (tie.spec clear-requires copy-requires least-squares-requires same-length returns path-order-requires gradients-requires same-length-2
-    returns-2 path-along-requires same-length-3 returns-3)
+    tie.close (tie.spec
+      (λ c κs. omega arith) (λ c κs. omega arith) least-squares-requires same-length returns path-order-requires
+      gradients-requires same-length-2 returns-2 path-along-requires same-length-3 returns-3)

@@ -18,33 +18,6 @@ Inv-loop s₀ to from n k₀ s k =
 abbrev μ-loop : tie.MeasureT-loop
 μ-loop s₀ to from n k₀ s k = n - k
 
-loop-holds : tie.Need-loop-holds Inv-loop μ-loop
-loop-holds c = (omega arith, refl, filled-none _ _ _)
-
-add-s : tie.Need-add-s Inv-loop μ-loop
-add-s c = omega arith
-
-mul-s : tie.Need-mul-s Inv-loop μ-loop
-mul-s c = omega arith
-
-slice-read-s : tie.Need-slice-read-s Inv-loop μ-loop
-slice-read-s c = omega arith
-
-add-s-2 : tie.Need-add-s-2 Inv-loop μ-loop
-add-s-2 c = omega arith
-
-mul-s-2 : tie.Need-mul-s-2 Inv-loop μ-loop
-mul-s-2 c = omega arith
-
-slice-write-s : tie.Need-slice-write-s Inv-loop μ-loop
-slice-write-s c = omega arith
-
-add-k : tie.Need-add-k Inv-loop μ-loop
-add-k c = omega arith
-
-loop-less : tie.Need-loop-less Inv-loop μ-loop
-loop-less c = omega arith
-
 loop-again : tie.Need-loop-again Inv-loop μ-loop
 loop-again c =
     let start = c .before .before .before in (
@@ -53,13 +26,12 @@ loop-again c =
       copy-more (start .args .from) (c .before .before .loop .inv .2) (omega arith) (omega arith) (start .pre .3),
     )
 
-same-length : tie.Need-same-length Inv-loop μ-loop
-same-length c = omega arith
-
 returns : tie.Need-returns Inv-loop μ-loop
 returns c = copied (c .before .before .args .from) (c .before .loop .inv .2) (omega arith) (c .loop-test .left) (omega arith)
 
 pub copy-spec : {M : Type 1} → statement M
 copy-spec =
-    tie.close
-    (tie.spec Inv-loop μ-loop loop-holds add-s mul-s slice-read-s add-s-2 mul-s-2 slice-write-s add-k loop-less loop-again same-length returns)
+    tie.close (tie.spec
+      Inv-loop μ-loop (λ c. (omega arith, refl, filled-none _ _ _)) (λ c. omega arith) (λ c. omega arith)
+      (λ c. omega arith) (λ c. omega arith) (λ c. omega arith) (λ c. omega arith) (λ c. omega arith)
+      (λ c. omega arith) loop-again (λ c. omega arith) returns)

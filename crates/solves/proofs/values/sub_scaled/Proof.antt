@@ -20,42 +20,6 @@ Inv-loop s₀ x a alpha b n k₀ s k =
 abbrev μ-loop : tie.MeasureT-loop
 μ-loop s₀ x a alpha b n k₀ s k = n - k
 
-loop-holds : tie.Need-loop-holds Inv-loop μ-loop
-loop-holds c = (omega arith, refl, filled-none _ _ _)
-
-add-s : tie.Need-add-s Inv-loop μ-loop
-add-s c = omega arith
-
-mul-s : tie.Need-mul-s Inv-loop μ-loop
-mul-s c = omega arith
-
-slice-read-s : tie.Need-slice-read-s Inv-loop μ-loop
-slice-read-s c = omega arith
-
-add-s-2 : tie.Need-add-s-2 Inv-loop μ-loop
-add-s-2 c = omega arith
-
-mul-s-2 : tie.Need-mul-s-2 Inv-loop μ-loop
-mul-s-2 c = omega arith
-
-slice-read-s-2 : tie.Need-slice-read-s-2 Inv-loop μ-loop
-slice-read-s-2 c = omega arith
-
-add-s-3 : tie.Need-add-s-3 Inv-loop μ-loop
-add-s-3 c = omega arith
-
-mul-s-3 : tie.Need-mul-s-3 Inv-loop μ-loop
-mul-s-3 c = omega arith
-
-slice-write-s : tie.Need-slice-write-s Inv-loop μ-loop
-slice-write-s c = omega arith
-
-add-k : tie.Need-add-k Inv-loop μ-loop
-add-k c = omega arith
-
-loop-less : tie.Need-loop-less Inv-loop μ-loop
-loop-less c = omega arith
-
 loop-again : tie.Need-loop-again Inv-loop μ-loop
 loop-again c =
     let at-loop = c .before .before .before in
@@ -66,9 +30,6 @@ loop-again c =
           (at-loop .loop .inv .2) (omega arith) (omega arith) (start .pre .0 .3) (start .pre .1 .3),
     )
 
-same-length : tie.Need-same-length Inv-loop μ-loop
-same-length c = omega arith
-
 returns : tie.Need-returns Inv-loop μ-loop
 unfolding minus
 returns c =
@@ -78,6 +39,8 @@ returns c =
 
 pub sub-scaled-spec : {M : Type 1} → statement M
 sub-scaled-spec =
-    tie.close
-    (tie.spec Inv-loop μ-loop loop-holds add-s mul-s slice-read-s add-s-2 mul-s-2 slice-read-s-2 add-s-3 mul-s-3 slice-write-s add-k loop-less
-    loop-again same-length returns)
+    tie.close (tie.spec
+      Inv-loop μ-loop (λ c. (omega arith, refl, filled-none _ _ _)) (λ c. omega arith) (λ c. omega arith)
+      (λ c. omega arith) (λ c. omega arith) (λ c. omega arith) (λ c. omega arith) (λ c. omega arith)
+      (λ c. omega arith) (λ c. omega arith) (λ c. omega arith) (λ c. omega arith) loop-again (λ c. omega arith)
+      returns)

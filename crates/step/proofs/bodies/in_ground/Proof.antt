@@ -20,32 +20,11 @@ Inv-loop s n k₀ k = (k ≤ n) × (true ≡ every k (λ j. withinOf (vec3At s (
 abbrev μ-loop : tie.MeasureT-loop
 μ-loop s n k₀ k = n - k
 
-loop-holds : tie.Need-loop-holds Inv-loop μ-loop
-loop-holds c = (omega arith, every-none _)
-
-mul-load3 : tie.Need-mul-load3 Inv-loop μ-loop
-mul-load3 c = omega arith
-
-add-load3 : tie.Need-add-load3 Inv-loop μ-loop
-add-load3 c = omega arith
-
-load3-requires : tie.Need-load3-requires Inv-loop μ-loop
-load3-requires c κs = omega arith
-
-within-requires : tie.Need-within-requires Inv-loop μ-loop
-within-requires c κs = omega arith
-
 returns : tie.Need-returns Inv-loop μ-loop
 returns c =
     let at-entry = c .before .before .before .before .before .before in
     every-fail (λ (j : ℕ). withinOf (vec3At (now (at-entry .args .s)) (CANDIDATE + 13 * j)) (ratio 8192 1)) _ (omega arith)
     (sym (within-at (c .before .within .ensures) (c .before .before .load3 .ensures) ground-is) ∙ not-yes _ (c .if1 .taken))
-
-add-k : tie.Need-add-k Inv-loop μ-loop
-add-k c = omega arith
-
-loop-less : tie.Need-loop-less Inv-loop μ-loop
-loop-less c = omega arith
 
 loop-again : tie.Need-loop-again Inv-loop μ-loop
 loop-again c =
@@ -63,5 +42,7 @@ returns-2 c =
 
 pub in-ground-spec : {M : Type 1} → statement M
 in-ground-spec =
-    tie.close (tie.spec Inv-loop μ-loop loop-holds mul-load3 add-load3 load3-requires within-requires returns add-k loop-less loop-again
-    returns-2)
+    tie.close (tie.spec
+      Inv-loop μ-loop (λ c. (omega arith, every-none _)) (λ c. omega arith) (λ c. omega arith)
+      (λ c κs. omega arith) (λ c κs. omega arith) returns (λ c. omega arith) (λ c. omega arith) loop-again
+      returns-2)

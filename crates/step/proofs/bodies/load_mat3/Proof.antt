@@ -5,24 +5,6 @@ use borrow.Author.Needs.{needs}
 use Rattle.step.proofs.bodies.load_mat3.Statement.{statement}
 use Rattle.step.proofs.bodies.load_mat3.Tie as tie
 
-load3-requires : tie.Need-load3-requires
-load3-requires c κs = search needs
-
-add-load3 : tie.Need-add-load3
-add-load3 c = search needs
-
-load3-requires-2 : tie.Need-load3-requires-2
-load3-requires-2 c κs = search needs
-
-add-load3-2 : tie.Need-add-load3-2
-add-load3-2 c = search needs
-
-load3-requires-3 : tie.Need-load3-requires-3
-load3-requires-3 c κs = search needs
-
-from-cols-requires : tie.Need-from-cols-requires
-from-cols-requires c κs = search needs
-
 returns : tie.Need-returns
 returns c =
     let at-load3 = c .before .before .before in let at-entry = at-load3 .before .before in
@@ -31,4 +13,6 @@ returns c =
 
 pub load-mat3-spec : {M : Type 1} → statement M
 load-mat3-spec =
-    tie.close (tie.spec load3-requires add-load3 load3-requires-2 add-load3-2 load3-requires-3 from-cols-requires returns)
+    tie.close (tie.spec
+      (λ c κs. search needs) (λ c. search needs) (λ c κs. search needs) (λ c. search needs)
+      (λ c κs. search needs) (λ c κs. search needs) returns)

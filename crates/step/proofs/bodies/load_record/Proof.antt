@@ -6,51 +6,6 @@ use borrow.Author.Needs.{needs}
 use Rattle.step.proofs.bodies.load_record.Statement.{statement}
 use Rattle.step.proofs.bodies.load_record.Tie as tie
 
-mul-i : tie.Need-mul-i
-mul-i c = search needs
-
-load3-requires : tie.Need-load3-requires
-load3-requires c κs = search needs
-
-add-load4 : tie.Need-add-load4
-add-load4 c = search needs
-
-load4-requires : tie.Need-load4-requires
-load4-requires c κs = search needs
-
-add-load3 : tie.Need-add-load3
-add-load3 c = search needs
-
-load3-requires-2 : tie.Need-load3-requires-2
-load3-requires-2 c κs = search needs
-
-add-load3-2 : tie.Need-add-load3-2
-add-load3-2 c = search needs
-
-load3-requires-3 : tie.Need-load3-requires-3
-load3-requires-3 c κs = search needs
-
-add-t11 : tie.Need-add-t11
-add-t11 c = search needs
-
-mul-t12 : tie.Need-mul-t12
-mul-t12 c = search needs
-
-shared-slice-read-t14 : tie.Need-shared-slice-read-t14
-shared-slice-read-t14 c = search needs
-
-add-load3-3 : tie.Need-add-load3-3
-add-load3-3 c = search needs
-
-load3-requires-4 : tie.Need-load3-requires-4
-load3-requires-4 c κs = search needs
-
-add-load-mat3 : tie.Need-add-load-mat3
-add-load-mat3 c = search needs
-
-load-mat3-requires : tie.Need-load-mat3-requires
-load-mat3-requires c κs = search needs
-
 returns : tie.Need-returns
 returns c =
     let at-load33 = c .before .before .before in let at-load32 = at-load33 .before in let at-load4 = at-load32 .before in
@@ -60,5 +15,8 @@ returns c =
 
 pub load-record-spec : {M : Type 1} → statement M
 load-record-spec =
-    tie.close (tie.spec mul-i load3-requires add-load4 load4-requires add-load3 load3-requires-2 add-load3-2 load3-requires-3 add-t11
-    mul-t12 shared-slice-read-t14 add-load3-3 load3-requires-4 add-load-mat3 load-mat3-requires returns)
+    tie.close (tie.spec
+      (λ c. search needs) (λ c κs. search needs) (λ c. search needs) (λ c κs. search needs) (λ c. search needs)
+      (λ c κs. search needs) (λ c. search needs) (λ c κs. search needs) (λ c. search needs) (λ c. search needs)
+      (λ c. search needs) (λ c. search needs) (λ c κs. search needs) (λ c. search needs) (λ c κs. search needs)
+      returns)

@@ -5,18 +5,6 @@ use borrow.Author.Needs.{needs}
 use Rattle.step.proofs.bodies.store_candidate.Statement.{statement}
 use Rattle.step.proofs.bodies.store_candidate.Tie as tie
 
-mul-store-moving : tie.Need-mul-store-moving
-mul-store-moving c = search needs
-
-add-store-moving : tie.Need-add-store-moving
-add-store-moving c = search needs
-
-store-moving-requires : tie.Need-store-moving-requires
-store-moving-requires c κs = search needs
-
-same-length : tie.Need-same-length
-same-length c = search needs
-
 returns : tie.Need-returns
 returns c =
     let at-entry = c .before .before .before .before .before in
@@ -24,5 +12,5 @@ returns c =
 
 pub store-candidate-spec : {M : Type 1} → statement M
 store-candidate-spec =
-    tie.close
-    (tie.spec mul-store-moving add-store-moving store-moving-requires same-length returns)
+    tie.close (tie.spec
+      (λ c. search needs) (λ c. search needs) (λ c κs. search needs) (λ c. search needs) returns)

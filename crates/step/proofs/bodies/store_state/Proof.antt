@@ -4,30 +4,6 @@ use borrow.Author.Needs.{needs}
 use Rattle.step.proofs.bodies.store_state.Statement.{statement}
 use Rattle.step.proofs.bodies.store_state.Tie as tie
 
-store3-requires : tie.Need-store3-requires
-store3-requires c κs = search needs
-
-add-store4 : tie.Need-add-store4
-add-store4 c = search needs
-
-store4-requires : tie.Need-store4-requires
-store4-requires c κs = search needs
-
-add-store3 : tie.Need-add-store3
-add-store3 c = search needs
-
-store3-requires-2 : tie.Need-store3-requires-2
-store3-requires-2 c κs = search needs
-
-add-store3-2 : tie.Need-add-store3-2
-add-store3-2 c = search needs
-
-store3-requires-3 : tie.Need-store3-requires-3
-store3-requires-3 c κs = search needs
-
-same-length : tie.Need-same-length
-same-length c = search needs
-
 returns : tie.Need-returns
 returns c =
     let at-store32 = c .before .before .before .before .before .before in let at-store4 = at-store32 .before .before .before .before in
@@ -36,5 +12,6 @@ returns c =
 
 pub store-state-spec : {M : Type 1} → statement M
 store-state-spec =
-    tie.close (tie.spec store3-requires add-store4 store4-requires add-store3 store3-requires-2 add-store3-2 store3-requires-3 same-length
-    returns)
+    tie.close (tie.spec
+      (λ c κs. search needs) (λ c. search needs) (λ c κs. search needs) (λ c. search needs)
+      (λ c κs. search needs) (λ c. search needs) (λ c κs. search needs) (λ c. search needs) returns)

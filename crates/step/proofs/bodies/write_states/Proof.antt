@@ -14,42 +14,17 @@ Inv-loop bodies₀ s n k₀ bodies k = (k ≤ n) × (length bodies ≡ length bo
 abbrev μ-loop : tie.MeasureT-loop
 μ-loop bodies₀ s n k₀ bodies k = n - k
 
-loop-holds : tie.Need-loop-holds Inv-loop μ-loop
-loop-holds c = (omega arith, refl, handed-none _ _)
-
-mul-store-state : tie.Need-mul-store-state Inv-loop μ-loop
-mul-store-state c = omega arith
-
-mul-load-state : tie.Need-mul-load-state Inv-loop μ-loop
-mul-load-state c = omega arith
-
-add-load-state : tie.Need-add-load-state Inv-loop μ-loop
-add-load-state c = omega arith
-
-load-state-requires : tie.Need-load-state-requires Inv-loop μ-loop
-load-state-requires c κs = omega arith
-
-store-state-requires : tie.Need-store-state-requires Inv-loop μ-loop
-store-state-requires c κs = omega arith
-
-add-k : tie.Need-add-k Inv-loop μ-loop
-add-k c = omega arith
-
-loop-less : tie.Need-loop-less Inv-loop μ-loop
-loop-less c = omega arith
-
 loop-again : tie.Need-loop-again Inv-loop μ-loop
 loop-again c =
     let at-load-state = c .before .before .before in let at-loop = at-load-state .before .before .before in
     (omega arith, omega arith, handed-more (at-loop .loop .inv .2) (c .before .before .store-state .ensures) (at-load-state .load-state .ensures))
-
-same-length : tie.Need-same-length Inv-loop μ-loop
-same-length c = omega arith
 
 returns : tie.Need-returns Inv-loop μ-loop
 returns c = handed-end (omega arith) (omega arith) (c .before .loop .inv .2)
 
 pub write-states-spec : {M : Type 1} → statement M
 write-states-spec =
-    tie.close (tie.spec Inv-loop μ-loop loop-holds mul-store-state mul-load-state add-load-state load-state-requires store-state-requires
-    add-k loop-less loop-again same-length returns)
+    tie.close (tie.spec
+      Inv-loop μ-loop (λ c. (omega arith, refl, handed-none _ _)) (λ c. omega arith) (λ c. omega arith)
+      (λ c. omega arith) (λ c κs. omega arith) (λ c κs. omega arith) (λ c. omega arith) (λ c. omega arith)
+      loop-again (λ c. omega arith) returns)

@@ -6,11 +6,6 @@ use borrow.Author.Needs.{needs}
 use Rattle.step.proofs.checks.accepted.Statement.{statement}
 use Rattle.step.proofs.checks.accepted.Tie as tie
 
-number-requires : tie.Need-number-requires
-number-requires c κs = search needs
-
-returns : tie.Need-returns
-returns c = ap (λ (n : ℕ). eqb n 0) (c .number .ensures)
-
 pub accepted-spec : {M : Type 1} → statement M
-accepted-spec = tie.close (tie.spec number-requires returns)
+accepted-spec =
+    tie.close (tie.spec (λ c κs. search needs) (λ c. ap (λ (n : ℕ). eqb n 0) (c .number .ensures)))

@@ -18,29 +18,11 @@ Inv-loop bodies k₀ k-end k = (k ≤ k-end) × (k-end ≡ length bodies) × (tr
 abbrev μ-loop : tie.MeasureT-loop
 μ-loop bodies k₀ k-end k = k-end - k
 
-loop-holds : tie.Need-loop-holds Inv-loop μ-loop
-loop-holds c = (omega arith, refl, every-none _)
-
-mul-is-finite : tie.Need-mul-is-finite Inv-loop μ-loop
-mul-is-finite c = omega arith
-
-shared-slice-read-is-finite : tie.Need-shared-slice-read-is-finite Inv-loop μ-loop
-shared-slice-read-is-finite c = omega arith
-
-is-finite-requires : tie.Need-is-finite-requires Inv-loop μ-loop
-is-finite-requires c κs = omega arith
-
 returns : tie.Need-returns Inv-loop μ-loop
 returns c =
     let at-test = c .before .before .before in
     let at-start = at-test .before .before .before in
     every-fail (λ (j : ℕ). isFinite (at (now (at-start .args .bodies)) j)) _ (omega arith) (sym (c .before .is-finite .ensures) ∙ not-yes _ (c .if1 .taken))
-
-add-k : tie.Need-add-k Inv-loop μ-loop
-add-k c = omega arith
-
-loop-less : tie.Need-loop-less Inv-loop μ-loop
-loop-less c = omega arith
 
 loop-again : tie.Need-loop-again Inv-loop μ-loop
 loop-again c =
@@ -57,16 +39,6 @@ returns-2 c = every-end (λ (j : ℕ). isFinite (at (now (c .before .before .bef
 
 pub all-finite-spec : {M : Type 1} → statement M
 all-finite-spec =
-    tie.close
-    (tie.spec
-    Inv-loop
-    μ-loop
-    loop-holds
-    mul-is-finite
-    shared-slice-read-is-finite
-    is-finite-requires
-    returns
-    add-k
-    loop-less
-    loop-again
-    returns-2)
+    tie.close (tie.spec
+      Inv-loop μ-loop (λ c. (omega arith, refl, every-none _)) (λ c. omega arith) (λ c. omega arith)
+      (λ c κs. omega arith) returns (λ c. omega arith) (λ c. omega arith) loop-again returns-2)

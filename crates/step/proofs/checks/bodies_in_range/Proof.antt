@@ -17,27 +17,12 @@ Inv-loop bodies n k₀ k = (k ≤ n) × (true ≡ every k (λ j. bodyInRange (re
 abbrev μ-loop : tie.MeasureT-loop
 μ-loop bodies n k₀ k = n - k
 
-loop-holds : tie.Need-loop-holds Inv-loop μ-loop
-loop-holds c = (omega arith, every-none _)
-
-load-record-requires : tie.Need-load-record-requires Inv-loop μ-loop
-load-record-requires c κs = omega arith
-
-body-in-range-requires : tie.Need-body-in-range-requires Inv-loop μ-loop
-body-in-range-requires c κs = omega arith
-
 returns : tie.Need-returns Inv-loop μ-loop
 returns c =
     let at-loop = c .before .before .before .before in
     let at-start = at-loop .before .before in
     every-fail (λ (j : ℕ). bodyInRange (recordAt (now (at-start .args .bodies)) j)) _ (omega arith)
     (sym (ap bodyInRange (c .before .before .load-record .ensures)) ∙ sym (c .before .body-in-range .ensures) ∙ not-yes _ (c .if1 .taken))
-
-add-k : tie.Need-add-k Inv-loop μ-loop
-add-k c = omega arith
-
-loop-less : tie.Need-loop-less Inv-loop μ-loop
-loop-less c = omega arith
 
 loop-again : tie.Need-loop-again Inv-loop μ-loop
 loop-again c =
@@ -55,15 +40,6 @@ returns-2 c =
 
 pub bodies-in-range-spec : {M : Type 1} → statement M
 bodies-in-range-spec =
-    tie.close
-    (tie.spec
-    Inv-loop
-    μ-loop
-    loop-holds
-    load-record-requires
-    body-in-range-requires
-    returns
-    add-k
-    loop-less
-    loop-again
-    returns-2)
+    tie.close (tie.spec
+      Inv-loop μ-loop (λ c. (omega arith, every-none _)) (λ c κs. omega arith) (λ c κs. omega arith) returns
+      (λ c. omega arith) (λ c. omega arith) loop-again returns-2)

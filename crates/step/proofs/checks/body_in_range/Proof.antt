@@ -5,18 +5,6 @@ use borrow.Author.Needs.{needs}
 use Rattle.step.proofs.checks.body_in_range.Statement.{statement}
 use Rattle.step.proofs.checks.body_in_range.Tie as tie
 
-within-requires : tie.Need-within-requires
-within-requires c κs = search needs
-
-within-requires-2 : tie.Need-within-requires-2
-within-requires-2 c κs = search needs
-
-mass-in-range-requires : tie.Need-mass-in-range-requires
-mass-in-range-requires c κs = search needs
-
-is-normalized-requires : tie.Need-is-normalized-requires
-is-normalized-requires c κs = search needs
-
 returns : tie.Need-returns
 returns c =
     let at-mass = c .before in
@@ -55,13 +43,6 @@ returns-4 c = stays _ (stays _ (fails _ (within-at (c .before .within .ensures) 
 
 pub body-in-range-spec : {M : Type 1} → statement M
 body-in-range-spec =
-    tie.close
-    (tie.spec
-    within-requires
-    within-requires-2
-    mass-in-range-requires
-    is-normalized-requires
-    returns
-    returns-2
-    returns-3
-    returns-4)
+    tie.close (tie.spec
+      (λ c κs. search needs) (λ c κs. search needs) (λ c κs. search needs) (λ c κs. search needs) returns
+      returns-2 returns-3 returns-4)

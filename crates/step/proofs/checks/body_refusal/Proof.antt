@@ -6,15 +6,9 @@ use borrow.Author.Needs.{needs}
 use Rattle.step.proofs.checks.body_refusal.Statement.{statement}
 use Rattle.step.proofs.checks.body_refusal.Tie as tie
 
-all-finite-requires : tie.Need-all-finite-requires
-all-finite-requires c κs = search needs
-
 returns : tie.Need-returns
 unfolding bodiesOr
 returns c = refuses _ _ (c .before .all-finite .ensures) (c .if1 .taken)
-
-bodies-in-range-requires : tie.Need-bodies-in-range-requires
-bodies-in-range-requires c κs = search needs
 
 returns-2 : tie.Need-returns-2
 unfolding bodiesOr
@@ -22,9 +16,6 @@ returns-2 c =
     let at-finite = c .before .before in
     passes _ (at-finite .before .all-finite .ensures) (at-finite .if1 .left)
     (refuses _ _ (c .before .bodies-in-range .ensures) (c .if2 .taken))
-
-inertias-invert-requires : tie.Need-inertias-invert-requires
-inertias-invert-requires c κs = search needs
 
 returns-3 : tie.Need-returns-3
 unfolding bodiesOr
@@ -46,12 +37,5 @@ returns-4 c =
 
 pub body-refusal-spec : {M : Type 1} → statement M
 body-refusal-spec =
-    tie.close
-    (tie.spec
-    all-finite-requires
-    returns
-    bodies-in-range-requires
-    returns-2
-    inertias-invert-requires
-    returns-3
-    returns-4)
+    tie.close (tie.spec
+      (λ c κs. search needs) returns (λ c κs. search needs) returns-2 (λ c κs. search needs) returns-3 returns-4)

@@ -4,15 +4,6 @@ use borrow.Author.Needs.{needs}
 use Rattle.step.proofs.checks.cone_ok.Statement.{statement}
 use Rattle.step.proofs.checks.cone_ok.Tie as tie
 
-swing-ok-requires : tie.Need-swing-ok-requires
-swing-ok-requires c κs = search needs
-
-swing-ok-requires-2 : tie.Need-swing-ok-requires-2
-swing-ok-requires-2 c κs = search needs
-
-twist-ok-requires : tie.Need-twist-ok-requires
-twist-ok-requires c κs = search needs
-
 returns : tie.Need-returns
 returns c =
     let at-second = c .before in
@@ -30,5 +21,5 @@ returns-3 c = stays _ (fails _ (c .before .swing-ok .ensures) (c .if1 .left))
 
 pub cone-ok-spec : {M : Type 1} → statement M
 cone-ok-spec =
-    tie.close
-    (tie.spec swing-ok-requires swing-ok-requires-2 twist-ok-requires returns returns-2 returns-3)
+    tie.close (tie.spec
+      (λ c κs. search needs) (λ c κs. search needs) (λ c κs. search needs) returns returns-2 returns-3)

@@ -5,15 +5,6 @@ use borrow.Author.Needs.{needs}
 use Rattle.step.proofs.checks.frame_ok.Statement.{statement}
 use Rattle.step.proofs.checks.frame_ok.Tie as tie
 
-is-finite-requires : tie.Need-is-finite-requires
-is-finite-requires c κs = search needs
-
-within-requires : tie.Need-within-requires
-within-requires c κs = search needs
-
-is-normalized-requires : tie.Need-is-normalized-requires
-is-normalized-requires c κs = search needs
-
 returns : tie.Need-returns
 returns c =
     let at-within = c .before in
@@ -32,11 +23,5 @@ returns-3 c = stays _ (fails _ (c .before .is-finite .ensures) (c .if1 .left))
 
 pub frame-ok-spec : {M : Type 1} → statement M
 frame-ok-spec =
-    tie.close
-    (tie.spec
-    is-finite-requires
-    within-requires
-    is-normalized-requires
-    returns
-    returns-2
-    returns-3)
+    tie.close (tie.spec
+      (λ c κs. search needs) (λ c κs. search needs) (λ c κs. search needs) returns returns-2 returns-3)

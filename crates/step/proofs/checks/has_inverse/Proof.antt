@@ -4,24 +4,6 @@ use borrow.Author.Needs.{needs}
 use Rattle.step.proofs.checks.has_inverse.Statement.{statement}
 use Rattle.step.proofs.checks.has_inverse.Tie as tie
 
-inverse-spd-requires : tie.Need-inverse-spd-requires
-inverse-spd-requires c κs = search needs
-
-enum-told : tie.Need-enum-told
-enum-told c = search needs
-
-enum-told-2 : tie.Need-enum-told-2
-enum-told-2 c = search needs
-
-enum-told-3 : tie.Need-enum-told-3
-enum-told-3 c = search needs
-
-enum-told-4 : tie.Need-enum-told-4
-enum-told-4 c = search needs
-
-enum-told-5 : tie.Need-enum-told-5
-enum-told-5 c = search needs
-
 returns : tie.Need-returns
 returns c = inverted-as _ (c .before .before .inverse-spd .ensures) (c .enum-told .given .1)
 
@@ -39,16 +21,6 @@ returns-5 c = inverted-as _ (c .before .before .inverse-spd .ensures) (c .enum-t
 
 pub has-inverse-spec : {M : Type 1} → statement M
 has-inverse-spec =
-    tie.close
-    (tie.spec
-    inverse-spd-requires
-    enum-told
-    enum-told-2
-    enum-told-3
-    enum-told-4
-    enum-told-5
-    returns
-    returns-2
-    returns-3
-    returns-4
-    returns-5)
+    tie.close (tie.spec
+      (λ c κs. search needs) (λ c. search needs) (λ c. search needs) (λ c. search needs) (λ c. search needs)
+      (λ c. search needs) returns returns-2 returns-3 returns-4 returns-5)

@@ -17,27 +17,12 @@ Inv-loop bodies n k₀ k = (k ≤ n) × (true ≡ every k (λ j. hasInverse (rec
 abbrev μ-loop : tie.MeasureT-loop
 μ-loop bodies n k₀ k = n - k
 
-loop-holds : tie.Need-loop-holds Inv-loop μ-loop
-loop-holds c = (omega arith, every-none _)
-
-load-record-requires : tie.Need-load-record-requires Inv-loop μ-loop
-load-record-requires c κs = omega arith
-
-has-inverse-requires : tie.Need-has-inverse-requires Inv-loop μ-loop
-has-inverse-requires c κs = omega arith
-
 returns : tie.Need-returns Inv-loop μ-loop
 returns c =
     let at-loop = c .before .before .before .before in
     let at-start = at-loop .before .before in
     every-fail (λ (j : ℕ). hasInverse (recordAt (now (at-start .args .bodies)) j)) _ (omega arith)
     (sym (ap hasInverse (c .before .before .load-record .ensures)) ∙ sym (c .before .has-inverse .ensures) ∙ not-yes _ (c .if1 .taken))
-
-add-k : tie.Need-add-k Inv-loop μ-loop
-add-k c = omega arith
-
-loop-less : tie.Need-loop-less Inv-loop μ-loop
-loop-less c = omega arith
 
 loop-again : tie.Need-loop-again Inv-loop μ-loop
 loop-again c =
@@ -55,15 +40,6 @@ returns-2 c =
 
 pub inertias-invert-spec : {M : Type 1} → statement M
 inertias-invert-spec =
-    tie.close
-    (tie.spec
-    Inv-loop
-    μ-loop
-    loop-holds
-    load-record-requires
-    has-inverse-requires
-    returns
-    add-k
-    loop-less
-    loop-again
-    returns-2)
+    tie.close (tie.spec
+      Inv-loop μ-loop (λ c. (omega arith, every-none _)) (λ c κs. omega arith) (λ c κs. omega arith) returns
+      (λ c. omega arith) (λ c. omega arith) loop-again returns-2)

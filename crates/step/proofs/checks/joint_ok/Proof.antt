@@ -4,15 +4,6 @@ use borrow.Author.Needs.{needs}
 use Rattle.step.proofs.checks.joint_ok.Statement.{statement}
 use Rattle.step.proofs.checks.joint_ok.Tie as tie
 
-frame-ok-requires : tie.Need-frame-ok-requires
-frame-ok-requires c κs = search needs
-
-frame-ok-requires-2 : tie.Need-frame-ok-requires-2
-frame-ok-requires-2 c κs = search needs
-
-kind-ok-requires : tie.Need-kind-ok-requires
-kind-ok-requires c κs = search needs
-
 returns : tie.Need-returns
 returns c =
     let at-second = c .before in
@@ -30,5 +21,5 @@ returns-3 c = stays _ (fails _ (c .before .frame-ok .ensures) (c .if1 .left))
 
 pub joint-ok-spec : {M : Type 1} → statement M
 joint-ok-spec =
-    tie.close
-    (tie.spec frame-ok-requires frame-ok-requires-2 kind-ok-requires returns returns-2 returns-3)
+    tie.close (tie.spec
+      (λ c κs. search needs) (λ c κs. search needs) (λ c κs. search needs) returns returns-2 returns-3)

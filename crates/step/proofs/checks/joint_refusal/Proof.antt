@@ -6,15 +6,9 @@ use borrow.Author.Needs.{needs}
 use Rattle.step.proofs.checks.joint_refusal.Statement.{statement}
 use Rattle.step.proofs.checks.joint_refusal.Tie as tie
 
-joints-join-requires : tie.Need-joints-join-requires
-joints-join-requires c κs = search needs
-
 returns : tie.Need-returns
 unfolding jointsOr
 returns c = refuses _ _ (c .before .joints-join .ensures) (c .if1 .taken)
-
-joints-ok-requires : tie.Need-joints-ok-requires
-joints-ok-requires c κs = search needs
 
 returns-2 : tie.Need-returns-2
 unfolding jointsOr
@@ -30,4 +24,4 @@ returns-3 c =
 
 pub joint-refusal-spec : {M : Type 1} → statement M
 joint-refusal-spec =
-    tie.close (tie.spec joints-join-requires returns joints-ok-requires returns-2 returns-3)
+    tie.close (tie.spec (λ c κs. search needs) returns (λ c κs. search needs) returns-2 returns-3)

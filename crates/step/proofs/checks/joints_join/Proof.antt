@@ -15,30 +15,12 @@ Inv-loop count n joints k₀ k = (k ≤ count) × (true ≡ every k (λ j. joins
 abbrev μ-loop : tie.MeasureT-loop
 μ-loop count n joints k₀ k = count - k
 
-loop-holds : tie.Need-loop-holds Inv-loop μ-loop
-loop-holds c = (omega arith, every-none _)
-
-mul-joins-two : tie.Need-mul-joins-two Inv-loop μ-loop
-mul-joins-two c = omega arith
-
-array-copy-out-joins-two : tie.Need-array-copy-out-joins-two Inv-loop μ-loop
-array-copy-out-joins-two c = omega arith
-
-joins-two-requires : tie.Need-joins-two-requires Inv-loop μ-loop
-joins-two-requires c κs = omega arith
-
 returns : tie.Need-returns Inv-loop μ-loop
 returns c =
     let at-loop = c .before .before .before .before in
     let at-start = at-loop .before in
     every-fail (λ (j : ℕ). joinsTwo (at-start .args .n) (jointIn (at-start .args .t1) j)) _ (omega arith)
     (sym (c .before .joins-two .ensures) ∙ not-yes _ (c .if1 .taken))
-
-add-k : tie.Need-add-k Inv-loop μ-loop
-add-k c = omega arith
-
-loop-less : tie.Need-loop-less Inv-loop μ-loop
-loop-less c = omega arith
 
 loop-again : tie.Need-loop-again Inv-loop μ-loop
 loop-again c =
@@ -56,16 +38,6 @@ returns-2 c =
 
 pub joints-join-spec : {M : Type 1} → statement M
 joints-join-spec =
-    tie.close
-    (tie.spec
-    Inv-loop
-    μ-loop
-    loop-holds
-    mul-joins-two
-    array-copy-out-joins-two
-    joins-two-requires
-    returns
-    add-k
-    loop-less
-    loop-again
-    returns-2)
+    tie.close (tie.spec
+      Inv-loop μ-loop (λ c. (omega arith, every-none _)) (λ c. omega arith) (λ c. omega arith)
+      (λ c κs. omega arith) returns (λ c. omega arith) (λ c. omega arith) loop-again returns-2)

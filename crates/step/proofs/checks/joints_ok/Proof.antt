@@ -15,29 +15,11 @@ Inv-loop count joints k₀ k = (k ≤ count) × (true ≡ every k (λ j. jointOk
 abbrev μ-loop : tie.MeasureT-loop
 μ-loop count joints k₀ k = count - k
 
-loop-holds : tie.Need-loop-holds Inv-loop μ-loop
-loop-holds c = (omega arith, every-none _)
-
-mul-joint-ok : tie.Need-mul-joint-ok Inv-loop μ-loop
-mul-joint-ok c = omega arith
-
-array-copy-out-joint-ok : tie.Need-array-copy-out-joint-ok Inv-loop μ-loop
-array-copy-out-joint-ok c = omega arith
-
-joint-ok-requires : tie.Need-joint-ok-requires Inv-loop μ-loop
-joint-ok-requires c κs = omega arith
-
 returns : tie.Need-returns Inv-loop μ-loop
 returns c =
     let at-loop = c .before .before .before .before in
     let at-start = at-loop .before in
     every-fail (λ (j : ℕ). jointOk (jointIn (at-start .args .t1) j)) _ (omega arith) (sym (c .before .joint-ok .ensures) ∙ not-yes _ (c .if1 .taken))
-
-add-k : tie.Need-add-k Inv-loop μ-loop
-add-k c = omega arith
-
-loop-less : tie.Need-loop-less Inv-loop μ-loop
-loop-less c = omega arith
 
 loop-again : tie.Need-loop-again Inv-loop μ-loop
 loop-again c =
@@ -54,16 +36,6 @@ returns-2 c =
 
 pub joints-ok-spec : {M : Type 1} → statement M
 joints-ok-spec =
-    tie.close
-    (tie.spec
-    Inv-loop
-    μ-loop
-    loop-holds
-    mul-joint-ok
-    array-copy-out-joint-ok
-    joint-ok-requires
-    returns
-    add-k
-    loop-less
-    loop-again
-    returns-2)
+    tie.close (tie.spec
+      Inv-loop μ-loop (λ c. (omega arith, every-none _)) (λ c. omega arith) (λ c. omega arith)
+      (λ c κs. omega arith) returns (λ c. omega arith) (λ c. omega arith) loop-again returns-2)

@@ -5,21 +5,6 @@ use borrow.Author.Needs.{needs}
 use Rattle.step.proofs.checks.kind_ok.Statement.{statement}
 use Rattle.step.proofs.checks.kind_ok.Tie as tie
 
-motions-of-requires : tie.Need-motions-of-requires
-motions-of-requires c κs = search needs
-
-enum-known-length : tie.Need-enum-known-length
-enum-known-length c = search needs
-
-length-ok-requires : tie.Need-length-ok-requires
-length-ok-requires c κs = search needs
-
-enum-known-turning : tie.Need-enum-known-turning
-enum-known-turning c = search needs
-
-turning-ok-requires : tie.Need-turning-ok-requires
-turning-ok-requires c κs = search needs
-
 returns : tie.Need-returns
 returns c =
     let at-length = c .before .before in
@@ -32,12 +17,6 @@ returns-2 c =
 
 pub kind-ok-spec : {M : Type 1} → statement M
 kind-ok-spec =
-    tie.close
-    (tie.spec
-    motions-of-requires
-    enum-known-length
-    length-ok-requires
-    enum-known-turning
-    turning-ok-requires
-    returns
-    returns-2)
+    tie.close (tie.spec
+      (λ c κs. search needs) (λ c. search needs) (λ c κs. search needs) (λ c. search needs)
+      (λ c κs. search needs) returns returns-2)

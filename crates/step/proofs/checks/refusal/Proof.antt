@@ -6,21 +6,9 @@ use borrow.Author.Needs.{needs}
 use Rattle.step.proofs.checks.refusal.Statement.{statement}
 use Rattle.step.proofs.checks.refusal.Tie as tie
 
-size-refusal-requires : tie.Need-size-refusal-requires
-size-refusal-requires c κs = search needs
-
-accepted-requires : tie.Need-accepted-requires
-accepted-requires c κs = search needs
-
 returns : tie.Need-returns
 unfolding refusalOf
 returns c = sizes-stop _ _ _ _ _ (c .before .before .size-refusal .ensures) (not-accepted (c .before .accepted .ensures) (c .if1 .taken))
-
-body-refusal-requires : tie.Need-body-refusal-requires
-body-refusal-requires c κs = search needs
-
-accepted-requires-2 : tie.Need-accepted-requires-2
-accepted-requires-2 c κs = search needs
 
 returns-2 : tie.Need-returns-2
 unfolding refusalOf
@@ -46,13 +34,6 @@ returns-3 c =
 
 pub refusal-spec : {M : Type 1} → statement M
 refusal-spec =
-    tie.close
-    (tie.spec
-    size-refusal-requires
-    accepted-requires
-    returns
-    body-refusal-requires
-    accepted-requires-2
-    returns-2
-    joint-refusal-requires
-    returns-3)
+    tie.close (tie.spec
+      (λ c κs. search needs) (λ c κs. search needs) returns (λ c κs. search needs) (λ c κs. search needs)
+      returns-2 joint-refusal-requires returns-3)

@@ -8,15 +8,9 @@ use borrow.Author.Needs.{needs}
 use Rattle.step.proofs.checks.size_refusal.Statement.{statement}
 use Rattle.step.proofs.checks.size_refusal.Tie as tie
 
-time-step-ok-requires : tie.Need-time-step-ok-requires
-time-step-ok-requires c κs = search needs
-
 returns : tie.Need-returns
 unfolding sizesOr
 returns c = refuses _ _ (c .before .time-step-ok .ensures) (c .if1 .taken)
-
-bodies-fit-requires : tie.Need-bodies-fit-requires
-bodies-fit-requires c κs = search needs
 
 returns-2 : tie.Need-returns-2
 unfolding sizesOr
@@ -53,12 +47,5 @@ returns-5 c =
 
 pub size-refusal-spec : {M : Type 1} → statement M
 size-refusal-spec =
-    tie.close
-    (tie.spec
-    time-step-ok-requires
-    returns
-    bodies-fit-requires
-    returns-2
-    returns-3
-    returns-4
-    returns-5)
+    tie.close (tie.spec
+      (λ c κs. search needs) returns (λ c κs. search needs) returns-2 returns-3 returns-4 returns-5)

@@ -8,9 +8,6 @@ use borrow.Author.Needs.{needs}
 use Rattle.step.proofs.checks.time_step_ok.Statement.{statement}
 use Rattle.step.proofs.checks.time_step_ok.Tie as tie
 
-is-finite-requires : tie.Need-is-finite-requires
-is-finite-requires c κs = search needs
-
 returns : tie.Need-returns
 returns c = also (c .before .is-finite .ensures) (c .if1 .taken) (ap (λ (z : Float). Ieee.lt z (c .before .before .args .dt)) zero-is)
 
@@ -18,4 +15,5 @@ returns-2 : tie.Need-returns-2
 returns-2 c = fails _ (c .before .is-finite .ensures) (c .if1 .left)
 
 pub time-step-ok-spec : {M : Type 1} → statement M
-time-step-ok-spec = tie.close (tie.spec is-finite-requires returns returns-2)
+time-step-ok-spec =
+    tie.close (tie.spec (λ c κs. search needs) returns returns-2)

@@ -13,12 +13,6 @@ use Rattle.step.proofs.checks.twist_ok.Tie as tie
 limited : {x y : Float} → x ≡ y → Ieee.le x (F 0x4010_0000_0000_0000) ≡ Ieee.le y (ratio 4 1)
 limited e = under _ e ∙ ap (Ieee.le _) four-is
 
-abs-requires : tie.Need-abs-requires
-abs-requires c κs = search needs
-
-abs-requires-2 : tie.Need-abs-requires-2
-abs-requires-2 c κs = search needs
-
 returns : tie.Need-returns
 returns c =
     let at-upper = c .before in
@@ -50,5 +44,5 @@ returns-5 c = stays _ (fails _ (limited (c .before .abs .ensures)) (c .if1 .left
 
 pub twist-ok-spec : {M : Type 1} → statement M
 twist-ok-spec =
-    tie.close
-    (tie.spec abs-requires abs-requires-2 returns returns-2 returns-3 returns-4 returns-5)
+    tie.close (tie.spec
+      (λ c κs. search needs) (λ c κs. search needs) returns returns-2 returns-3 returns-4 returns-5)

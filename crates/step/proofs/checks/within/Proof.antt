@@ -4,15 +4,6 @@ use borrow.Author.Needs.{needs}
 use Rattle.step.proofs.checks.within.Statement.{statement}
 use Rattle.step.proofs.checks.within.Tie as tie
 
-abs-requires : tie.Need-abs-requires
-abs-requires c κs = search needs
-
-abs-requires-2 : tie.Need-abs-requires-2
-abs-requires-2 c κs = search needs
-
-abs-requires-3 : tie.Need-abs-requires-3
-abs-requires-3 c κs = search needs
-
 returns : tie.Need-returns
 returns c =
     let at-y = c .before in
@@ -35,4 +26,5 @@ returns-3 c = stays _ (fails _ (under _ (c .before .abs .ensures)) (c .if1 .left
 
 pub within-spec : {M : Type 1} → statement M
 within-spec =
-    tie.close (tie.spec abs-requires abs-requires-2 abs-requires-3 returns returns-2 returns-3)
+    tie.close (tie.spec
+      (λ c κs. search needs) (λ c κs. search needs) (λ c κs. search needs) returns returns-2 returns-3)

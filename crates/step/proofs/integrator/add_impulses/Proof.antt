@@ -17,50 +17,11 @@ abbrev μ-loop : tie.MeasureT-loop
 loop-holds : tie.Need-loop-holds Inv-loop μ-loop
 loop-holds c = (omega arith, refl, sum-none (c .before .args .n) _)
 
-add-sum : tie.Need-add-sum Inv-loop μ-loop
-add-sum c = omega arith
-
-mul-sum : tie.Need-mul-sum Inv-loop μ-loop
-mul-sum c = omega arith
-
-slice-read-sum : tie.Need-slice-read-sum Inv-loop μ-loop
-slice-read-sum c = omega arith
-
-add-sum-2 : tie.Need-add-sum-2 Inv-loop μ-loop
-add-sum-2 c = omega arith
-
-mul-sum-2 : tie.Need-mul-sum-2 Inv-loop μ-loop
-mul-sum-2 c = omega arith
-
-slice-read-sum-2 : tie.Need-slice-read-sum-2 Inv-loop μ-loop
-slice-read-sum-2 c = omega arith
-
-add-s : tie.Need-add-s Inv-loop μ-loop
-add-s c = omega arith
-
-mul-s : tie.Need-mul-s Inv-loop μ-loop
-mul-s c = omega arith
-
-slice-write-s : tie.Need-slice-write-s Inv-loop μ-loop
-slice-write-s c = omega arith
-
-is-finite-requires : tie.Need-is-finite-requires Inv-loop μ-loop
-is-finite-requires c κs = omega arith
-
-same-length : tie.Need-same-length Inv-loop μ-loop
-same-length c = simp length-set (omega arith)
-
 returns : tie.Need-returns Inv-loop μ-loop
 returns c =
     let at-test = c .before .before .before .before in let at-loop = at-test .before in let at-entry = at-loop .before .before in
     sum-stops (at-entry .args .n) _ _ _ (at-loop .loop .inv .2) (at-test .loop-test .taken) (at-entry .pre .1) (omega arith)
     (c .before .is-finite .ensures) (not-yes _ (c .if1 .taken))
-
-add-k : tie.Need-add-k Inv-loop μ-loop
-add-k c = omega arith
-
-loop-less : tie.Need-loop-less Inv-loop μ-loop
-loop-less c = omega arith
 
 loop-again : tie.Need-loop-again Inv-loop μ-loop
 loop-again c =
@@ -71,9 +32,6 @@ loop-again c =
           (c .before .is-finite .ensures) (not-no _ (c .if1 .left)),
     )
 
-same-length-2 : tie.Need-same-length-2 Inv-loop μ-loop
-same-length-2 c = omega arith
-
 returns-2 : tie.Need-returns-2 Inv-loop μ-loop
 returns-2 c =
     let at-entry = c .before .before .before in
@@ -81,5 +39,8 @@ returns-2 c =
 
 pub add-impulses-spec : {M : Type 1} → statement M
 add-impulses-spec =
-    tie.close (tie.spec Inv-loop μ-loop loop-holds add-sum mul-sum slice-read-sum add-sum-2 mul-sum-2 slice-read-sum-2 add-s mul-s
-    slice-write-s is-finite-requires same-length returns add-k loop-less loop-again same-length-2 returns-2)
+    tie.close (tie.spec
+      Inv-loop μ-loop loop-holds (λ c. omega arith) (λ c. omega arith) (λ c. omega arith) (λ c. omega arith)
+      (λ c. omega arith) (λ c. omega arith) (λ c. omega arith) (λ c. omega arith) (λ c. omega arith)
+      (λ c κs. omega arith) (λ c. simp length-set (omega arith)) returns (λ c. omega arith) (λ c. omega arith)
+      loop-again (λ c. omega arith) returns-2)

@@ -15,9 +15,6 @@ transpose-requires c κs =
     let at-entry = c .before .before in
     (at-entry .pre .0 .ours .ready, record { low = omega arith; apart = omega arith; there = omega (arith, at-entry .pre .0 .ours .long) })
 
-done-requires : tie.Need-done-requires
-done-requires c κs = search needs
-
 same-length : tie.Need-same-length
 same-length c =
     let at-transpose = c .before .before .before .before in
@@ -34,9 +31,6 @@ move-bodies-requires : tie.Need-move-bodies-requires
 move-bodies-requires c κs =
     let at-transpose = c .before .before .before .before .before in let at-entry = at-transpose .before .before .before in
     (omega (arith, at-entry .pre .0 .ours .long, at-transpose .transpose .ensures .0 .kept .size), at-entry .pre .0 .ours .ready .bodies)
-
-done-requires-2 : tie.Need-done-requires-2
-done-requires-2 c κs = search needs
 
 same-length-2 : tie.Need-same-length-2
 same-length-2 c =
@@ -84,5 +78,6 @@ returns-3 c =
 
 pub candidate-spec : {M : Type 1} → statement M
 candidate-spec =
-    tie.close (tie.spec transpose-requires done-requires same-length returns move-bodies-requires done-requires-2 same-length-2 returns-2
-    write-rows-requires same-length-3 returns-3)
+    tie.close (tie.spec
+      transpose-requires (λ c κs. search needs) same-length returns move-bodies-requires (λ c κs. search needs)
+      same-length-2 returns-2 write-rows-requires same-length-3 returns-3)

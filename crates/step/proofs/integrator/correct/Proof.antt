@@ -20,12 +20,6 @@ linear-solve-requires c κs =
     let at-fill-rhs = c .before .before .before in let at-entry = at-fill-rhs .before .before .before in
     rows-at (at-entry .pre .ours .ready) (at-fill-rhs .fill-rhs .ensures (now (at-entry .args .ia)) (now (at-entry .args .ib)) .kept .size)
 
-done-requires : tie.Need-done-requires
-done-requires c κs = search needs
-
-pass-ended-requires : tie.Need-pass-ended-requires
-pass-ended-requires c κs = search needs
-
 same-length : tie.Need-same-length
 same-length c =
     let at-linear-solve = c .before .before .before .before .before in let at-fill-rhs = at-linear-solve .before .before .before .before in
@@ -57,12 +51,6 @@ add-impulses-requires c κs =
       at-entry .pre .ours .ready .most,
     )
 
-done-requires-2 : tie.Need-done-requires-2
-done-requires-2 c κs = search needs
-
-pass-ended-requires-2 : tie.Need-pass-ended-requires-2
-pass-ended-requires-2 c κs = search needs
-
 same-length-2 : tie.Need-same-length-2
 same-length-2 c =
     let at-add-impulses = c .before .before .before .before .before in
@@ -83,9 +71,6 @@ returns-2 c =
     (at-fill-rhs .fill-rhs .ensures (now (at-entry .args .ia)) (now (at-entry .args .ib))) (at-linear-solve .linear-solve .result)
     (at-linear-solve .linear-solve .ensures .0) (at-done .done .ensures) (at-if1 .if1 .left) (at-add-impulses .add-impulses .result)
     (at-add-impulses .add-impulses .ensures) (c .before .before .done2 .ensures) (c .before .if2 .taken))
-
-pass-ended-requires-3 : tie.Need-pass-ended-requires-3
-pass-ended-requires-3 c κs = search needs
 
 same-length-3 : tie.Need-same-length-3
 same-length-3 c =
@@ -110,5 +95,7 @@ returns-3 c =
 
 pub correct-spec : {M : Type 1} → statement M
 correct-spec =
-    tie.close (tie.spec fill-rhs-requires linear-solve-requires done-requires pass-ended-requires same-length returns add-impulses-requires
-    done-requires-2 pass-ended-requires-2 same-length-2 returns-2 pass-ended-requires-3 same-length-3 returns-3)
+    tie.close (tie.spec
+      fill-rhs-requires linear-solve-requires (λ c κs. search needs) (λ c κs. search needs) same-length returns
+      add-impulses-requires (λ c κs. search needs) (λ c κs. search needs) same-length-2 returns-2
+      (λ c κs. search needs) same-length-3 returns-3)

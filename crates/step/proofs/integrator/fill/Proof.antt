@@ -15,23 +15,8 @@ Inv-loop index₀ from n body k₀ k-end index k =
 abbrev μ-loop : tie.MeasureT-loop
 μ-loop index₀ from n body k₀ k-end index k = k-end - k
 
-add-k-end : tie.Need-add-k-end Inv-loop μ-loop
-add-k-end c = omega arith
-
 loop-holds : tie.Need-loop-holds Inv-loop μ-loop
 loop-holds c = (omega arith, omega arith, omega arith, refl, spread-none _ _ _ _ (omega arith))
-
-mul-index : tie.Need-mul-index Inv-loop μ-loop
-mul-index c = omega arith
-
-slice-write-index : tie.Need-slice-write-index Inv-loop μ-loop
-slice-write-index c = omega arith
-
-add-k : tie.Need-add-k Inv-loop μ-loop
-add-k c = omega arith
-
-loop-less : tie.Need-loop-less Inv-loop μ-loop
-loop-less c = omega arith
 
 loop-again : tie.Need-loop-again Inv-loop μ-loop
 loop-again c = (
@@ -42,12 +27,11 @@ loop-again c = (
   spread-more (omega arith) (omega arith) (c .before .loop .inv .4),
 )
 
-same-length : tie.Need-same-length Inv-loop μ-loop
-same-length c = omega arith
-
 returns : tie.Need-returns Inv-loop μ-loop
 returns c = spread-end (omega arith) (omega arith) (omega arith) (c .before .loop .inv .4)
 
 pub fill-spec : {M : Type 1} → statement M
 fill-spec =
-    tie.close (tie.spec Inv-loop μ-loop add-k-end loop-holds mul-index slice-write-index add-k loop-less loop-again same-length returns)
+    tie.close (tie.spec
+      Inv-loop μ-loop (λ c. omega arith) loop-holds (λ c. omega arith) (λ c. omega arith) (λ c. omega arith)
+      (λ c. omega arith) loop-again (λ c. omega arith) returns)

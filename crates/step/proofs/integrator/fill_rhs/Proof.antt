@@ -19,46 +19,10 @@ Inv-loop s₀ dt n k₀ s k = (k ≤ n) × (length s ≡ length s₀) × (Filled
 abbrev μ-loop : tie.MeasureT-loop
 μ-loop s₀ dt n k₀ s k = n - k
 
-loop-holds : tie.Need-loop-holds Inv-loop μ-loop
-loop-holds c = (omega arith, refl, filled-none _ _ _)
-
-mul-s : tie.Need-mul-s Inv-loop μ-loop
-mul-s c = omega arith
-
-add-s : tie.Need-add-s Inv-loop μ-loop
-add-s c = omega arith
-
-add-s-2 : tie.Need-add-s-2 Inv-loop μ-loop
-add-s-2 c = omega arith
-
-mul-s-2 : tie.Need-mul-s-2 Inv-loop μ-loop
-mul-s-2 c = omega arith
-
-slice-read-s : tie.Need-slice-read-s Inv-loop μ-loop
-slice-read-s c = omega arith
-
-add-s-3 : tie.Need-add-s-3 Inv-loop μ-loop
-add-s-3 c = omega arith
-
-mul-s-3 : tie.Need-mul-s-3 Inv-loop μ-loop
-mul-s-3 c = omega arith
-
-slice-write-s : tie.Need-slice-write-s Inv-loop μ-loop
-slice-write-s c = omega arith
-
-add-k : tie.Need-add-k Inv-loop μ-loop
-add-k c = omega arith
-
-loop-less : tie.Need-loop-less Inv-loop μ-loop
-loop-less c = omega arith
-
 loop-again : tie.Need-loop-again Inv-loop μ-loop
 loop-again c =
     let at-entry = c .before .before .before in
     (omega arith, simp length-set (omega arith), rhs-more (at-entry .args .dt) _ _ _ (c .before .before .loop .inv .2) (omega arith) (omega arith))
-
-same-length : tie.Need-same-length Inv-loop μ-loop
-same-length c = omega arith
 
 returns : tie.Need-returns Inv-loop μ-loop
 returns c =
@@ -67,5 +31,7 @@ returns c =
 
 pub fill-rhs-spec : {M : Type 1} → statement M
 fill-rhs-spec =
-    tie.close (tie.spec Inv-loop μ-loop loop-holds mul-s add-s add-s-2 mul-s-2 slice-read-s add-s-3 mul-s-3 slice-write-s add-k loop-less
-    loop-again same-length returns)
+    tie.close (tie.spec
+      Inv-loop μ-loop (λ c. (omega arith, refl, filled-none _ _ _)) (λ c. omega arith) (λ c. omega arith)
+      (λ c. omega arith) (λ c. omega arith) (λ c. omega arith) (λ c. omega arith) (λ c. omega arith)
+      (λ c. omega arith) (λ c. omega arith) (λ c. omega arith) loop-again (λ c. omega arith) returns)

@@ -16,12 +16,6 @@ prepare-masses-requires c κs =
     let at-entry = c .before .before .before in
     (at-entry .pre .0 .long, at-entry .pre .0 .ready .bodies)
 
-done-requires : tie.Need-done-requires
-done-requires c κs = search needs
-
-loop-ended-requires : tie.Need-loop-ended-requires
-loop-ended-requires c κs = search needs
-
 same-length : tie.Need-same-length
 same-length c =
     let at-prepare-masses = c .before .before .before .before .before in
@@ -42,9 +36,6 @@ velocity-loop-requires c κs =
       ready = rows-at (at-entry .pre .0 .ready) (at-prepare-masses .prepare-masses .ensures .kept .size);
       long = omega (arith, at-entry .pre .0 .long, at-prepare-masses .prepare-masses .ensures .kept .size);
     }
-
-done-requires-2 : tie.Need-done-requires-2
-done-requires-2 c κs = search needs
 
 same-length-2 : tie.Need-same-length-2
 same-length-2 c =
@@ -72,9 +63,6 @@ make-states-requires c κs =
       at-entry .pre .0 .ready .bodies,
     )
 
-loop-ended-requires-2 : tie.Need-loop-ended-requires-2
-loop-ended-requires-2 c κs = search needs
-
 same-length-3 : tie.Need-same-length-3
 same-length-3 c =
     let at-make-states = c .before .before .before in let at-velocity-loop = at-make-states .before .before .before .before .before .before in
@@ -96,5 +84,7 @@ returns-3 c =
 
 pub finish-run-spec : {M : Type 1} → statement M
 finish-run-spec =
-    tie.close (tie.spec prepare-masses-requires done-requires loop-ended-requires same-length returns velocity-loop-requires done-requires-2
-    same-length-2 returns-2 make-states-requires loop-ended-requires-2 same-length-3 returns-3)
+    tie.close (tie.spec
+      prepare-masses-requires (λ c κs. search needs) (λ c κs. search needs) same-length returns
+      velocity-loop-requires (λ c κs. search needs) same-length-2 returns-2 make-states-requires
+      (λ c κs. search needs) same-length-3 returns-3)

@@ -4,21 +4,6 @@ use borrow.Author.Needs.{needs}
 use Rattle.step.proofs.integrator.kick_and_drift.Statement.{statement}
 use Rattle.step.proofs.integrator.kick_and_drift.Tie as tie
 
-kick-requires : tie.Need-kick-requires
-kick-requires c κs = search needs
-
-enum-told : tie.Need-enum-told
-enum-told c = search needs
-
-drift-requires : tie.Need-drift-requires
-drift-requires c κs = search needs
-
-enum-told-2 : tie.Need-enum-told-2
-enum-told-2 c = search needs
-
-enum-told-3 : tie.Need-enum-told-3
-enum-told-3 c = search needs
-
 returns : tie.Need-returns
 returns c =
     let at-kick = c .before .before .before in let at-entry = at-kick .before in
@@ -39,4 +24,6 @@ returns-3 c =
 
 pub kick-and-drift-spec : {M : Type 1} → statement M
 kick-and-drift-spec =
-    tie.close (tie.spec kick-requires enum-told drift-requires enum-told-2 enum-told-3 returns returns-2 returns-3)
+    tie.close (tie.spec
+      (λ c κs. search needs) (λ c. search needs) (λ c κs. search needs) (λ c. search needs) (λ c. search needs)
+      returns returns-2 returns-3)

@@ -5,18 +5,12 @@ use borrow.Author.Needs.{needs}
 use Rattle.step.proofs.integrator.load_moved.Statement.{statement}
 use Rattle.step.proofs.integrator.load_moved.Tie as tie
 
-load-candidate-requires : tie.Need-load-candidate-requires
-load-candidate-requires c κs = search needs
-
 returns : tie.Need-returns
 returns c = c .load-candidate .ensures ∙ cond-yes _ _ (c .before .if1 .taken)
-
-load-start-requires : tie.Need-load-start-requires
-load-start-requires c κs = search needs
 
 returns-2 : tie.Need-returns-2
 returns-2 c = c .load-start .ensures ∙ cond-no _ _ (c .before .if1 .left)
 
 pub load-moved-spec : {M : Type 1} → statement M
 load-moved-spec =
-    tie.close (tie.spec load-candidate-requires returns load-start-requires returns-2)
+    tie.close (tie.spec (λ c κs. search needs) returns (λ c κs. search needs) returns-2)

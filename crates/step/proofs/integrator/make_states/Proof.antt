@@ -22,21 +22,6 @@ loop-holds c =
     let at-entry = c .before .before in
     (omega arith, refl, state-none (now (at-entry .args .bodies)) (at-entry .args .n) _)
 
-load-candidate-requires : tie.Need-load-candidate-requires Inv-loop μ-loop
-load-candidate-requires c κs = omega arith
-
-mul-load-state : tie.Need-mul-load-state Inv-loop μ-loop
-mul-load-state c = omega arith
-
-load-state-requires : tie.Need-load-state-requires Inv-loop μ-loop
-load-state-requires c κs = omega arith
-
-state-requires : tie.Need-state-requires Inv-loop μ-loop
-state-requires c κs = omega arith
-
-enum-known-state : tie.Need-enum-known-state Inv-loop μ-loop
-enum-known-state c = search needs
-
 mul-store-state : tie.Need-mul-store-state Inv-loop μ-loop
 mul-store-state c =
     let at-load-candidate = c .before .before .before .before .before .before in let at-test = at-load-candidate .before .before in
@@ -55,12 +40,6 @@ store-state-requires c κs =
     let at-loop = at-test .before in let at-entry = at-loop .before .before .before in
     omega (arith, at-loop .loop .inv, at-test .loop-test .taken, at-entry .pre)
 
-enum-told : tie.Need-enum-told Inv-loop μ-loop
-enum-told c = search needs
-
-same-length : tie.Need-same-length Inv-loop μ-loop
-same-length c = omega arith
-
 returns : tie.Need-returns Inv-loop μ-loop
 returns c =
     let at-load-state = c .before .before .before in let at-load-candidate = at-load-state .before in
@@ -75,9 +54,6 @@ add-k c =
     let at-loop = at-test .before in let at-entry = at-loop .before .before .before in
     omega (arith, at-loop .loop .inv, at-test .loop-test .taken, at-entry .pre)
 
-loop-less : tie.Need-loop-less Inv-loop μ-loop
-loop-less c = omega arith
-
 loop-again : tie.Need-loop-again Inv-loop μ-loop
 loop-again c =
     let at-state2 = c .before .before .before .before .before in let at-state = at-state2 .before .before in let at-load-state = at-state .before in
@@ -91,9 +67,6 @@ loop-again c =
           (c .before .before .store-state .ensures),
     )
 
-same-length-2 : tie.Need-same-length-2 Inv-loop μ-loop
-same-length-2 c = omega arith
-
 returns-2 : tie.Need-returns-2 Inv-loop μ-loop
 returns-2 c =
     let at-entry = c .before .before .before .before in
@@ -102,6 +75,8 @@ returns-2 c =
 
 pub make-states-spec : {M : Type 1} → statement M
 make-states-spec =
-    tie.close (tie.spec Inv-loop μ-loop loop-holds load-candidate-requires mul-load-state load-state-requires state-requires
-    enum-known-state mul-store-state add-store-state store-state-requires enum-told same-length returns add-k loop-less loop-again
-    same-length-2 returns-2)
+    tie.close (tie.spec
+      Inv-loop μ-loop loop-holds (λ c κs. omega arith) (λ c. omega arith) (λ c κs. omega arith)
+      (λ c κs. omega arith) (λ c. search needs) mul-store-state add-store-state store-state-requires
+      (λ c. search needs) (λ c. omega arith) returns add-k (λ c. omega arith) loop-again (λ c. omega arith)
+      returns-2)

@@ -7,27 +7,6 @@ use borrow.Author.Needs.{needs}
 use Rattle.step.proofs.integrator.mass_response.Statement.{statement}
 use Rattle.step.proofs.integrator.mass_response.Tie as tie
 
-to-mat3-requires : tie.Need-to-mat3-requires
-to-mat3-requires c κs = search needs
-
-product-requires : tie.Need-product-requires
-product-requires c κs = search needs
-
-transpose-requires : tie.Need-transpose-requires
-transpose-requires c κs = search needs
-
-product-requires-2 : tie.Need-product-requires-2
-product-requires-2 c κs = search needs
-
-is-finite-requires : tie.Need-is-finite-requires
-is-finite-requires c κs = search needs
-
-is-finite-requires-2 : tie.Need-is-finite-requires-2
-is-finite-requires-2 c κs = search needs
-
-all-three-requires : tie.Need-all-three-requires
-all-three-requires c κs = search needs
-
 returns : tie.Need-returns
 unfolding round ofBits
 returns c =
@@ -39,5 +18,6 @@ returns c =
 
 pub mass-response-spec : {M : Type 1} → statement M
 mass-response-spec =
-    tie.close (tie.spec to-mat3-requires product-requires transpose-requires product-requires-2 is-finite-requires is-finite-requires-2
-    all-three-requires returns)
+    tie.close (tie.spec
+      (λ c κs. search needs) (λ c κs. search needs) (λ c κs. search needs) (λ c κs. search needs)
+      (λ c κs. search needs) (λ c κs. search needs) (λ c κs. search needs) returns)

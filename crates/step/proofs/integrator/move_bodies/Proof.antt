@@ -18,27 +18,6 @@ abbrev μ-loop : tie.MeasureT-loop
 loop-holds : tie.Need-loop-holds Inv-loop μ-loop
 loop-holds c = (omega arith, refl, move-none (c .before .args .dt) (c .before .args .n) _)
 
-load-generalized-requires : tie.Need-load-generalized-requires Inv-loop μ-loop
-load-generalized-requires c κs = omega arith
-
-load-start-requires : tie.Need-load-start-requires Inv-loop μ-loop
-load-start-requires c κs = omega arith
-
-kick-and-drift-requires : tie.Need-kick-and-drift-requires Inv-loop μ-loop
-kick-and-drift-requires c κs = omega arith
-
-enum-told : tie.Need-enum-told Inv-loop μ-loop
-enum-told c = search needs
-
-store-candidate-requires : tie.Need-store-candidate-requires Inv-loop μ-loop
-store-candidate-requires c κs = omega arith
-
-enum-told-2 : tie.Need-enum-told-2 Inv-loop μ-loop
-enum-told-2 c = search needs
-
-same-length : tie.Need-same-length Inv-loop μ-loop
-same-length c = omega arith
-
 returns : tie.Need-returns Inv-loop μ-loop
 returns c =
     let at-kick-and-drift = c .before .before in let at-load-start = at-kick-and-drift .before in
@@ -49,12 +28,6 @@ returns c =
     (finish-case (at-kick-and-drift .kick-and-drift .result .body) (at-kick-and-drift .kick-and-drift .result .outcome)
     (at-kick-and-drift .kick-and-drift .ensures) (c .enum-told2 .given .1))
 
-enum-told-3 : tie.Need-enum-told-3 Inv-loop μ-loop
-enum-told-3 c = search needs
-
-same-length-2 : tie.Need-same-length-2 Inv-loop μ-loop
-same-length-2 c = omega arith
-
 returns-2 : tie.Need-returns-2 Inv-loop μ-loop
 returns-2 c =
     let at-kick-and-drift = c .before .before in let at-load-start = at-kick-and-drift .before in
@@ -64,12 +37,6 @@ returns-2 c =
     (at-load-generalized .load-generalized .ensures) (at-load-start .load-start .ensures) refl
     (finish-case (at-kick-and-drift .kick-and-drift .result .body) (at-kick-and-drift .kick-and-drift .result .outcome)
     (at-kick-and-drift .kick-and-drift .ensures) (c .enum-told3 .given .1))
-
-add-k : tie.Need-add-k Inv-loop μ-loop
-add-k c = omega arith
-
-loop-less : tie.Need-loop-less Inv-loop μ-loop
-loop-less c = omega arith
 
 loop-again : tie.Need-loop-again Inv-loop μ-loop
 loop-again c =
@@ -84,9 +51,6 @@ loop-again c =
           (at-kick-and-drift .kick-and-drift .ensures) (at-enum-told .enum-told .given .1)) (c .before .before .store-candidate .ensures),
     )
 
-same-length-3 : tie.Need-same-length-3 Inv-loop μ-loop
-same-length-3 c = omega arith
-
 returns-3 : tie.Need-returns-3 Inv-loop μ-loop
 returns-3 c =
     let at-entry = c .before .before .before in
@@ -94,6 +58,8 @@ returns-3 c =
 
 pub move-bodies-spec : {M : Type 1} → statement M
 move-bodies-spec =
-    tie.close (tie.spec Inv-loop μ-loop loop-holds load-generalized-requires load-start-requires kick-and-drift-requires enum-told
-    store-candidate-requires enum-told-2 same-length returns enum-told-3 same-length-2 returns-2 add-k loop-less loop-again same-length-3
-    returns-3)
+    tie.close (tie.spec
+      Inv-loop μ-loop loop-holds (λ c κs. omega arith) (λ c κs. omega arith) (λ c κs. omega arith)
+      (λ c. search needs) (λ c κs. omega arith) (λ c. search needs) (λ c. omega arith) returns
+      (λ c. search needs) (λ c. omega arith) returns-2 (λ c. omega arith) (λ c. omega arith) loop-again
+      (λ c. omega arith) returns-3)

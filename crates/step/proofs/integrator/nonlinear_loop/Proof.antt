@@ -62,16 +62,10 @@ add-linear c =
           (jobFor (at-entry .args .joints) (at-entry .args .task)) _ (at-nonlinear-pass .nonlinear-pass .ensures .is),
     )
 
-enum-known-pass : tie.Need-enum-known-pass Inv-loop μ-loop
-enum-known-pass c = search needs
-
 add-run-ended : tie.Need-add-run-ended Inv-loop μ-loop
 add-run-ended c =
     let at-nonlinear-pass = c .before .before .before .before .before .before in let at-test = at-nonlinear-pass .before .before in
     omega (arith, at-test .loop-test .taken)
-
-run-ended-requires : tie.Need-run-ended-requires Inv-loop μ-loop
-run-ended-requires c κs = omega arith
 
 same-length : tie.Need-same-length Inv-loop μ-loop
 same-length c =
@@ -94,9 +88,6 @@ returns c =
     (at-entry .pre .0 .apart) (at-entry .pre .0 .ours .ready .most) (at-entry .pre .0 .ours .ready .bodies)) (at-loop .loop .inv .3)
     (at-nonlinear-pass .nonlinear-pass .result) (at-nonlinear-pass .nonlinear-pass .ensures) (at-test .loop-test .taken)
     (c .before .before .pass .given .1)))
-
-enum-told : tie.Need-enum-told Inv-loop μ-loop
-enum-told c = search needs
 
 add-k : tie.Need-add-k Inv-loop μ-loop
 add-k c =
@@ -129,9 +120,6 @@ loop-again c =
           (at-nonlinear-pass .nonlinear-pass .result) (at-nonlinear-pass .nonlinear-pass .ensures) (at-test .loop-test .taken) (c .enum-told .given .1),
     )
 
-run-ended-requires-2 : tie.Need-run-ended-requires-2 Inv-loop μ-loop
-run-ended-requires-2 c κs = omega arith
-
 same-length-2 : tie.Need-same-length-2 Inv-loop μ-loop
 same-length-2 c =
     let at-clear = c .before .before .before .before .before in
@@ -150,5 +138,7 @@ returns-2 c =
 
 pub nonlinear-loop-spec : {M : Type 1} → statement M
 nonlinear-loop-spec =
-    tie.close (tie.spec Inv-loop μ-loop clear-requires loop-holds nonlinear-pass-requires add-linear enum-known-pass add-run-ended
-    run-ended-requires same-length returns enum-told add-k loop-less loop-again run-ended-requires-2 same-length-2 returns-2)
+    tie.close (tie.spec
+      Inv-loop μ-loop clear-requires loop-holds nonlinear-pass-requires add-linear (λ c. search needs)
+      add-run-ended (λ c κs. omega arith) same-length returns (λ c. search needs) add-k loop-less loop-again
+      (λ c κs. omega arith) same-length-2 returns-2)

@@ -17,12 +17,6 @@ candidate-requires c κs =
       at-entry .pre .1,
     )
 
-done-requires : tie.Need-done-requires
-done-requires c κs = search needs
-
-pass-ended-requires : tie.Need-pass-ended-requires
-pass-ended-requires c κs = search needs
-
 same-length : tie.Need-same-length
 same-length c =
     let at-candidate = c .before .before .before .before .before in
@@ -41,9 +35,6 @@ rows-met-requires : tie.Need-rows-met-requires
 rows-met-requires c κs =
     let at-candidate = c .before .before .before .before .before in let at-entry = at-candidate .before .before .before in
     (omega (arith, at-entry .pre .0 .ours .long, at-candidate .candidate .ensures .0 .kept .size), at-entry .pre .0 .ours .ready .most)
-
-pass-ended-requires-2 : tie.Need-pass-ended-requires-2
-pass-ended-requires-2 c κs = search needs
 
 same-length-2 : tie.Need-same-length-2
 same-length-2 c =
@@ -90,5 +81,6 @@ returns-3 c =
 
 pub nonlinear-pass-spec : {M : Type 1} → statement M
 nonlinear-pass-spec =
-    tie.close (tie.spec candidate-requires done-requires pass-ended-requires same-length returns rows-met-requires pass-ended-requires-2
-    same-length-2 returns-2 correct-requires same-length-3 returns-3)
+    tie.close (tie.spec
+      candidate-requires (λ c κs. search needs) (λ c κs. search needs) same-length returns rows-met-requires
+      (λ c κs. search needs) same-length-2 returns-2 correct-requires same-length-3 returns-3)

@@ -5,28 +5,10 @@ use borrow.Author.Needs.{needs}
 use Rattle.step.proofs.integrator.prepare_mass.Statement.{statement}
 use Rattle.step.proofs.integrator.prepare_mass.Tie as tie
 
-mass-response-requires : tie.Need-mass-response-requires
-mass-response-requires c κs = search needs
-
 returns : tie.Need-returns
 returns c =
     let at-mass-response = c .before .before in let at-entry = at-mass-response .before .before in
     weigh-over _ (at-entry .args .k) _ (at-mass-response .mass-response .result) (at-mass-response .mass-response .ensures) (c .if1 .taken) _
-
-column-requires : tie.Need-column-requires
-column-requires c κs = search needs
-
-column-requires-2 : tie.Need-column-requires-2
-column-requires-2 c κs = search needs
-
-column-requires-3 : tie.Need-column-requires-3
-column-requires-3 c κs = search needs
-
-store-mass-requires : tie.Need-store-mass-requires
-store-mass-requires c κs = omega arith
-
-same-length : tie.Need-same-length
-same-length c = search needs
 
 returns-2 : tie.Need-returns-2
 returns-2 c =
@@ -38,5 +20,6 @@ returns-2 c =
 
 pub prepare-mass-spec : {M : Type 1} → statement M
 prepare-mass-spec =
-    tie.close (tie.spec mass-response-requires returns column-requires column-requires-2 column-requires-3 store-mass-requires same-length
-    returns-2)
+    tie.close (tie.spec
+      (λ c κs. search needs) returns (λ c κs. search needs) (λ c κs. search needs) (λ c κs. search needs)
+      (λ c κs. omega arith) (λ c. search needs) returns-2)

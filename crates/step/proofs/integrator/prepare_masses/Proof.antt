@@ -19,18 +19,6 @@ abbrev μ-loop : tie.MeasureT-loop
 loop-holds : tie.Need-loop-holds Inv-loop μ-loop
 loop-holds c = (omega arith, refl, weigh-none (c .before .args .moved) (c .before .args .n) _)
 
-load-moved-requires : tie.Need-load-moved-requires Inv-loop μ-loop
-load-moved-requires c κs = omega arith
-
-prepare-mass-requires : tie.Need-prepare-mass-requires Inv-loop μ-loop
-prepare-mass-requires c κs = omega arith
-
-done-requires : tie.Need-done-requires Inv-loop μ-loop
-done-requires c κs = search needs
-
-same-length : tie.Need-same-length Inv-loop μ-loop
-same-length c = omega arith
-
 returns : tie.Need-returns Inv-loop μ-loop
 returns c =
     let at-prepare-mass = c .before .before .before .before in let at-load-moved = at-prepare-mass .before .before in
@@ -39,12 +27,6 @@ returns c =
     (weigh-stops (at-entry .args .moved) (at-entry .args .n) _ _ _ (at-loop .loop .inv .2) (at-test .loop-test .taken) (at-entry .pre .1)
     (at-load-moved .load-moved .ensures)
     (failed _ (at-prepare-mass .prepare-mass .result) (c .before .done .ensures) (at-prepare-mass .prepare-mass .ensures) (c .if1 .taken)))
-
-add-k : tie.Need-add-k Inv-loop μ-loop
-add-k c = omega arith
-
-loop-less : tie.Need-loop-less Inv-loop μ-loop
-loop-less c = omega arith
 
 loop-again : tie.Need-loop-again Inv-loop μ-loop
 loop-again c =
@@ -57,9 +39,6 @@ loop-again c =
           (went _ (at-prepare-mass .prepare-mass .result) (c .before .done .ensures) (at-prepare-mass .prepare-mass .ensures) (c .if1 .left)),
     )
 
-same-length-2 : tie.Need-same-length-2 Inv-loop μ-loop
-same-length-2 c = omega arith
-
 returns-2 : tie.Need-returns-2 Inv-loop μ-loop
 returns-2 c =
     let at-entry = c .before .before .before in
@@ -67,5 +46,6 @@ returns-2 c =
 
 pub prepare-masses-spec : {M : Type 1} → statement M
 prepare-masses-spec =
-    tie.close (tie.spec Inv-loop μ-loop loop-holds load-moved-requires prepare-mass-requires done-requires same-length returns add-k
-    loop-less loop-again same-length-2 returns-2)
+    tie.close (tie.spec
+      Inv-loop μ-loop loop-holds (λ c κs. omega arith) (λ c κs. omega arith) (λ c κs. search needs)
+      (λ c. omega arith) returns (λ c. omega arith) (λ c. omega arith) loop-again (λ c. omega arith) returns-2)

@@ -37,15 +37,6 @@ loop-holds c =
       sides-none (at-entry .args .t3) _ _,
     )
 
-mul-joint : tie.Need-mul-joint Inv-loop μ-loop
-mul-joint c = omega arith
-
-array-copy-out-joint : tie.Need-array-copy-out-joint Inv-loop μ-loop
-array-copy-out-joint c = omega arith
-
-row-count-requires : tie.Need-row-count-requires Inv-loop μ-loop
-row-count-requires c κs = omega arith
-
 fill-requires : tie.Need-fill-requires Inv-loop μ-loop
 fill-requires c κs =
     let at-test = c .before .before .before in let at-loop = at-test .before in let at-entry = at-loop .before .before .before in
@@ -84,12 +75,6 @@ add-n c =
       count-most (jointIn (at-entry .args .t3) (at-loop .loop .k) .kind),
     )
 
-add-k : tie.Need-add-k Inv-loop μ-loop
-add-k c = omega arith
-
-loop-less : tie.Need-loop-less Inv-loop μ-loop
-loop-less c = omega arith
-
 loop-again : tie.Need-loop-again Inv-loop μ-loop
 loop-again c =
     let at-fill2 = c .before .before in let at-fill = at-fill2 .before .before .before .before in let at-row-count = at-fill .before .before in
@@ -112,12 +97,6 @@ loop-again c =
           (at-fill .fill .ensures) (at-fill2 .fill2 .ensures),
     )
 
-same-length : tie.Need-same-length Inv-loop μ-loop
-same-length c = omega arith
-
-same-length-2 : tie.Need-same-length-2 Inv-loop μ-loop
-same-length-2 c = omega arith
-
 returns : tie.Need-returns Inv-loop μ-loop
 returns c =
     let at-entry = c .before .before .before .before in (
@@ -128,5 +107,7 @@ returns c =
 
 pub row-bodies-spec : {M : Type 1} → statement M
 row-bodies-spec =
-    tie.close (tie.spec Inv-loop μ-loop loop-holds mul-joint array-copy-out-joint row-count-requires fill-requires fill-requires-2 add-n
-    add-k loop-less loop-again same-length same-length-2 returns)
+    tie.close (tie.spec
+      Inv-loop μ-loop loop-holds (λ c. omega arith) (λ c. omega arith) (λ c κs. omega arith) fill-requires
+      fill-requires-2 add-n (λ c. omega arith) (λ c. omega arith) loop-again (λ c. omega arith)
+      (λ c. omega arith) returns)

@@ -14,24 +14,6 @@ use Rattle.step.proofs.FinishLaws.{started-as, not-started, not-met, al
 use Rattle.step.proofs.integrator.run.Statement.{statement}
 use Rattle.step.proofs.integrator.run.Tie as tie
 
-slice-aggregate-row-bodies : tie.Need-slice-aggregate-row-bodies
-slice-aggregate-row-bodies c = search needs
-
-slice-aggregate-row-bodies-2 : tie.Need-slice-aggregate-row-bodies-2
-slice-aggregate-row-bodies-2 c = search needs
-
-row-bodies-requires : tie.Need-row-bodies-requires
-row-bodies-requires c κs = search needs
-
-start-requires : tie.Need-start-requires
-start-requires c κs = search needs
-
-done-requires : tie.Need-done-requires
-done-requires c κs = search needs
-
-run-ended-requires : tie.Need-run-ended-requires
-run-ended-requires c κs = search needs
-
 same-length : tie.Need-same-length
 same-length c =
     let at-start = c .before .before .before .before .before in let at-row-bodies = at-start .before .before .before .before in
@@ -65,9 +47,6 @@ nonlinear-loop-requires c κs =
       },
       record { joined = at-entry .pre .1; sides = at-row-bodies .row-bodies .ensures .1; rows-are = at-row-bodies .row-bodies .ensures .2 },
     )
-
-done-requires-2 : tie.Need-done-requires-2
-done-requires-2 c κs = search needs
 
 same-length-2 : tie.Need-same-length-2
 same-length-2 c =
@@ -134,9 +113,6 @@ add-run-ended c =
           (omega (arith, at-row-bodies .row-bodies .ensures .0 .most, at-entry .pre .1 .few)) _ _ (at-finish-run .finish-run .ensures),
     )
 
-run-ended-requires-2 : tie.Need-run-ended-requires-2
-run-ended-requires-2 c κs = search needs
-
 same-length-3 : tie.Need-same-length-3
 same-length-3 c =
     let at-finish-run = c .before .before .before .before .before in
@@ -166,6 +142,8 @@ returns-3 c =
 
 pub run-spec : {M : Type 1} → statement M
 run-spec =
-    tie.close (tie.spec slice-aggregate-row-bodies slice-aggregate-row-bodies-2 row-bodies-requires start-requires done-requires
-    run-ended-requires same-length returns nonlinear-loop-requires done-requires-2 same-length-2 returns-2 finish-run-requires add-run-ended
-    run-ended-requires-2 same-length-3 returns-3)
+    tie.close (tie.spec
+      (λ c. search needs) (λ c. search needs) (λ c κs. search needs) (λ c κs. search needs)
+      (λ c κs. search needs) (λ c κs. search needs) same-length returns nonlinear-loop-requires
+      (λ c κs. search needs) same-length-2 returns-2 finish-run-requires add-run-ended (λ c κs. search needs)
+      same-length-3 returns-3)

@@ -11,15 +11,6 @@ use Rattle.step.proofs.LoopLaws.{no-body, no-rows, all-begun}
 use Rattle.step.proofs.integrator.start.Statement.{statement}
 use Rattle.step.proofs.integrator.start.Tie as tie
 
-start-bodies-requires : tie.Need-start-bodies-requires
-start-bodies-requires c κs = search needs
-
-done-requires : tie.Need-done-requires
-done-requires c κs = search needs
-
-same-length : tie.Need-same-length
-same-length c = search needs
-
 returns : tie.Need-returns
 returns c =
     let at-start-bodies = c .before .before .before .before in let at-entry = at-start-bodies .before .before .before .before in
@@ -31,12 +22,6 @@ write-rows-requires c κs =
     let at-start-bodies = c .before .before .before .before .before in let at-entry = at-start-bodies .before .before .before .before in
     (omega (arith, at-entry .pre .0, at-start-bodies .start-bodies .ensures .kept .size), omega arith, joined-sixteen (at-entry .pre .1))
 
-done-requires-2 : tie.Need-done-requires-2
-done-requires-2 c κs = search needs
-
-same-length-2 : tie.Need-same-length-2
-same-length-2 c = search needs
-
 returns-2 : tie.Need-returns-2
 returns-2 c =
     let at-write-rows = c .before .before .before .before in let at-if1 = at-write-rows .before .before in let at-done = at-if1 .before in
@@ -45,12 +30,6 @@ returns-2 c =
     (went _ (at-start-bodies .start-bodies .result) (at-done .done .ensures) (at-start-bodies .start-bodies .ensures) (at-if1 .if1 .left)) _
     (at-write-rows .write-rows .result) (c .before .done2 .ensures) (c .if2 .taken) _
     (at-write-rows .write-rows .ensures (bodyCount (now (at-entry .args .bodies))) (at-entry .pre .1) ia ib S) _
-
-prepare-masses-requires : tie.Need-prepare-masses-requires
-prepare-masses-requires c κs = search needs
-
-same-length-3 : tie.Need-same-length-3
-same-length-3 c = search needs
 
 returns-3 : tie.Need-returns-3
 returns-3 c =
@@ -66,5 +45,6 @@ returns-3 c =
 
 pub start-spec : {M : Type 1} → statement M
 start-spec =
-    tie.close (tie.spec start-bodies-requires done-requires same-length returns write-rows-requires done-requires-2 same-length-2 returns-2
-    prepare-masses-requires same-length-3 returns-3)
+    tie.close (tie.spec
+      (λ c κs. search needs) (λ c κs. search needs) (λ c. search needs) returns write-rows-requires
+      (λ c κs. search needs) (λ c. search needs) returns-2 (λ c κs. search needs) (λ c. search needs) returns-3)

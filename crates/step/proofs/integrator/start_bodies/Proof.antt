@@ -21,27 +21,6 @@ loop-holds c =
     let at-entry = c .before .before in
     (omega arith, refl, begin-none (now (at-entry .args .bodies)) (at-entry .args .n) _)
 
-load-record-requires : tie.Need-load-record-requires Inv-loop μ-loop
-load-record-requires c κs = omega arith
-
-inverse-spd-requires : tie.Need-inverse-spd-requires Inv-loop μ-loop
-inverse-spd-requires c κs = omega arith
-
-new-requires : tie.Need-new-requires Inv-loop μ-loop
-new-requires c κs = omega arith
-
-enum-told : tie.Need-enum-told Inv-loop μ-loop
-enum-told c = search needs
-
-store-start-requires : tie.Need-store-start-requires Inv-loop μ-loop
-store-start-requires c κs = omega arith
-
-enum-told-2 : tie.Need-enum-told-2 Inv-loop μ-loop
-enum-told-2 c = search needs
-
-same-length : tie.Need-same-length Inv-loop μ-loop
-same-length c = omega arith
-
 returns : tie.Need-returns Inv-loop μ-loop
 returns c =
     let at-inverse-spd = c .before .before .before in let at-load-record = at-inverse-spd .before .before in let at-test = at-load-record .before in
@@ -50,12 +29,6 @@ returns c =
     (at-load-record .load-record .ensures) (at-inverse-spd .inverse-spd .ensures) refl
     (answer-nonconvergent _ _ (c .before .before .new .ensures) (c .enum-told2 .given .1))
 
-enum-told-3 : tie.Need-enum-told-3 Inv-loop μ-loop
-enum-told-3 c = search needs
-
-same-length-2 : tie.Need-same-length-2 Inv-loop μ-loop
-same-length-2 c = omega arith
-
 returns-2 : tie.Need-returns-2 Inv-loop μ-loop
 returns-2 c =
     let at-inverse-spd = c .before .before .before in let at-load-record = at-inverse-spd .before .before in let at-test = at-load-record .before in
@@ -63,12 +36,6 @@ returns-2 c =
     begin-stops (now (at-entry .args .bodies)) (at-entry .args .n) _ _ _ (at-loop .loop .inv .2) (at-test .loop-test .taken) (at-entry .pre .2) _
     (at-load-record .load-record .ensures) (at-inverse-spd .inverse-spd .ensures) refl
     (answer-overflow _ _ (c .before .before .new .ensures) (c .enum-told3 .given .1))
-
-add-k : tie.Need-add-k Inv-loop μ-loop
-add-k c = omega arith
-
-loop-less : tie.Need-loop-less Inv-loop μ-loop
-loop-less c = omega arith
 
 loop-again : tie.Need-loop-again Inv-loop μ-loop
 loop-again c =
@@ -82,9 +49,6 @@ loop-again c =
           (answer-done _ _ (at-new .new .ensures) (at-enum-told .enum-told .given .1)) (c .before .before .store-start .ensures),
     )
 
-same-length-3 : tie.Need-same-length-3 Inv-loop μ-loop
-same-length-3 c = omega arith
-
 returns-3 : tie.Need-returns-3 Inv-loop μ-loop
 returns-3 c =
     let at-entry = c .before .before .before .before in
@@ -93,5 +57,8 @@ returns-3 c =
 
 pub start-bodies-spec : {M : Type 1} → statement M
 start-bodies-spec =
-    tie.close (tie.spec Inv-loop μ-loop loop-holds load-record-requires inverse-spd-requires new-requires enum-told store-start-requires
-    enum-told-2 same-length returns enum-told-3 same-length-2 returns-2 add-k loop-less loop-again same-length-3 returns-3)
+    tie.close (tie.spec
+      Inv-loop μ-loop loop-holds (λ c κs. omega arith) (λ c κs. omega arith) (λ c κs. omega arith)
+      (λ c. search needs) (λ c κs. omega arith) (λ c. search needs) (λ c. omega arith) returns
+      (λ c. search needs) (λ c. omega arith) returns-2 (λ c. omega arith) (λ c. omega arith) loop-again
+      (λ c. omega arith) returns-3)

@@ -31,12 +31,6 @@ loop-holds c = (
       (c .before .args .rows) _ size J ia ib S,
 )
 
-mul-joint : tie.Need-mul-joint Inv-loop μ-loop
-mul-joint c = omega arith
-
-array-copy-out-joint : tie.Need-array-copy-out-joint Inv-loop μ-loop
-array-copy-out-joint c = omega arith
-
 load-moved-requires : tie.Need-load-moved-requires Inv-loop μ-loop
 load-moved-requires c κs =
     let at-entry = c .before .before .before .before .before in
@@ -46,18 +40,6 @@ load-moved-requires-2 : tie.Need-load-moved-requires-2 Inv-loop μ-loop
 load-moved-requires-2 c κs =
     let at-test = c .before .before .before .before in let at-entry = at-test .before .before .before in
     (omega arith, at-entry .pre .2 .b-there _ (at-test .loop-test .taken))
-
-mul-write-equality-rows : tie.Need-mul-write-equality-rows Inv-loop μ-loop
-mul-write-equality-rows c = omega arith
-
-add-write-equality-rows : tie.Need-add-write-equality-rows Inv-loop μ-loop
-add-write-equality-rows c = omega arith
-
-write-equality-rows-requires : tie.Need-write-equality-rows-requires Inv-loop μ-loop
-write-equality-rows-requires c κs = omega arith
-
-enum-known-m : tie.Need-enum-known-m Inv-loop μ-loop
-enum-known-m c = search needs
 
 add-n : tie.Need-add-n Inv-loop μ-loop
 add-n c =
@@ -72,12 +54,6 @@ add-n c =
       written-most (at-write-equality-rows .write-equality-rows .ensures) _ (c .before .m .given .1),
     )
 
-enum-told : tie.Need-enum-told Inv-loop μ-loop
-enum-told c = search needs
-
-same-length : tie.Need-same-length Inv-loop μ-loop
-same-length c = omega arith
-
 returns : tie.Need-returns Inv-loop μ-loop
 returns c =
     let at-write-equality-rows = c .before .before .before .before in let at-load-moved2 = at-write-equality-rows .before .before in
@@ -87,12 +63,6 @@ returns c =
     S (at-loop .loop .k) _ _ (at-loop .loop .inv .4 size J ia ib S) (at-test .loop-test .taken) (omega arith) (at-entry .pre .1)
     (at-loop .loop .inv .3) (at-load-moved .load-moved .ensures) (at-load-moved2 .load-moved2 .ensures) _
     (at-write-equality-rows .write-equality-rows .ensures) (c .enum-told .given .1)
-
-enum-told-2 : tie.Need-enum-told-2 Inv-loop μ-loop
-enum-told-2 c = search needs
-
-same-length-2 : tie.Need-same-length-2 Inv-loop μ-loop
-same-length-2 c = omega arith
 
 returns-2 : tie.Need-returns-2 Inv-loop μ-loop
 returns-2 c =
@@ -110,9 +80,6 @@ add-k c =
     let at-test = at-write-equality-rows-arg .before .before .before .before .before .before in let at-loop = at-test .before in
     let at-entry = at-loop .before .before in
     omega (arith, at-loop .loop .inv, at-test .loop-test .taken, at-entry .pre)
-
-loop-less : tie.Need-loop-less Inv-loop μ-loop
-loop-less c = omega arith
 
 loop-again : tie.Need-loop-again Inv-loop μ-loop
 loop-again c =
@@ -136,9 +103,6 @@ loop-again c =
           (at-write-equality-rows .write-equality-rows .ensures) (c .before .m .given .1),
     )
 
-same-length-3 : tie.Need-same-length-3 Inv-loop μ-loop
-same-length-3 c = omega arith
-
 returns-3 : tie.Need-returns-3 Inv-loop μ-loop
 returns-3 c =
     let at-entry = c .before .before .before in
@@ -147,6 +111,8 @@ returns-3 c =
 
 pub write-rows-spec : {M : Type 1} → statement M
 write-rows-spec =
-    tie.close (tie.spec Inv-loop μ-loop loop-holds mul-joint array-copy-out-joint load-moved-requires load-moved-requires-2
-    mul-write-equality-rows add-write-equality-rows write-equality-rows-requires enum-known-m add-n enum-told same-length returns
-    enum-told-2 same-length-2 returns-2 add-k loop-less loop-again same-length-3 returns-3)
+    tie.close (tie.spec
+      Inv-loop μ-loop loop-holds (λ c. omega arith) (λ c. omega arith) load-moved-requires load-moved-requires-2
+      (λ c. omega arith) (λ c. omega arith) (λ c κs. omega arith) (λ c. search needs) add-n (λ c. search needs)
+      (λ c. omega arith) returns (λ c. search needs) (λ c. omega arith) returns-2 add-k (λ c. omega arith)
+      loop-again (λ c. omega arith) returns-3)

@@ -13,9 +13,6 @@ transpose-requires c κs =
     let at-entry = c .before .before in
     (at-entry .pre .ready, record { low = omega arith; apart = omega arith; there = omega (arith, at-entry .pre .long) })
 
-done-requires : tie.Need-done-requires
-done-requires c κs = search needs
-
 same-length : tie.Need-same-length
 same-length c =
     let at-transpose = c .before .before .before .before in
@@ -48,4 +45,6 @@ returns-2 c =
 
 pub apply-spec : {M : Type 1} → statement M
 apply-spec =
-    tie.close (tie.spec transpose-requires done-requires same-length returns kick-candidates-requires same-length-2 returns-2)
+    tie.close (tie.spec
+      transpose-requires (λ c κs. search needs) same-length returns kick-candidates-requires same-length-2
+      returns-2)

@@ -16,32 +16,11 @@ Inv-loop s n k₀ k = (k ≤ n) × (true ≡ every k (small s n))
 abbrev μ-loop : tie.MeasureT-loop
 μ-loop s n k₀ k = n - k
 
-loop-holds : tie.Need-loop-holds Inv-loop μ-loop
-loop-holds c = (omega arith, every-none _)
-
-add-abs : tie.Need-add-abs Inv-loop μ-loop
-add-abs c = omega arith
-
-mul-abs : tie.Need-mul-abs Inv-loop μ-loop
-mul-abs c = omega arith
-
-shared-slice-read-abs : tie.Need-shared-slice-read-abs Inv-loop μ-loop
-shared-slice-read-abs c = omega arith
-
-abs-requires : tie.Need-abs-requires Inv-loop μ-loop
-abs-requires c κs = omega arith
-
 returns : tie.Need-returns Inv-loop μ-loop
 returns c =
     let at-test = c .before .before .before in let at-entry = at-test .before .before .before in
     compatible-fails (now (at-entry .args .s)) _ (at-test .loop-test .taken)
     (small-is (now (at-entry .args .s)) _ (at-test .loop-test .taken) (c .before .abs .ensures) tenth-12 (c .if1 .left))
-
-add-k : tie.Need-add-k Inv-loop μ-loop
-add-k c = omega arith
-
-loop-less : tie.Need-loop-less Inv-loop μ-loop
-loop-less c = omega arith
 
 loop-again : tie.Need-loop-again Inv-loop μ-loop
 loop-again c =
@@ -58,5 +37,7 @@ returns-2 c =
 
 pub compatible-spec : {M : Type 1} → statement M
 compatible-spec =
-    tie.close (tie.spec Inv-loop μ-loop loop-holds add-abs mul-abs shared-slice-read-abs abs-requires returns add-k loop-less loop-again
-    returns-2)
+    tie.close (tie.spec
+      Inv-loop μ-loop (λ c. (omega arith, every-none _)) (λ c. omega arith) (λ c. omega arith)
+      (λ c. omega arith) (λ c κs. omega arith) returns (λ c. omega arith) (λ c. omega arith) loop-again
+      returns-2)

@@ -9,15 +9,6 @@ use Rattle.step.proofs.VelocityLaws.{rest-unsolved, rest-kicked, rest-n
 use Rattle.step.proofs.velocity.correct_velocities.Statement.{statement}
 use Rattle.step.proofs.velocity.correct_velocities.Tie as tie
 
-linear-solve-requires : tie.Need-linear-solve-requires
-linear-solve-requires c κs = c .before .before .pre .ready
-
-done-requires : tie.Need-done-requires
-done-requires c κs = search needs
-
-pass-ended-requires : tie.Need-pass-ended-requires
-pass-ended-requires c κs = search needs
-
 same-length : tie.Need-same-length
 same-length c =
     let at-linear-solve = c .before .before .before .before .before in
@@ -38,12 +29,6 @@ apply-requires c κs =
       long = omega (arith, at-entry .pre .long, at-linear-solve .linear-solve .ensures .0 .kept .size);
     }
 
-done-requires-2 : tie.Need-done-requires-2
-done-requires-2 c κs = search needs
-
-pass-ended-requires-2 : tie.Need-pass-ended-requires-2
-pass-ended-requires-2 c κs = search needs
-
 same-length-2 : tie.Need-same-length-2
 same-length-2 c =
     let at-apply = c .before .before .before .before .before in let at-linear-solve = at-apply .before .before .before .before .before .before in
@@ -57,9 +42,6 @@ returns-2 c =
     (rest-not-kicked (at-entry .args .cyclic) (at-entry .args .t) (at-entry .pre .ready) (at-linear-solve .linear-solve .result)
     (at-linear-solve .linear-solve .ensures .0) (at-done .done .ensures) (at-if1 .if1 .left) (at-apply .apply .result) (at-apply .apply .ensures)
     (c .before .before .done2 .ensures) (c .before .if2 .taken))
-
-pass-ended-requires-3 : tie.Need-pass-ended-requires-3
-pass-ended-requires-3 c κs = search needs
 
 same-length-3 : tie.Need-same-length-3
 same-length-3 c =
@@ -77,5 +59,7 @@ returns-3 c =
 
 pub correct-velocities-spec : {M : Type 1} → statement M
 correct-velocities-spec =
-    tie.close (tie.spec linear-solve-requires done-requires pass-ended-requires same-length returns apply-requires done-requires-2
-    pass-ended-requires-2 same-length-2 returns-2 pass-ended-requires-3 same-length-3 returns-3)
+    tie.close (tie.spec
+      (λ c κs. c .before .before .pre .ready) (λ c κs. search needs) (λ c κs. search needs) same-length returns
+      apply-requires (λ c κs. search needs) (λ c κs. search needs) same-length-2 returns-2
+      (λ c κs. search needs) same-length-3 returns-3)

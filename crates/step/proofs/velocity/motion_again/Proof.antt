@@ -9,11 +9,6 @@ returns c =
     let at-entry = c .before .before .before in
     motion-known (at-entry .pre .2) (c .if1 .taken) (at-entry .pre .1)
 
-motion-of-requires : tie.Need-motion-of-requires
-motion-of-requires c κs = search needs
-
-returns-2 : tie.Need-returns-2
-returns-2 c = search needs
-
 pub motion-again-spec : {M : Type 1} → statement M
-motion-again-spec = tie.close (tie.spec returns motion-of-requires returns-2)
+motion-again-spec =
+    tie.close (tie.spec returns (λ c κs. search needs) (λ c. search needs))

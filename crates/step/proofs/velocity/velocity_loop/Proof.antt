@@ -48,12 +48,6 @@ add-linear c =
           (at-entry .args .cyclic) _ (at-velocity-pass .velocity-pass .ensures .is),
     )
 
-enum-known-pass : tie.Need-enum-known-pass Inv-loop μ-loop
-enum-known-pass c = search needs
-
-loop-ended-requires : tie.Need-loop-ended-requires Inv-loop μ-loop
-loop-ended-requires c κs = omega arith
-
 same-length : tie.Need-same-length Inv-loop μ-loop
 same-length c =
     let at-s = c .before .before .before .before .before .before in let at-velocity-pass = at-s .before in
@@ -71,9 +65,6 @@ returns c =
     (same-pass (at-entry .args .cyclic) (at-entry .args .t) (at-entry .pre .ready)) (at-loop .loop .inv .3)
     (at-velocity-pass .velocity-pass .result) (at-velocity-pass .velocity-pass .ensures) (at-test .loop-test .taken)
     (c .before .before .pass .given .1)))
-
-enum-told : tie.Need-enum-told Inv-loop μ-loop
-enum-told c = search needs
 
 add-k : tie.Need-add-k Inv-loop μ-loop
 add-k c =
@@ -103,12 +94,6 @@ loop-again c =
           (at-velocity-pass .velocity-pass .result) (at-velocity-pass .velocity-pass .ensures) (at-test .loop-test .taken) (c .enum-told .given .1),
     )
 
-loop-ended-requires-2 : tie.Need-loop-ended-requires-2 Inv-loop μ-loop
-loop-ended-requires-2 c κs = omega arith
-
-same-length-2 : tie.Need-same-length-2 Inv-loop μ-loop
-same-length-2 c = c .before .before .loop .inv .1
-
 returns-2 : tie.Need-returns-2 Inv-loop μ-loop
 returns-2 c =
     let at-entry = c .before .before .before .before in
@@ -119,5 +104,7 @@ returns-2 c =
 
 pub velocity-loop-spec : {M : Type 1} → statement M
 velocity-loop-spec =
-    tie.close (tie.spec Inv-loop μ-loop loop-holds velocity-pass-requires add-linear enum-known-pass loop-ended-requires same-length returns
-    enum-told add-k loop-less loop-again loop-ended-requires-2 same-length-2 returns-2)
+    tie.close (tie.spec
+      Inv-loop μ-loop loop-holds velocity-pass-requires add-linear (λ c. search needs) (λ c κs. omega arith)
+      same-length returns (λ c. search needs) add-k loop-less loop-again (λ c κs. omega arith)
+      (λ c. c .before .before .loop .inv .1) returns-2)

@@ -14,12 +14,6 @@ velocity-rhs-requires c κs =
     let at-entry = c .before .before in
     record { ready = at-entry .pre .ready; long = at-entry .pre .long }
 
-done-requires : tie.Need-done-requires
-done-requires c κs = search needs
-
-pass-ended-requires : tie.Need-pass-ended-requires
-pass-ended-requires c κs = search needs
-
 same-length : tie.Need-same-length
 same-length c =
     let at-velocity-rhs = c .before .before .before .before .before in
@@ -36,9 +30,6 @@ compatible-requires : tie.Need-compatible-requires
 compatible-requires c κs =
     let at-velocity-rhs = c .before .before .before .before .before in let at-entry = at-velocity-rhs .before .before .before in
     (omega (arith, at-entry .pre .long, at-velocity-rhs .velocity-rhs .ensures .kept .size), at-entry .pre .ready .most)
-
-pass-ended-requires-2 : tie.Need-pass-ended-requires-2
-pass-ended-requires-2 c κs = search needs
 
 same-length-2 : tie.Need-same-length-2
 same-length-2 c =
@@ -80,5 +71,7 @@ returns-3 c =
 
 pub velocity-pass-spec : {M : Type 1} → statement M
 velocity-pass-spec =
-    tie.close (tie.spec velocity-rhs-requires done-requires pass-ended-requires same-length returns compatible-requires
-    pass-ended-requires-2 same-length-2 returns-2 correct-velocities-requires same-length-3 returns-3)
+    tie.close (tie.spec
+      velocity-rhs-requires (λ c κs. search needs) (λ c κs. search needs) same-length returns
+      compatible-requires (λ c κs. search needs) same-length-2 returns-2 correct-velocities-requires
+      same-length-3 returns-3)

@@ -17,12 +17,6 @@ Inv-loop s₀ ia ib t n a₀ b₀ k₀ s a b k =
 abbrev μ-loop : tie.MeasureT-loop
 μ-loop s₀ ia ib t n a₀ b₀ k₀ s a b k = n - k
 
-no-motion-requires : tie.Need-no-motion-requires Inv-loop μ-loop
-no-motion-requires c κs = omega arith
-
-no-motion-requires-2 : tie.Need-no-motion-requires-2 Inv-loop μ-loop
-no-motion-requires-2 c κs = omega arith
-
 loop-holds : tie.Need-loop-holds Inv-loop μ-loop
 loop-holds c =
     let at-entry = c .before .before .before in (
@@ -69,15 +63,6 @@ motion-again-requires-2 c κs =
       ),
       at-loop .loop .inv .4,
     )
-
-velocity-requires : tie.Need-velocity-requires Inv-loop μ-loop
-velocity-requires c κs = omega arith
-
-enum-known-value : tie.Need-enum-known-value Inv-loop μ-loop
-enum-known-value c = search needs
-
-enum-told : tie.Need-enum-told Inv-loop μ-loop
-enum-told c = search needs
 
 same-length : tie.Need-same-length Inv-loop μ-loop
 same-length c =
@@ -141,9 +126,6 @@ loop-again c =
           (at-motion-again2 .motion-again2 .ensures),
     )
 
-same-length-2 : tie.Need-same-length-2 Inv-loop μ-loop
-same-length-2 c = omega arith
-
 returns-2 : tie.Need-returns-2 Inv-loop μ-loop
 returns-2 c =
     let at-entry = c .before .before .before .before .before in
@@ -151,6 +133,8 @@ returns-2 c =
 
 pub velocity-rhs-spec : {M : Type 1} → statement M
 velocity-rhs-spec =
-    tie.close (tie.spec Inv-loop μ-loop no-motion-requires no-motion-requires-2 loop-holds load-row-requires motion-again-requires
-    motion-again-requires-2 velocity-requires enum-known-value enum-told same-length returns add-s mul-s slice-write-s add-k loop-less
-    loop-again same-length-2 returns-2)
+    tie.close (tie.spec
+      Inv-loop μ-loop (λ c κs. omega arith) (λ c κs. omega arith) loop-holds load-row-requires
+      motion-again-requires motion-again-requires-2 (λ c κs. omega arith) (λ c. search needs)
+      (λ c. search needs) same-length returns add-s mul-s slice-write-s add-k loop-less loop-again
+      (λ c. omega arith) returns-2)

@@ -5,9 +5,6 @@ use borrow.Author.Needs.{needs}
 use Rattle.vectors.proofs.matrix.above_zero.Statement.{statement}
 use Rattle.vectors.proofs.matrix.above_zero.Tie as tie
 
-is-finite-requires : tie.Need-is-finite-requires
-is-finite-requires c κs = search needs
-
 returns : tie.Need-returns
 unfolding ofBits round
 returns c = simp (sym (c .before .is-finite .ensures) ∙ c .if1 .taken)
@@ -16,4 +13,5 @@ returns-2 : tie.Need-returns-2
 returns-2 c = simp (sym (c .before .is-finite .ensures) ∙ c .if1 .left)
 
 pub above-zero-spec : {M : Type 1} → statement M
-above-zero-spec = tie.close (tie.spec is-finite-requires returns returns-2)
+above-zero-spec =
+    tie.close (tie.spec (λ c κs. search needs) returns returns-2)

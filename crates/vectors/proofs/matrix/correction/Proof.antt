@@ -21,36 +21,6 @@ loop-holds : tie.Need-loop-holds Inv-loop μ-loop
 unfolding ofBits round
 loop-holds c = (omega arith, turns-none _ _)
 
-mul-total : tie.Need-mul-total Inv-loop μ-loop
-mul-total c = omega arith
-
-mul-total-2 : tie.Need-mul-total-2 Inv-loop μ-loop
-mul-total-2 c = omega arith
-
-index-1-total : tie.Need-index-1-total Inv-loop μ-loop
-index-1-total c = omega arith
-
-index-2-total : tie.Need-index-2-total Inv-loop μ-loop
-index-2-total c = omega arith
-
-mul-total-3 : tie.Need-mul-total-3 Inv-loop μ-loop
-mul-total-3 c = omega arith
-
-mul-total-4 : tie.Need-mul-total-4 Inv-loop μ-loop
-mul-total-4 c = omega arith
-
-index-1-total-2 : tie.Need-index-1-total-2 Inv-loop μ-loop
-index-1-total-2 c = omega arith
-
-index-2-total-2 : tie.Need-index-2-total-2 Inv-loop μ-loop
-index-2-total-2 c = omega arith
-
-add-k : tie.Need-add-k Inv-loop μ-loop
-add-k c = omega arith
-
-loop-less : tie.Need-loop-less Inv-loop μ-loop
-loop-less c = omega arith
-
 loop-again : tie.Need-loop-again Inv-loop μ-loop
 loop-again c =
     let at-loop = c .before .before .before in (
@@ -65,20 +35,7 @@ returns c = turns-end _ _ (c .before .loop .inv .0) (c .loop-test .left) (c .bef
 
 pub correction-spec : {M : Type 1} → statement M
 correction-spec =
-    tie.close
-    (tie.spec
-    Inv-loop
-    μ-loop
-    loop-holds
-    mul-total
-    mul-total-2
-    index-1-total
-    index-2-total
-    mul-total-3
-    mul-total-4
-    index-1-total-2
-    index-2-total-2
-    add-k
-    loop-less
-    loop-again
-    returns)
+    tie.close (tie.spec
+      Inv-loop μ-loop loop-holds (λ c. omega arith) (λ c. omega arith) (λ c. omega arith) (λ c. omega arith)
+      (λ c. omega arith) (λ c. omega arith) (λ c. omega arith) (λ c. omega arith) (λ c. omega arith)
+      (λ c. omega arith) loop-again returns)

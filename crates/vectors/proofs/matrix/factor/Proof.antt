@@ -16,12 +16,6 @@ Inv-loop n lower₀ row₀ lower row = (row ≤ 3) × (go lower ≡ loop row (fa
 abbrev μ-loop : tie.MeasureT-loop
 μ-loop n lower₀ row₀ lower row = 3 - row
 
-loop-holds : tie.Need-loop-holds Inv-loop μ-loop
-loop-holds c = (omega arith, loop-none _ _)
-
-factor-row-requires : tie.Need-factor-row-requires Inv-loop μ-loop
-factor-row-requires c κs = omega arith
-
 returns : tie.Need-returns Inv-loop μ-loop
 unfolding factorOf
 returns c =
@@ -29,12 +23,6 @@ returns c =
     loop-stop (factorRowOf (now (at-loop-test .before .before .args .n)))
     (now (at-loop-test .before .before .args .lower)) _ (at-loop-test .loop-test .taken)
     (at-loop-test .before .loop .inv .1) (was-no (c .before .factor-row .result) (c .before .factor-row .ensures) (c .if1 .taken))
-
-add-row : tie.Need-add-row Inv-loop μ-loop
-add-row c = omega arith
-
-loop-less : tie.Need-loop-less Inv-loop μ-loop
-loop-less c = omega arith
 
 loop-again : tie.Need-loop-again Inv-loop μ-loop
 loop-again c =
@@ -52,14 +40,6 @@ returns-2 c =
 
 pub factor-spec : {M : Type 1} → statement M
 factor-spec =
-    tie.close
-    (tie.spec
-    Inv-loop
-    μ-loop
-    loop-holds
-    factor-row-requires
-    returns
-    add-row
-    loop-less
-    loop-again
-    returns-2)
+    tie.close (tie.spec
+      Inv-loop μ-loop (λ c. (omega arith, loop-none _ _)) (λ c κs. omega arith) returns (λ c. omega arith)
+      (λ c. omega arith) loop-again returns-2)

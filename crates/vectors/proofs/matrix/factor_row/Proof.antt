@@ -16,15 +16,6 @@ Inv-loop n lower₀ row column₀ column-end lower column = (column ≤ row + 1)
 abbrev μ-loop : tie.MeasureT-loop
 μ-loop n lower₀ row column₀ column-end lower column = row + 1 - column
 
-add-column-end : tie.Need-add-column-end Inv-loop μ-loop
-add-column-end c = omega arith
-
-loop-holds : tie.Need-loop-holds Inv-loop μ-loop
-loop-holds c = (omega arith, loop-none _ _)
-
-place-requires : tie.Need-place-requires Inv-loop μ-loop
-place-requires c κs = omega arith
-
 returns : tie.Need-returns Inv-loop μ-loop
 unfolding factorRowOf
 returns c =
@@ -32,12 +23,6 @@ returns c =
     loop-stop (placeOf (now (at-loop-test .before .before .args .n)) (at-loop-test .before .before .args .row))
     (now (at-loop-test .before .before .args .lower)) _ (at-loop-test .loop-test .taken) (at-loop-test .before .loop .inv .1)
     (was-no (c .before .place .result) (c .before .place .ensures) (c .if1 .taken))
-
-add-column : tie.Need-add-column Inv-loop μ-loop
-add-column c = omega arith
-
-loop-less : tie.Need-loop-less Inv-loop μ-loop
-loop-less c = omega arith
 
 loop-again : tie.Need-loop-again Inv-loop μ-loop
 loop-again c =
@@ -55,15 +40,6 @@ returns-2 c =
 
 pub factor-row-spec : {M : Type 1} → statement M
 factor-row-spec =
-    tie.close
-    (tie.spec
-    Inv-loop
-    μ-loop
-    add-column-end
-    loop-holds
-    place-requires
-    returns
-    add-column
-    loop-less
-    loop-again
-    returns-2)
+    tie.close (tie.spec
+      Inv-loop μ-loop (λ c. omega arith) (λ c. (omega arith, loop-none _ _)) (λ c κs. omega arith) returns
+      (λ c. omega arith) (λ c. omega arith) loop-again returns-2)

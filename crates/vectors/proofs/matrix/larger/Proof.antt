@@ -3,24 +3,6 @@ use borrow.Author.Needs.{needs}
 use Rattle.vectors.proofs.matrix.larger.Statement.{statement}
 use Rattle.vectors.proofs.matrix.larger.Tie as tie
 
-abs-requires : tie.Need-abs-requires
-abs-requires c κs = search needs
-
-max-requires : tie.Need-max-requires
-max-requires c κs = search needs
-
-abs-requires-2 : tie.Need-abs-requires-2
-abs-requires-2 c κs = search needs
-
-max-requires-2 : tie.Need-max-requires-2
-max-requires-2 c κs = search needs
-
-abs-requires-3 : tie.Need-abs-requires-3
-abs-requires-3 c κs = search needs
-
-max-requires-3 : tie.Need-max-requires-3
-max-requires-3 c κs = search needs
-
 returns : tie.Need-returns
 returns c =
     let at-abs2 = c .before .before .before in
@@ -35,12 +17,6 @@ returns c =
 
 pub larger-spec : {M : Type 1} → statement M
 larger-spec =
-    tie.close
-    (tie.spec
-    abs-requires
-    max-requires
-    abs-requires-2
-    max-requires-2
-    abs-requires-3
-    max-requires-3
-    returns)
+    tie.close (tie.spec
+      (λ c κs. search needs) (λ c κs. search needs) (λ c κs. search needs) (λ c κs. search needs)
+      (λ c κs. search needs) (λ c κs. search needs) returns)

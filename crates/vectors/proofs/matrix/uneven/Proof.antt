@@ -4,12 +4,10 @@ use borrow.Author.Needs.{needs}
 use Rattle.vectors.proofs.matrix.uneven.Statement.{statement}
 use Rattle.vectors.proofs.matrix.uneven.Tie as tie
 
-abs-requires : tie.Need-abs-requires
-abs-requires c κs = search needs
-
 returns : tie.Need-returns
 unfolding ofBits round
 returns c = simp (c .abs .ensures)
 
 pub uneven-spec : {M : Type 1} → statement M
-uneven-spec = tie.close (tie.spec abs-requires returns)
+uneven-spec =
+    tie.close (tie.spec (λ c κs. search needs) returns)

@@ -4,12 +4,10 @@ use borrow.Author.Needs.{needs}
 use Rattle.vectors.proofs.matrix.unfactored.Statement.{statement}
 use Rattle.vectors.proofs.matrix.unfactored.Tie as tie
 
-zero-requires : tie.Need-zero-requires
-zero-requires c κs = search needs
-
 returns : tie.Need-returns
 unfolding ofBits round
 returns c = simp (c .zero .ensures)
 
 pub unfactored-spec : {M : Type 1} → statement M
-unfactored-spec = tie.close (tie.spec zero-requires returns)
+unfactored-spec =
+    tie.close (tie.spec (λ c κs. search needs) returns)

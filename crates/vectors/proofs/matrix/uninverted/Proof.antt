@@ -4,12 +4,10 @@ use borrow.Author.Needs.{needs}
 use Rattle.vectors.proofs.matrix.uninverted.Statement.{statement}
 use Rattle.vectors.proofs.matrix.uninverted.Tie as tie
 
-zero-requires : tie.Need-zero-requires
-zero-requires c κs = search needs
-
 returns : tie.Need-returns
 unfolding ofBits round
 returns c = simp (c .zero .ensures)
 
 pub uninverted-spec : {M : Type 1} → statement M
-uninverted-spec = tie.close (tie.spec zero-requires returns)
+uninverted-spec =
+    tie.close (tie.spec (λ c κs. search needs) returns)

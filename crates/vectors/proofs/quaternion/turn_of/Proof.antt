@@ -4,26 +4,14 @@ use borrow.Author.Needs.{needs}
 use Rattle.vectors.proofs.quaternion.turn_of.Statement.{statement}
 use Rattle.vectors.proofs.quaternion.turn_of.Tie as tie
 
-is-finite-requires : tie.Need-is-finite-requires
-is-finite-requires c κs = search needs
-
 returns : tie.Need-returns
 returns c = delta-wild _ (c .before .is-finite .ensures) (c .if1 .taken)
-
-length-requires : tie.Need-length-requires
-length-requires c κs = search needs
-
-is-finite-requires-2 : tie.Need-is-finite-requires-2
-is-finite-requires-2 c κs = search needs
 
 returns-2 : tie.Need-returns-2
 returns-2 c =
     let at-if1 = c .before .before .before in
     delta-long _ (at-if1 .before .is-finite .ensures) (at-if1 .if1 .left)
     (c .before .before .length .ensures) (c .before .is-finite2 .ensures) (c .if2 .taken)
-
-small-turn-requires : tie.Need-small-turn-requires
-small-turn-requires c κs = search needs
 
 returns-3 : tie.Need-returns-3
 returns-3 c =
@@ -33,15 +21,6 @@ returns-3 c =
     (at-is-finite2 .before .length .ensures) (at-is-finite2 .is-finite2 .ensures) (c .before .before .if2 .left) tiny-is
     (c .before .if3 .taken) (c .small-turn .ensures)
 
-sin-cos-requires : tie.Need-sin-cos-requires
-sin-cos-requires c κs = search needs
-
-enum-known-turn : tie.Need-enum-known-turn
-enum-known-turn c = search needs
-
-enum-told : tie.Need-enum-told
-enum-told c = search needs
-
 returns-4 : tie.Need-returns-4
 returns-4 c =
     let at-if3 = c .before .before .before in
@@ -49,9 +28,6 @@ returns-4 c =
     delta-refused _ (at-length .before .before .is-finite .ensures) (at-length .before .if1 .left)
     (at-length .length .ensures) (at-if3 .before .before .is-finite2 .ensures) (at-if3 .before .if2 .left) tiny-is
     (at-if3 .if3 .left) half-is (c .before .before .sin-cos .ensures .is) (c .enum-told .given .1)
-
-div-requires : tie.Need-div-requires
-div-requires c κs = search needs
 
 returns-5 : tie.Need-returns-5
 returns-5 c =
@@ -66,18 +42,7 @@ returns-5 c =
 
 pub turn-of-spec : {M : Type 1} → statement M
 turn-of-spec =
-    tie.close
-    (tie.spec
-    is-finite-requires
-    returns
-    length-requires
-    is-finite-requires-2
-    returns-2
-    small-turn-requires
-    returns-3
-    sin-cos-requires
-    enum-known-turn
-    enum-told
-    returns-4
-    div-requires
-    returns-5)
+    tie.close (tie.spec
+      (λ c κs. search needs) returns (λ c κs. search needs) (λ c κs. search needs) returns-2
+      (λ c κs. search needs) returns-3 (λ c κs. search needs) (λ c. search needs) (λ c. search needs) returns-4
+      (λ c κs. search needs) returns-5)

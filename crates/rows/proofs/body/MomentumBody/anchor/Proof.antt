@@ -6,24 +6,6 @@ use borrow.Author.Needs.{needs}
 use Rattle.rows.proofs.body.MomentumBody.anchor.Statement.{statement}
 use Rattle.rows.proofs.body.MomentumBody.anchor.Tie as tie
 
-sub-requires : tie.Need-sub-requires
-sub-requires c κs = search needs
-
-rotate-vector-requires : tie.Need-rotate-vector-requires
-rotate-vector-requires c κs = search needs
-
-enum-known-arm : tie.Need-enum-known-arm
-enum-known-arm c = search needs
-
-add-requires : tie.Need-add-requires
-add-requires c κs = search needs
-
-finite-requires : tie.Need-finite-requires
-finite-requires c κs = search needs
-
-enum-told : tie.Need-enum-told
-enum-told c = search needs
-
 returns : tie.Need-returns
 returns c =
     let at-arm = c .before .before .before in
@@ -40,13 +22,6 @@ returns-2 c =
 
 pub anchor-spec : {M : Type 1} → statement M
 anchor-spec =
-    tie.close
-    (tie.spec
-    sub-requires
-    rotate-vector-requires
-    enum-known-arm
-    add-requires
-    finite-requires
-    enum-told
-    returns
-    returns-2)
+    tie.close (tie.spec
+      (λ c κs. search needs) (λ c κs. search needs) (λ c. search needs) (λ c κs. search needs)
+      (λ c κs. search needs) (λ c. search needs) returns returns-2)

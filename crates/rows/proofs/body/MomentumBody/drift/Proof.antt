@@ -8,24 +8,6 @@ use mathlib.Core.Path.{refl, sym, _∙_}
 use Rattle.rows.proofs.body.MomentumBody.drift.Statement.{statement}
 use Rattle.rows.proofs.body.MomentumBody.drift.Tie as tie
 
-scale-requires : tie.Need-scale-requires
-scale-requires c κs = search needs
-
-add-requires : tie.Need-add-requires
-add-requires c κs = search needs
-
-finite-requires : tie.Need-finite-requires
-finite-requires c κs = search needs
-
-enum-known-center : tie.Need-enum-known-center
-enum-known-center c = search needs
-
-enum-told : tie.Need-enum-told
-enum-told c = search needs
-
-overflow-requires : tie.Need-overflow-requires
-overflow-requires c κs = search needs
-
 returns : tie.Need-returns
 unfolding answerOf
 returns c =
@@ -34,18 +16,6 @@ returns c =
     let at-scale = at-add .before in
     lost _ (c .overflow .ensures) refl
     (drift-center-lost _ _ (at-scale .scale .ensures) (at-add .add .ensures) (vector-stop (at-finite .finite .ensures) (c .before .enum-told .given .1)))
-
-try-normalize-requires : tie.Need-try-normalize-requires
-try-normalize-requires c κs = search needs
-
-enum-known-unit : tie.Need-enum-known-unit
-enum-known-unit c = search needs
-
-enum-told-2 : tie.Need-enum-told-2
-enum-told-2 c = search needs
-
-overflow-requires-2 : tie.Need-overflow-requires-2
-overflow-requires-2 c κs = search needs
 
 returns-2 : tie.Need-returns-2
 unfolding answerOf
@@ -58,18 +28,6 @@ returns-2 c =
     lost _ (c .overflow2 .ensures) refl
     (drift-without-unit _ _ (at-scale .scale .ensures) (at-add .add .ensures) (vector-go (at-finite .finite .ensures) (at-center .center .given .1))
     (sym (at-try-normalize .try-normalize .ensures) ∙ c .before .enum-told2 .given .1))
-
-in-frame-requires : tie.Need-in-frame-requires
-in-frame-requires c κs = search needs
-
-enum-known-omega : tie.Need-enum-known-omega
-enum-known-omega c = search needs
-
-enum-told-3 : tie.Need-enum-told-3
-enum-told-3 c = search needs
-
-overflow-requires-3 : tie.Need-overflow-requires-3
-overflow-requires-3 c κs = search needs
 
 returns-3 : tie.Need-returns-3
 unfolding answerOf
@@ -91,21 +49,6 @@ passes-requires c κs =
     let at-unit = c .before .before .before .before .before in
     let at-try-normalize = at-unit .before .before in
     unit-of (at-try-normalize .try-normalize .ensures) (at-unit .unit .given .1)
-
-enum-known-rotation : tie.Need-enum-known-rotation
-enum-known-rotation c = search needs
-
-turned-requires : tie.Need-turned-requires
-turned-requires c κs = search needs
-
-enum-told-4 : tie.Need-enum-told-4
-enum-told-4 c = search needs
-
-enum-told-5 : tie.Need-enum-told-5
-enum-told-5 c = search needs
-
-overflow-requires-4 : tie.Need-overflow-requires-4
-overflow-requires-4 c κs = search needs
 
 returns-4 : tie.Need-returns-4
 unfolding answerOf
@@ -161,31 +104,10 @@ returns-6 c =
 
 pub drift-spec : {M : Type 1} → statement M
 drift-spec =
-    tie.close
-    (tie.spec
-    scale-requires
-    add-requires
-    finite-requires
-    enum-known-center
-    enum-told
-    overflow-requires
-    returns
-    try-normalize-requires
-    enum-known-unit
-    enum-told-2
-    overflow-requires-2
-    returns-2
-    in-frame-requires
-    enum-known-omega
-    enum-told-3
-    overflow-requires-3
-    returns-3
-    passes-requires
-    enum-known-rotation
-    turned-requires
-    enum-told-4
-    enum-told-5
-    overflow-requires-4
-    returns-4
-    returns-5
-    returns-6)
+    tie.close (tie.spec
+      (λ c κs. search needs) (λ c κs. search needs) (λ c κs. search needs) (λ c. search needs)
+      (λ c. search needs) (λ c κs. search needs) returns (λ c κs. search needs) (λ c. search needs)
+      (λ c. search needs) (λ c κs. search needs) returns-2 (λ c κs. search needs) (λ c. search needs)
+      (λ c. search needs) (λ c κs. search needs) returns-3 passes-requires (λ c. search needs)
+      (λ c κs. search needs) (λ c. search needs) (λ c. search needs) (λ c κs. search needs) returns-4 returns-5
+      returns-6)

@@ -6,18 +6,6 @@ use mathlib.Core.Path.{sym, _∙_}
 use Rattle.rows.proofs.body.MomentumBody.inverse_angular_mass.Statement.{statement}
 use Rattle.rows.proofs.body.MomentumBody.inverse_angular_mass.Tie as tie
 
-try-normalize-requires : tie.Need-try-normalize-requires
-try-normalize-requires c κs = search needs
-
-enum-known-unit : tie.Need-enum-known-unit
-enum-known-unit c = search needs
-
-in-frame-requires : tie.Need-in-frame-requires
-in-frame-requires c κs = search needs
-
-enum-told : tie.Need-enum-told
-enum-told c = search needs
-
 returns : tie.Need-returns
 returns c =
     let at-unit = c .before .before in
@@ -31,5 +19,5 @@ returns-2 c =
 
 pub inverse-angular-mass-spec : {M : Type 1} → statement M
 inverse-angular-mass-spec =
-    tie.close
-    (tie.spec try-normalize-requires enum-known-unit in-frame-requires enum-told returns returns-2)
+    tie.close (tie.spec
+      (λ c κs. search needs) (λ c. search needs) (λ c κs. search needs) (λ c. search needs) returns returns-2)

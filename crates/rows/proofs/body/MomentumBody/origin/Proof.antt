@@ -6,32 +6,11 @@ use borrow.Author.Needs.{needs}
 use Rattle.rows.proofs.body.MomentumBody.origin.Statement.{statement}
 use Rattle.rows.proofs.body.MomentumBody.origin.Tie as tie
 
-rotate-as-unit-requires : tie.Need-rotate-as-unit-requires
-rotate-as-unit-requires c κs = search needs
-
-enum-known-turned : tie.Need-enum-known-turned
-enum-known-turned c = search needs
-
-enum-told : tie.Need-enum-told
-enum-told c = search needs
-
 returns : tie.Need-returns
 returns c =
     let at-rotate-as-unit = c .before .before in
     let at-entry = at-rotate-as-unit .before in
     origin-turn-lost _ (at-entry .pre) (none-stop arithmeticOverflow (at-rotate-as-unit .rotate-as-unit .ensures) (c .enum-told .given .1))
-
-sub-requires : tie.Need-sub-requires
-sub-requires c κs = search needs
-
-finite-requires : tie.Need-finite-requires
-finite-requires c κs = search needs
-
-enum-known-origin : tie.Need-enum-known-origin
-enum-known-origin c = search needs
-
-enum-told-2 : tie.Need-enum-told-2
-enum-told-2 c = search needs
 
 returns-2 : tie.Need-returns-2
 returns-2 c =
@@ -42,9 +21,6 @@ returns-2 c =
     let at-entry = at-rotate-as-unit .before in
     origin-lost _ (at-entry .pre) (some-go arithmeticOverflow (at-rotate-as-unit .rotate-as-unit .ensures) (at-turned .turned .given .1)) (at-sub .sub .ensures)
     (vector-stop (at-finite .finite .ensures) (c .enum-told2 .given .1))
-
-is-normalized-requires : tie.Need-is-normalized-requires
-is-normalized-requires c κs = search needs
 
 returns-3 : tie.Need-returns-3
 returns-3 c =
@@ -57,18 +33,6 @@ returns-3 c =
     origin-not-normalized _ (at-entry .pre) (some-go arithmeticOverflow (at-rotate-as-unit .rotate-as-unit .ensures) (at-turned .turned .given .1))
     (at-sub .sub .ensures) (vector-go (at-finite .finite .ensures) (at-origin .origin .given .1))
     (c .before .is-normalized .ensures) (c .if1 .taken)
-
-add-requires : tie.Need-add-requires
-add-requires c κs = search needs
-
-finite-requires-2 : tie.Need-finite-requires-2
-finite-requires-2 c κs = search needs
-
-enum-told-3 : tie.Need-enum-told-3
-enum-told-3 c = search needs
-
-enum-told-4 : tie.Need-enum-told-4
-enum-told-4 c = search needs
 
 returns-4 : tie.Need-returns-4
 returns-4 c =
@@ -104,22 +68,7 @@ returns-5 c =
 
 pub origin-spec : {M : Type 1} → statement M
 origin-spec =
-    tie.close
-    (tie.spec
-    rotate-as-unit-requires
-    enum-known-turned
-    enum-told
-    returns
-    sub-requires
-    finite-requires
-    enum-known-origin
-    enum-told-2
-    returns-2
-    is-normalized-requires
-    returns-3
-    add-requires
-    finite-requires-2
-    enum-told-3
-    enum-told-4
-    returns-4
-    returns-5)
+    tie.close (tie.spec
+      (λ c κs. search needs) (λ c. search needs) (λ c. search needs) returns (λ c κs. search needs)
+      (λ c κs. search needs) (λ c. search needs) (λ c. search needs) returns-2 (λ c κs. search needs) returns-3
+      (λ c κs. search needs) (λ c κs. search needs) (λ c. search needs) (λ c. search needs) returns-4 returns-5)

@@ -6,33 +6,12 @@ use borrow.Author.Needs.{needs}
 use Rattle.rows.proofs.body.MomentumBody.pass.Statement.{statement}
 use Rattle.rows.proofs.body.MomentumBody.pass.Tie as tie
 
-integrate-as-unit-requires : tie.Need-integrate-as-unit-requires
-integrate-as-unit-requires c κs = search needs
-
-enum-known-half : tie.Need-enum-known-half
-enum-known-half c = search needs
-
-enum-told : tie.Need-enum-told
-enum-told c = search needs
-
 returns : tie.Need-returns
 returns c =
     let at-integrate-as-unit = c .before .before in
     let at-entry = at-integrate-as-unit .before in
     pass-half-lost _ _ _
     (quat-stop arithmeticOverflow (half-turn _ _ _ (at-entry .pre) (at-integrate-as-unit .integrate-as-unit .ensures)) (c .enum-told .given .1))
-
-turned-requires : tie.Need-turned-requires
-turned-requires c κs = search needs
-
-omega-requires : tie.Need-omega-requires
-omega-requires c κs = search needs
-
-enum-known-next : tie.Need-enum-known-next
-enum-known-next c = search needs
-
-enum-told-2 : tie.Need-enum-told-2
-enum-told-2 c = search needs
 
 returns-2 : tie.Need-returns-2
 returns-2 c =
@@ -44,18 +23,6 @@ returns-2 c =
     pass-omega-lost _ _ _
     (quat-go arithmeticOverflow (half-turn _ _ _ (at-entry .pre) (at-integrate-as-unit .integrate-as-unit .ensures)) (at-half .half .given .1))
     (at-turned .turned .ensures) (vector-stop (at-omega .omega .ensures) (c .enum-told2 .given .1))
-
-sub-requires : tie.Need-sub-requires
-sub-requires c κs = search needs
-
-checked-length-requires : tie.Need-checked-length-requires
-checked-length-requires c κs = search needs
-
-enum-known-residual : tie.Need-enum-known-residual
-enum-known-residual c = search needs
-
-enum-told-3 : tie.Need-enum-told-3
-enum-told-3 c = search needs
 
 returns-3 : tie.Need-returns-3
 returns-3 c =
@@ -71,15 +38,6 @@ returns-3 c =
     (quat-go arithmeticOverflow (half-turn _ _ _ (at-entry .pre) (at-integrate-as-unit .integrate-as-unit .ensures)) (at-half .half .given .1))
     (at-turned .turned .ensures) (vector-go (at-omega .omega .ensures) (at-next .next .given .1)) (at-sub .sub .ensures)
     (number-stop arithmeticOverflow (at-checked-length .checked-length .ensures) (c .enum-told3 .given .1))
-
-checked-length-requires-2 : tie.Need-checked-length-requires-2
-checked-length-requires-2 c κs = search needs
-
-enum-known-size : tie.Need-enum-known-size
-enum-known-size c = search needs
-
-enum-told-4 : tie.Need-enum-told-4
-enum-told-4 c = search needs
 
 returns-4 : tie.Need-returns-4
 returns-4 c =
@@ -98,9 +56,6 @@ returns-4 c =
     (at-turned .turned .ensures) (vector-go (at-omega .omega .ensures) (at-next .next .given .1)) (at-sub .sub .ensures)
     (number-go arithmeticOverflow (at-checked-length .checked-length .ensures) (at-residual .residual .given .1))
     (number-stop arithmeticOverflow (at-checked-length2 .checked-length2 .ensures) (c .enum-told4 .given .1))
-
-settled-requires : tie.Need-settled-requires
-settled-requires c κs = search needs
 
 returns-5 : tie.Need-returns-5
 returns-5 c =
@@ -144,26 +99,8 @@ returns-6 c =
 
 pub pass-spec : {M : Type 1} → statement M
 pass-spec =
-    tie.close
-    (tie.spec
-    integrate-as-unit-requires
-    enum-known-half
-    enum-told
-    returns
-    turned-requires
-    omega-requires
-    enum-known-next
-    enum-told-2
-    returns-2
-    sub-requires
-    checked-length-requires
-    enum-known-residual
-    enum-told-3
-    returns-3
-    checked-length-requires-2
-    enum-known-size
-    enum-told-4
-    returns-4
-    settled-requires
-    returns-5
-    returns-6)
+    tie.close (tie.spec
+      (λ c κs. search needs) (λ c. search needs) (λ c. search needs) returns (λ c κs. search needs)
+      (λ c κs. search needs) (λ c. search needs) (λ c. search needs) returns-2 (λ c κs. search needs)
+      (λ c κs. search needs) (λ c. search needs) (λ c. search needs) returns-3 (λ c κs. search needs)
+      (λ c. search needs) (λ c. search needs) returns-4 (λ c κs. search needs) returns-5 returns-6)

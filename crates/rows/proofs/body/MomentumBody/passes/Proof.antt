@@ -16,18 +16,6 @@ Inv-loop self unit dt omega₀ k₀ omega k = (k ≤ 32) × (go omega ≡ loop k
 abbrev μ-loop : tie.MeasureT-loop
 μ-loop self unit dt omega₀ k₀ omega k = 32 - k
 
-loop-holds : tie.Need-loop-holds Inv-loop μ-loop
-loop-holds c = (omega arith, loop-none _ _)
-
-pass-requires : tie.Need-pass-requires Inv-loop μ-loop
-pass-requires c κs = search needs
-
-enum-known-next : tie.Need-enum-known-next Inv-loop μ-loop
-enum-known-next c = search needs
-
-enum-known-rotation : tie.Need-enum-known-rotation Inv-loop μ-loop
-enum-known-rotation c = search needs
-
 returns : tie.Need-returns Inv-loop μ-loop
 returns c =
     let at-pass = c .before .before .before in
@@ -35,21 +23,12 @@ returns c =
     let at-loop = at-loop-test .before in
     loop-stop _ _ 32 (at-loop-test .loop-test .taken) (at-loop .loop .inv .1) (pass-as (at-pass .pass .ensures) (c .before .rotation .given .1))
 
-enum-told : tie.Need-enum-told Inv-loop μ-loop
-enum-told c = search needs
-
 returns-2 : tie.Need-returns-2 Inv-loop μ-loop
 returns-2 c =
     let at-pass = c .before .before in
     let at-loop-test = at-pass .before in
     let at-loop = at-loop-test .before in
     loop-stop _ _ 32 (at-loop-test .loop-test .taken) (at-loop .loop .inv .1) (pass-as (at-pass .pass .ensures) (c .enum-told .given .1))
-
-add-k : tie.Need-add-k Inv-loop μ-loop
-add-k c = omega arith
-
-loop-less : tie.Need-loop-less Inv-loop μ-loop
-loop-less c = omega arith
 
 loop-again : tie.Need-loop-again Inv-loop μ-loop
 loop-again c =
@@ -64,18 +43,7 @@ returns-3 c =
 
 pub passes-spec : {M : Type 1} → statement M
 passes-spec =
-    tie.close
-    (tie.spec
-    Inv-loop
-    μ-loop
-    loop-holds
-    pass-requires
-    enum-known-next
-    enum-known-rotation
-    returns
-    enum-told
-    returns-2
-    add-k
-    loop-less
-    loop-again
-    returns-3)
+    tie.close (tie.spec
+      Inv-loop μ-loop (λ c. (omega arith, loop-none _ _)) (λ c κs. search needs) (λ c. search needs)
+      (λ c. search needs) returns (λ c. search needs) returns-2 (λ c. omega arith) (λ c. omega arith) loop-again
+      returns-3)

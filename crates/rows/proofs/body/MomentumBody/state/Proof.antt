@@ -7,15 +7,6 @@ use mathlib.Core.Path.{sym, _∙_}
 use Rattle.rows.proofs.body.MomentumBody.state.Statement.{statement}
 use Rattle.rows.proofs.body.MomentumBody.state.Tie as tie
 
-try-normalize-requires : tie.Need-try-normalize-requires
-try-normalize-requires c κs = search needs
-
-enum-known-unit : tie.Need-enum-known-unit
-enum-known-unit c = search needs
-
-enum-told : tie.Need-enum-told
-enum-told c = search needs
-
 returns : tie.Need-returns
 returns c =
     let at-try-normalize = c .before .before in
@@ -26,28 +17,10 @@ origin-requires c κs =
     let at-try-normalize = c .before .before .before in
     unit-of (at-try-normalize .try-normalize .ensures) (c .before .unit .given .1)
 
-enum-known-origin : tie.Need-enum-known-origin
-enum-known-origin c = search needs
-
-enum-told-2 : tie.Need-enum-told-2
-enum-told-2 c = search needs
-
 returns-2 : tie.Need-returns-2
 returns-2 c =
     let at-origin = c .before .before in
     state-answered _ (state-origin-lost _ _ (vector-stop (at-origin .origin .ensures) (c .enum-told2 .given .1)))
-
-div-requires : tie.Need-div-requires
-div-requires c κs = search needs
-
-finite-requires : tie.Need-finite-requires
-finite-requires c κs = search needs
-
-enum-known-linear : tie.Need-enum-known-linear
-enum-known-linear c = search needs
-
-enum-told-3 : tie.Need-enum-told-3
-enum-told-3 c = search needs
 
 returns-3 : tie.Need-returns-3
 returns-3 c =
@@ -58,15 +31,6 @@ returns-3 c =
     state-answered _
     (state-linear-lost _ _ (vector-go (at-origin .origin .ensures) (at-origin2 .origin2 .given .1)) (at-div .div .ensures)
     (vector-stop (at-finite .finite .ensures) (c .enum-told3 .given .1)))
-
-in-frame-requires : tie.Need-in-frame-requires
-in-frame-requires c κs = search needs
-
-enum-known-angular : tie.Need-enum-known-angular
-enum-known-angular c = search needs
-
-enum-told-4 : tie.Need-enum-told-4
-enum-told-4 c = search needs
 
 returns-4 : tie.Need-returns-4
 returns-4 c =
@@ -82,9 +46,6 @@ returns-4 c =
     (state-angular-lost _ _ (vector-go (at-origin .origin .ensures) (at-origin2 .origin2 .given .1)) (at-div .div .ensures)
     (vector-go (at-finite .finite .ensures) (at-linear .linear .given .1))
     (unit-of (at-try-normalize .try-normalize .ensures) (at-unit .unit .given .1)) (vector-stop (at-in-frame .in-frame .ensures) (c .enum-told4 .given .1)))
-
-same-transform-requires : tie.Need-same-transform-requires
-same-transform-requires c κs = search needs
 
 returns-5 : tie.Need-returns-5
 returns-5 c =
@@ -122,25 +83,8 @@ returns-6 c =
 
 pub state-spec : {M : Type 1} → statement M
 state-spec =
-    tie.close
-    (tie.spec
-    try-normalize-requires
-    enum-known-unit
-    enum-told
-    returns
-    origin-requires
-    enum-known-origin
-    enum-told-2
-    returns-2
-    div-requires
-    finite-requires
-    enum-known-linear
-    enum-told-3
-    returns-3
-    in-frame-requires
-    enum-known-angular
-    enum-told-4
-    returns-4
-    same-transform-requires
-    returns-5
-    returns-6)
+    tie.close (tie.spec
+      (λ c κs. search needs) (λ c. search needs) (λ c. search needs) returns origin-requires (λ c. search needs)
+      (λ c. search needs) returns-2 (λ c κs. search needs) (λ c κs. search needs) (λ c. search needs)
+      (λ c. search needs) returns-3 (λ c κs. search needs) (λ c. search needs) (λ c. search needs) returns-4
+      (λ c κs. search needs) returns-5 returns-6)

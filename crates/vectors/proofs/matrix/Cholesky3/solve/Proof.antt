@@ -4,41 +4,14 @@ use borrow.Author.Needs.{needs}
 use Rattle.vectors.proofs.matrix.Cholesky3.solve.Statement.{statement}
 use Rattle.vectors.proofs.matrix.Cholesky3.solve.Tie as tie
 
-is-finite-requires : tie.Need-is-finite-requires
-is-finite-requires c κs = search needs
-
-unsolved-requires : tie.Need-unsolved-requires
-unsolved-requires c κs = search needs
-
 returns : tie.Need-returns
 returns c = solve-wild _ _ (c .before .before .is-finite .ensures) (c .before .if1 .taken) (c .unsolved .ensures)
-
-div-requires : tie.Need-div-requires
-div-requires c κs = search needs
-
-is-finite-requires-2 : tie.Need-is-finite-requires-2
-is-finite-requires-2 c κs = search needs
-
-unsolved-requires-2 : tie.Need-unsolved-requires-2
-unsolved-requires-2 c κs = search needs
 
 returns-2 : tie.Need-returns-2
 returns-2 c =
     let at-div = c .before .before .before in
     solve-large _ _ (at-div .before .before .is-finite .ensures) (at-div .before .if1 .left) (at-div .div .ensures)
     (c .before .before .is-finite2 .ensures) (c .before .if2 .taken) (c .unsolved2 .ensures)
-
-to-rows-requires : tie.Need-to-rows-requires
-to-rows-requires c κs = search needs
-
-forward-requires : tie.Need-forward-requires
-forward-requires c κs = search needs
-
-backward-requires : tie.Need-backward-requires
-backward-requires c κs = search needs
-
-is-finite-requires-3 : tie.Need-is-finite-requires-3
-is-finite-requires-3 c κs = search needs
 
 returns-3 : tie.Need-returns-3
 returns-3 c =
@@ -48,9 +21,6 @@ returns-3 c =
     solve-done _ _ (at-div .before .before .is-finite .ensures) (at-div .before .if1 .left) (at-div .div .ensures)
     (at-to-rows .before .before .is-finite2 .ensures) (at-to-rows .before .if2 .left) (at-to-rows .to-rows .ensures)
     (at-forward .forward .ensures) (c .before .before .backward .ensures) (c .before .is-finite3 .ensures) (c .if3 .taken)
-
-unsolved-requires-3 : tie.Need-unsolved-requires-3
-unsolved-requires-3 c κs = search needs
 
 returns-4 : tie.Need-returns-4
 returns-4 c =
@@ -64,19 +34,7 @@ returns-4 c =
 
 pub solve-spec : {M : Type 1} → statement M
 solve-spec =
-    tie.close
-    (tie.spec
-    is-finite-requires
-    unsolved-requires
-    returns
-    div-requires
-    is-finite-requires-2
-    unsolved-requires-2
-    returns-2
-    to-rows-requires
-    forward-requires
-    backward-requires
-    is-finite-requires-3
-    returns-3
-    unsolved-requires-3
-    returns-4)
+    tie.close (tie.spec
+      (λ c κs. search needs) (λ c κs. search needs) returns (λ c κs. search needs) (λ c κs. search needs)
+      (λ c κs. search needs) returns-2 (λ c κs. search needs) (λ c κs. search needs) (λ c κs. search needs)
+      (λ c κs. search needs) returns-3 (λ c κs. search needs) returns-4)

@@ -6,38 +6,14 @@ use borrow.Author.Needs.{needs}
 use Rattle.vectors.proofs.matrix.Mat3.factor_spd.Statement.{statement}
 use Rattle.vectors.proofs.matrix.Mat3.factor_spd.Tie as tie
 
-is-finite-requires : tie.Need-is-finite-requires
-is-finite-requires c κs = search needs
-
-unfactored-requires : tie.Need-unfactored-requires
-unfactored-requires c κs = search needs
-
 returns : tie.Need-returns
 returns c = factor-wild _ (c .before .before .is-finite .ensures) (c .before .if1 .taken) (c .unfactored .ensures)
-
-largest-requires : tie.Need-largest-requires
-largest-requires c κs = search needs
-
-unfactored-requires-2 : tie.Need-unfactored-requires-2
-unfactored-requires-2 c κs = search needs
 
 returns-2 : tie.Need-returns-2
 returns-2 c =
     let at-if1 = c .before .before .before in
     factor-zero _ (at-if1 .before .is-finite .ensures) (at-if1 .if1 .left)
     (c .before .before .largest .ensures) zero-is (c .before .if2 .taken) (c .unfactored2 .ensures)
-
-to-rows-requires : tie.Need-to-rows-requires
-to-rows-requires c κs = search needs
-
-divided-requires : tie.Need-divided-requires
-divided-requires c κs = search needs
-
-symmetric-requires : tie.Need-symmetric-requires
-symmetric-requires c κs = search needs
-
-unfactored-requires-3 : tie.Need-unfactored-requires-3
-unfactored-requires-3 c κs = search needs
 
 returns-3 : tie.Need-returns-3
 returns-3 c =
@@ -46,12 +22,6 @@ returns-3 c =
     factor-uneven _ (at-largest .before .before .is-finite .ensures) (at-largest .before .if1 .left)
     (at-largest .largest .ensures) zero-is (at-divided .before .before .if2 .left) (at-divided .before .to-rows .ensures)
     (at-divided .divided .ensures) (c .before .before .symmetric .ensures) (c .before .if3 .taken) (c .unfactored3 .ensures)
-
-factor-requires : tie.Need-factor-requires
-factor-requires c κs = search needs
-
-from-rows-requires : tie.Need-from-rows-requires
-from-rows-requires c κs = search needs
 
 returns-4 : tie.Need-returns-4
 unfolding ofBits round
@@ -63,9 +33,6 @@ returns-4 c =
     (at-largest .largest .ensures) zero-is (at-divided .before .before .if2 .left) (at-divided .before .to-rows .ensures)
     (at-divided .divided .ensures) (at-if3 .before .symmetric .ensures) (at-if3 .if3 .left) (c .before .before .factor .result) _
     (c .before .before .factor .ensures) (c .before .if4 .taken) (c .from-rows .ensures)
-
-unfactored-requires-4 : tie.Need-unfactored-requires-4
-unfactored-requires-4 c κs = search needs
 
 returns-5 : tie.Need-returns-5
 unfolding ofBits round
@@ -80,21 +47,7 @@ returns-5 c =
 
 pub factor-spd-spec : {M : Type 1} → statement M
 factor-spd-spec =
-    tie.close
-    (tie.spec
-    is-finite-requires
-    unfactored-requires
-    returns
-    largest-requires
-    unfactored-requires-2
-    returns-2
-    to-rows-requires
-    divided-requires
-    symmetric-requires
-    unfactored-requires-3
-    returns-3
-    factor-requires
-    from-rows-requires
-    returns-4
-    unfactored-requires-4
-    returns-5)
+    tie.close (tie.spec
+      (λ c κs. search needs) (λ c κs. search needs) returns (λ c κs. search needs) (λ c κs. search needs)
+      returns-2 (λ c κs. search needs) (λ c κs. search needs) (λ c κs. search needs) (λ c κs. search needs)
+      returns-3 (λ c κs. search needs) (λ c κs. search needs) returns-4 (λ c κs. search needs) returns-5)

@@ -5,24 +5,6 @@ use borrow.Author.Needs.{needs}
 use Rattle.vectors.proofs.matrix.Mat3.is_finite.Statement.{statement}
 use Rattle.vectors.proofs.matrix.Mat3.is_finite.Tie as tie
 
-column-requires : tie.Need-column-requires
-column-requires c κs = search needs
-
-is-finite-requires : tie.Need-is-finite-requires
-is-finite-requires c κs = search needs
-
-column-requires-2 : tie.Need-column-requires-2
-column-requires-2 c κs = search needs
-
-is-finite-requires-2 : tie.Need-is-finite-requires-2
-is-finite-requires-2 c κs = search needs
-
-column-requires-3 : tie.Need-column-requires-3
-column-requires-3 c κs = search needs
-
-is-finite-requires-3 : tie.Need-is-finite-requires-3
-is-finite-requires-3 c κs = search needs
-
 returns : tie.Need-returns
 returns c =
     let at-is-finite2 = c .before .before .before in
@@ -48,14 +30,6 @@ returns-3 c = simp (sym (c .before .is-finite .ensures ∙ ap finiteOf (c .befor
 
 pub is-finite-spec : {M : Type 1} → statement M
 is-finite-spec =
-    tie.close
-    (tie.spec
-    column-requires
-    is-finite-requires
-    column-requires-2
-    is-finite-requires-2
-    column-requires-3
-    is-finite-requires-3
-    returns
-    returns-2
-    returns-3)
+    tie.close (tie.spec
+      (λ c κs. search needs) (λ c κs. search needs) (λ c κs. search needs) (λ c κs. search needs)
+      (λ c κs. search needs) (λ c κs. search needs) returns returns-2 returns-3)

@@ -4,24 +4,6 @@ use borrow.Author.Needs.{needs}
 use Rattle.vectors.proofs.matrix.Mat3.largest.Statement.{statement}
 use Rattle.vectors.proofs.matrix.Mat3.largest.Tie as tie
 
-column-requires : tie.Need-column-requires
-column-requires c κs = search needs
-
-larger-requires : tie.Need-larger-requires
-larger-requires c κs = search needs
-
-column-requires-2 : tie.Need-column-requires-2
-column-requires-2 c κs = search needs
-
-larger-requires-2 : tie.Need-larger-requires-2
-larger-requires-2 c κs = search needs
-
-column-requires-3 : tie.Need-column-requires-3
-column-requires-3 c κs = search needs
-
-larger-requires-3 : tie.Need-larger-requires-3
-larger-requires-3 c κs = search needs
-
 returns : tie.Need-returns
 unfolding ofBits round
 returns c =
@@ -37,12 +19,6 @@ returns c =
 
 pub largest-spec : {M : Type 1} → statement M
 largest-spec =
-    tie.close
-    (tie.spec
-    column-requires
-    larger-requires
-    column-requires-2
-    larger-requires-2
-    column-requires-3
-    larger-requires-3
-    returns)
+    tie.close (tie.spec
+      (λ c κs. search needs) (λ c κs. search needs) (λ c κs. search needs) (λ c κs. search needs)
+      (λ c κs. search needs) (λ c κs. search needs) returns)

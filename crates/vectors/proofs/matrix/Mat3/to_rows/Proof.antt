@@ -3,14 +3,9 @@ use borrow.Author.Needs.{needs}
 use Rattle.vectors.proofs.matrix.Mat3.to_rows.Statement.{statement}
 use Rattle.vectors.proofs.matrix.Mat3.to_rows.Tie as tie
 
-to-columns-requires : tie.Need-to-columns-requires
-to-columns-requires c κs = search needs
-
-turned-requires : tie.Need-turned-requires
-turned-requires c κs = search needs
-
 returns : tie.Need-returns
 returns c = simp (c .turned .ensures, c .before .to-columns .ensures)
 
 pub to-rows-spec : {M : Type 1} → statement M
-to-rows-spec = tie.close (tie.spec to-columns-requires turned-requires returns)
+to-rows-spec =
+    tie.close (tie.spec (λ c κs. search needs) (λ c κs. search needs) returns)

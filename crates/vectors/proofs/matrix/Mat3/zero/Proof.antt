@@ -4,12 +4,10 @@ use borrow.Author.Needs.{needs}
 use Rattle.vectors.proofs.matrix.Mat3.zero.Statement.{statement}
 use Rattle.vectors.proofs.matrix.Mat3.zero.Tie as tie
 
-new-requires : tie.Need-new-requires
-new-requires c κs = search needs
-
 returns : tie.Need-returns
 unfolding ofBits round
 returns c = c .new .ensures
 
 pub zero-spec : {M : Type 1} → statement M
-zero-spec = tie.close (tie.spec new-requires returns)
+zero-spec =
+    tie.close (tie.spec (λ c κs. search needs) returns)

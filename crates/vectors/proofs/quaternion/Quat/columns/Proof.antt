@@ -4,12 +4,10 @@ use borrow.Author.Needs.{needs}
 use Rattle.vectors.proofs.quaternion.Quat.columns.Statement.{statement}
 use Rattle.vectors.proofs.quaternion.Quat.columns.Tie as tie
 
-new-requires : tie.Need-new-requires
-new-requires c κs = search needs
-
 returns : tie.Need-returns
 unfolding ofBits round
 returns c = c .new .ensures
 
 pub columns-spec : {M : Type 1} → statement M
-columns-spec = tie.close (tie.spec new-requires returns)
+columns-spec =
+    tie.close (tie.spec (λ c κs. search needs) returns)

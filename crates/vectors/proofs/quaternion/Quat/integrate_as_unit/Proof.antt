@@ -4,21 +4,6 @@ use borrow.Author.Needs.{needs}
 use Rattle.vectors.proofs.quaternion.Quat.integrate_as_unit.Statement.{statement}
 use Rattle.vectors.proofs.quaternion.Quat.integrate_as_unit.Tie as tie
 
-turn-in-requires : tie.Need-turn-in-requires
-turn-in-requires c κs = search needs
-
-enum-known-delta : tie.Need-enum-known-delta
-enum-known-delta c = search needs
-
-product-requires : tie.Need-product-requires
-product-requires c κs = search needs
-
-try-normalize-requires : tie.Need-try-normalize-requires
-try-normalize-requires c κs = search needs
-
-enum-told : tie.Need-enum-told
-enum-told c = search needs
-
 returns : tie.Need-returns
 returns c =
     let at-turn-in = c .before .before .before .before .before in
@@ -29,12 +14,6 @@ returns-2 c = unit-far _ _ _ (c .before .before .turn-in .ensures) (c .enum-told
 
 pub integrate-as-unit-spec : {M : Type 1} → statement M
 integrate-as-unit-spec =
-    tie.close
-    (tie.spec
-    turn-in-requires
-    enum-known-delta
-    product-requires
-    try-normalize-requires
-    enum-told
-    returns
-    returns-2)
+    tie.close (tie.spec
+      (λ c κs. search needs) (λ c. search needs) (λ c κs. search needs) (λ c κs. search needs)
+      (λ c. search needs) returns returns-2)

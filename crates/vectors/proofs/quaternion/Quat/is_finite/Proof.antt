@@ -4,18 +4,6 @@ use borrow.Author.Needs.{needs}
 use Rattle.vectors.proofs.quaternion.Quat.is_finite.Statement.{statement}
 use Rattle.vectors.proofs.quaternion.Quat.is_finite.Tie as tie
 
-is-finite-requires : tie.Need-is-finite-requires
-is-finite-requires c κs = search needs
-
-is-finite-requires-2 : tie.Need-is-finite-requires-2
-is-finite-requires-2 c κs = search needs
-
-is-finite-requires-3 : tie.Need-is-finite-requires-3
-is-finite-requires-3 c κs = search needs
-
-is-finite-requires-4 : tie.Need-is-finite-requires-4
-is-finite-requires-4 c κs = search needs
-
 returns : tie.Need-returns
 returns c =
     let at-if2 = c .before .before .before in
@@ -47,13 +35,6 @@ returns-4 c = simp (sym (c .before .is-finite .ensures) ∙ c .if1 .left)
 
 pub is-finite-spec : {M : Type 1} → statement M
 is-finite-spec =
-    tie.close
-    (tie.spec
-    is-finite-requires
-    is-finite-requires-2
-    is-finite-requires-3
-    is-finite-requires-4
-    returns
-    returns-2
-    returns-3
-    returns-4)
+    tie.close (tie.spec
+      (λ c κs. search needs) (λ c κs. search needs) (λ c κs. search needs) (λ c κs. search needs) returns
+      returns-2 returns-3 returns-4)

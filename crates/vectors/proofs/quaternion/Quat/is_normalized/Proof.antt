@@ -6,15 +6,6 @@ use borrow.Author.Needs.{needs}
 use Rattle.vectors.proofs.quaternion.Quat.is_normalized.Statement.{statement}
 use Rattle.vectors.proofs.quaternion.Quat.is_normalized.Tie as tie
 
-is-finite-requires : tie.Need-is-finite-requires
-is-finite-requires c κs = search needs
-
-length-squared-requires : tie.Need-length-squared-requires
-length-squared-requires c κs = search needs
-
-abs-requires : tie.Need-abs-requires
-abs-requires c κs = search needs
-
 returns : tie.Need-returns
 unfolding ofBits round isNormalizedOf
 returns c = simp (c .abs .ensures, c .before .length-squared .ensures, sym (c .before .before .before .is-finite .ensures) ∙ c .before .before .if1 .taken)
@@ -25,4 +16,4 @@ returns-2 c = simp (sym (c .before .is-finite .ensures) ∙ c .if1 .left)
 
 pub is-normalized-spec : {M : Type 1} → statement M
 is-normalized-spec =
-    tie.close (tie.spec is-finite-requires length-squared-requires abs-requires returns returns-2)
+    tie.close (tie.spec (λ c κs. search needs) (λ c κs. search needs) (λ c κs. search needs) returns returns-2)

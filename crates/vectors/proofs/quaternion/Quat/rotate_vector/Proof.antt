@@ -4,23 +4,8 @@ use borrow.Author.Needs.{needs}
 use Rattle.vectors.proofs.quaternion.Quat.rotate_vector.Statement.{statement}
 use Rattle.vectors.proofs.quaternion.Quat.rotate_vector.Tie as tie
 
-is-finite-requires : tie.Need-is-finite-requires
-is-finite-requires c κs = search needs
-
 returns : tie.Need-returns
 returns c = rotate-wild _ _ (c .before .is-finite .ensures) (c .if1 .taken)
-
-try-normalize-requires : tie.Need-try-normalize-requires
-try-normalize-requires c κs = search needs
-
-enum-known-rotation : tie.Need-enum-known-rotation
-enum-known-rotation c = search needs
-
-rotated-requires : tie.Need-rotated-requires
-rotated-requires c κs = search needs
-
-enum-told : tie.Need-enum-told
-enum-told c = search needs
 
 returns-2 : tie.Need-returns-2
 returns-2 c =
@@ -36,13 +21,6 @@ returns-3 c =
 
 pub rotate-vector-spec : {M : Type 1} → statement M
 rotate-vector-spec =
-    tie.close
-    (tie.spec
-    is-finite-requires
-    returns
-    try-normalize-requires
-    enum-known-rotation
-    rotated-requires
-    enum-told
-    returns-2
-    returns-3)
+    tie.close (tie.spec
+      (λ c κs. search needs) returns (λ c κs. search needs) (λ c. search needs) (λ c κs. search needs)
+      (λ c. search needs) returns-2 returns-3)

@@ -4,12 +4,6 @@ use borrow.Author.Needs.{needs}
 use Rattle.vectors.proofs.quaternion.Quat.rotated.Statement.{statement}
 use Rattle.vectors.proofs.quaternion.Quat.rotated.Tie as tie
 
-turned-requires : tie.Need-turned-requires
-turned-requires c κs = search needs
-
-is-finite-requires : tie.Need-is-finite-requires
-is-finite-requires c κs = search needs
-
 returns : tie.Need-returns
 returns c = rotated-some _ _ (c .before .before .turned .ensures) (c .before .is-finite .ensures) (c .if1 .taken)
 
@@ -17,4 +11,5 @@ returns-2 : tie.Need-returns-2
 returns-2 c = rotated-none _ _ (c .before .before .turned .ensures) (c .before .is-finite .ensures) (c .if1 .left)
 
 pub rotated-spec : {M : Type 1} → statement M
-rotated-spec = tie.close (tie.spec turned-requires is-finite-requires returns returns-2)
+rotated-spec =
+    tie.close (tie.spec (λ c κs. search needs) (λ c κs. search needs) returns returns-2)

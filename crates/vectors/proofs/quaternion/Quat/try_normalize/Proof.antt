@@ -4,29 +4,14 @@ use borrow.Author.Needs.{needs}
 use Rattle.vectors.proofs.quaternion.Quat.try_normalize.Statement.{statement}
 use Rattle.vectors.proofs.quaternion.Quat.try_normalize.Tie as tie
 
-is-finite-requires : tie.Need-is-finite-requires
-is-finite-requires c κs = search needs
-
 returns : tie.Need-returns
 returns c = normalize-wild _ _ _ _ _ _ _ (c .before .is-finite .ensures) (c .if1 .taken)
-
-largest-requires : tie.Need-largest-requires
-largest-requires c κs = search needs
 
 returns-2 : tie.Need-returns-2
 returns-2 c =
     let at-is-finite = c .before .before .before in
     normalize-zero _ _ _ _ _ _ _ (at-is-finite .is-finite .ensures)
     (c .before .before .if1 .left) (c .before .largest .ensures) zero-is (c .if2 .taken)
-
-div-requires : tie.Need-div-requires
-div-requires c κs = search needs
-
-length-requires : tie.Need-length-requires
-length-requires c κs = search needs
-
-is-finite-requires-2 : tie.Need-is-finite-requires-2
-is-finite-requires-2 c κs = search needs
 
 returns-3 : tie.Need-returns-3
 returns-3 c =
@@ -44,9 +29,6 @@ returns-4 c =
     (at-largest .largest .ensures) zero-is (at-length .before .before .if2 .left) (at-length .before .div .ensures)
     (at-length .length .ensures) (c .before .before .is-finite2 .ensures) (c .before .if3 .left) (c .if4 .taken)
 
-div-requires-2 : tie.Need-div-requires-2
-div-requires-2 c κs = search needs
-
 returns-5 : tie.Need-returns-5
 returns-5 c =
     let at-is-finite2 = c .before .before .before in
@@ -59,16 +41,6 @@ returns-5 c =
 
 pub try-normalize-spec : {M : Type 1} → statement M
 try-normalize-spec =
-    tie.close
-    (tie.spec
-    is-finite-requires
-    returns
-    largest-requires
-    returns-2
-    div-requires
-    length-requires
-    is-finite-requires-2
-    returns-3
-    returns-4
-    div-requires-2
-    returns-5)
+    tie.close (tie.spec
+      (λ c κs. search needs) returns (λ c κs. search needs) returns-2 (λ c κs. search needs)
+      (λ c κs. search needs) (λ c κs. search needs) returns-3 returns-4 (λ c κs. search needs) returns-5)

@@ -4,12 +4,6 @@ use borrow.Author.Needs.{needs}
 use Rattle.vectors.proofs.vector.Vec3.checked_length.Statement.{statement}
 use Rattle.vectors.proofs.vector.Vec3.checked_length.Tie as tie
 
-length-requires : tie.Need-length-requires
-length-requires c κs = search needs
-
-is-finite-requires : tie.Need-is-finite-requires
-is-finite-requires c κs = search needs
-
 returns : tie.Need-returns
 returns c = length-some _ (c .before .before .length .ensures) (c .before .is-finite .ensures) (c .if1 .taken)
 
@@ -17,4 +11,5 @@ returns-2 : tie.Need-returns-2
 returns-2 c = length-none _ (c .before .before .length .ensures) (c .before .is-finite .ensures) (c .if1 .left)
 
 pub checked-length-spec : {M : Type 1} → statement M
-checked-length-spec = tie.close (tie.spec length-requires is-finite-requires returns returns-2)
+checked-length-spec =
+    tie.close (tie.spec (λ c κs. search needs) (λ c κs. search needs) returns returns-2)

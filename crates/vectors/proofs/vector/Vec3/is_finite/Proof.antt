@@ -3,8 +3,6 @@ use Rattle.vectors.proofs.Ways.{finite-sum}
 use Rattle.vectors.proofs.vector.Vec3.is_finite.Statement.{statement}
 use Rattle.vectors.proofs.vector.Vec3.is_finite.Tie as tie
 
-returns : tie.Need-returns
-returns c = finite-sum _ _ _
-
 pub is-finite-spec : {M : Type 1} → statement M
-is-finite-spec = tie.close (tie.spec returns)
+is-finite-spec =
+    tie.close (tie.spec (λ c. finite-sum _ _ _))

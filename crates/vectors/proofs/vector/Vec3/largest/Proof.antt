@@ -3,21 +3,6 @@ use borrow.Author.Needs.{needs}
 use Rattle.vectors.proofs.vector.Vec3.largest.Statement.{statement}
 use Rattle.vectors.proofs.vector.Vec3.largest.Tie as tie
 
-abs-requires : tie.Need-abs-requires
-abs-requires c κs = search needs
-
-abs-requires-2 : tie.Need-abs-requires-2
-abs-requires-2 c κs = search needs
-
-max-requires : tie.Need-max-requires
-max-requires c κs = search needs
-
-abs-requires-3 : tie.Need-abs-requires-3
-abs-requires-3 c κs = search needs
-
-max-requires-2 : tie.Need-max-requires-2
-max-requires-2 c κs = search needs
-
 returns : tie.Need-returns
 returns c =
     let at-abs2 = c .before .before .before in
@@ -31,5 +16,6 @@ returns c =
 
 pub largest-spec : {M : Type 1} → statement M
 largest-spec =
-    tie.close
-    (tie.spec abs-requires abs-requires-2 max-requires abs-requires-3 max-requires-2 returns)
+    tie.close (tie.spec
+      (λ c κs. search needs) (λ c κs. search needs) (λ c κs. search needs) (λ c κs. search needs)
+      (λ c κs. search needs) returns)

@@ -3,14 +3,9 @@ use borrow.Author.Needs.{needs}
 use Rattle.vectors.proofs.vector.Vec3.length.Statement.{statement}
 use Rattle.vectors.proofs.vector.Vec3.length.Tie as tie
 
-hypot-requires : tie.Need-hypot-requires
-hypot-requires c κs = search needs
-
-hypot-requires-2 : tie.Need-hypot-requires-2
-hypot-requires-2 c κs = search needs
-
 returns : tie.Need-returns
 returns c = simp (c .hypot2 .ensures, c .before .hypot .ensures)
 
 pub length-spec : {M : Type 1} → statement M
-length-spec = tie.close (tie.spec hypot-requires hypot-requires-2 returns)
+length-spec =
+    tie.close (tie.spec (λ c κs. search needs) (λ c κs. search needs) returns)
