@@ -63,7 +63,7 @@ pub fn done(end: End) -> bool
 }
 
 impl Ended {
-    pub(crate) fn new(end: End, linear: usize) -> Ended
+    pub fn new(end: End, linear: usize) -> Ended
         ensures { λ r. ⌜ r ≡ endedWith end linear ⌝ }
     {
         Ended { end, linear }
