@@ -1,12 +1,13 @@
 -- The code's answers as the definitions' results.
 use Prim.Native.Nat.{ℕ, _+_, _*_, _<_}
 use mathlib.Core.Path.{_≡_}
+use mathlib.Core.Bool.{Bool, true, false}
 use mathlib.Core.List.{List}
 use lib.Ieee.{Float}
 use Rattle.arith.specs.Real.{ratio}
 use Rattle.arith.specs.Flow.{Turn, go, stop}
-use Rattle.rows.specs.declared.body.Finish.{Finish}
-use Rattle.rows.specs.declared.body.Finish.the-variants as Ends
+use Rattle.rows.specs.declared.End.{End}
+use Rattle.rows.specs.declared.End.the-variants as Ends
 use Rattle.rows.specs.declared.body.Pass.{Pass}
 use Rattle.rows.specs.declared.body.Pass.the-variants as Passes
 use Rattle.vectors.specs.declared.vector.Vec3.{Vec3}
@@ -29,10 +30,14 @@ abbrev pub refusalNumber : {A : Type 0} → Result A → ℕ
 refusalNumber (go x) = 0
 refusalNumber (stop fault) = number fault
 
-abbrev pub finishNumber : Finish → ℕ
-finishNumber Ends.Done = 0
-finishNumber Ends.NonConvergent = number nonConvergent
-finishNumber Ends.ArithmeticOverflow = number arithmeticOverflow
+abbrev pub endNumber : End → ℕ
+endNumber Ends.Done = 0
+endNumber Ends.NonConvergent = number nonConvergent
+endNumber Ends.ArithmeticOverflow = number arithmeticOverflow
+
+-- it is that of the result d that is defined
+abbrev pub Numbered : {A : Type 0} → End → Result A → Type 0
+Numbered r d = endNumber r ≡ refusalNumber d
 
 abbrev pub stateNumber : StateAnswer → ℕ
 stateNumber (State.Value state) = 0
@@ -43,6 +48,18 @@ writtenNumber (Written.Rows n) = 0
 writtenNumber Written.NonConvergent = number nonConvergent
 writtenNumber Written.ArithmeticOverflow = number arithmeticOverflow
 
+-- ---- how a call ended
+abbrev pub isDone : End → Bool
+isDone Ends.Done = true
+isDone Ends.NonConvergent = false
+isDone Ends.ArithmeticOverflow = false
+
+-- a call that left x
+abbrev pub ranAs : {A : Type 0} → End → A → Result A
+ranAs Ends.Done x = go x
+ranAs Ends.NonConvergent x = stop nonConvergent
+ranAs Ends.ArithmeticOverflow x = stop arithmeticOverflow
+
 -- ---- bodies and states
 -- what a call that was to move a body hands back: beside a fault, the body `old`
 unfoldable pub answerOf : MomentumBody → Result MomentumBody → BodyAnswer
@@ -50,20 +67,14 @@ answerOf old (go body) = record { outcome = Ends.Done; body = body }
 answerOf old (stop nonConvergent) = record { outcome = Ends.NonConvergent; body = old }
 answerOf old (stop arithmeticOverflow) = record { outcome = Ends.ArithmeticOverflow; body = old }
 
--- an end that left x
-abbrev pub finishAs : {A : Type 0} → Finish → A → Result A
-finishAs Ends.Done x = go x
-finishAs Ends.NonConvergent x = stop nonConvergent
-finishAs Ends.ArithmeticOverflow x = stop arithmeticOverflow
-
 -- and back: beside `Done` the body itself
 abbrev pub bodyAs : BodyAnswer → Result MomentumBody
-bodyAs r = finishAs (r .outcome) (r .body)
+bodyAs r = ranAs (r .outcome) (r .body)
 
 -- what `new`, `kick` and `drift` promise for the result d that is defined: the answer, and its number
 pub record BodyAnswered (old : MomentumBody) (d : Result MomentumBody) (r : BodyAnswer) : Type 0 where
   pub is : r ≡ answerOf old d
-  pub numbered : finishNumber (r .outcome) ≡ refusalNumber d
+  pub numbered : Numbered (r .outcome) d
 
 -- a pass of drift: the next omega, or how its loop is left
 abbrev pub passAs : Pass → Turn Vec3 (Result Quat)

@@ -2,8 +2,11 @@
 use Prim.Native.Nat.{ℕ}
 use lib.Ieee.{Float}
 use mathlib.Core.Path.{_≡_, refl, sym, ap, _∙_}
+use mathlib.Core.Bool.{Bool, true, false, not}
 use mathlib.Core.List.{List}
+use native.Mathlib.Omega.{arith}
 use Rattle.arith.specs.Flow.{go, stop}
+use Rattle.arith.specs.FlowLaws.{not-yes, not-no}
 use Rattle.vectors.specs.declared.vector.Vec3.{Vec3}
 use Rattle.vectors.specs.declared.vector.OptionVec3.{OptionVec3}
 use Rattle.vectors.specs.declared.vector.OptionVec3.the-variants.{Some, None}
@@ -12,8 +15,8 @@ use Rattle.vectors.specs.declared.vector.OptionF64.the-variants as Number
 use Rattle.vectors.specs.declared.quaternion.Quat.{Quat}
 use Rattle.vectors.specs.declared.quaternion.OptionQuat.{OptionQuat}
 use Rattle.vectors.specs.declared.quaternion.OptionQuat.the-variants as Rotation
-use Rattle.rows.specs.declared.body.Finish.{Finish}
-use Rattle.rows.specs.declared.body.Finish.the-variants as Ends
+use Rattle.rows.specs.declared.End.{End}
+use Rattle.rows.specs.declared.End.the-variants as Ends
 use Rattle.rows.specs.declared.body.BodyState.{BodyState}
 use Rattle.rows.specs.declared.body.StateAnswer.{StateAnswer}
 use Rattle.rows.specs.declared.body.StateAnswer.the-variants as State
@@ -22,8 +25,8 @@ use Rattle.rows.specs.declared.body.BodyAnswer.{BodyAnswer}
 use Rattle.rows.specs.declared.geometry.Written.{Written}
 use Rattle.rows.specs.declared.geometry.Written.the-variants as Written
 use Rattle.rows.specs.Fault.{Fault, nonConvergent, arithmeticOverflow, Result, vectorOr, numberOr, quatOr}
-use Rattle.rows.specs.Answer.{refusalNumber, finishNumber, stateNumber, writtenNumber}
-use Rattle.rows.specs.Answer.{answerOf, finishAs, bodyAs, BodyAnswered, stateAs, StateAnswered, writtenAs}
+use Rattle.rows.specs.Answer.{refusalNumber, stateNumber, writtenNumber, Numbered, isDone, ranAs}
+use Rattle.rows.specs.Answer.{answerOf, bodyAs, BodyAnswered, stateAs, StateAnswered, writtenAs}
 
 -- a contract of this crate: `vectorOr arithmeticOverflow o ≡ d`
 pub vector-go : {o : OptionVec3} {v : Vec3} {d : Result Vec3} → vectorOr arithmeticOverflow o ≡ d → o ≡ Some v → go v ≡ d
@@ -54,34 +57,54 @@ module _ (f : Fault) {o d : OptionQuat} (e : o ≡ d) where
   pub quat-stop : o ≡ Rotation.None → stop f ≡ quatOr f d
   quat-stop h = cc
 
--- a body that was to be moved
-pub answer-is : (old : MomentumBody) (d : Result MomentumBody) → bodyAs (answerOf old d) ≡ d
+-- ---- how a call ended: what it left, or a fault, which is the same whatever was to be left
+abbrev pub faultOf : End → Fault
+faultOf Ends.Done = nonConvergent
+faultOf Ends.NonConvergent = nonConvergent
+faultOf Ends.ArithmeticOverflow = arithmeticOverflow
+
+pub ran-done : {A : Type 0} (x : A) (r : End) → isDone r ≡ true → ranAs r x ≡ go x
+ran-done x Ends.Done h = refl
+ran-done x Ends.NonConvergent h = absurd (let z : _≡_ {A = ℕ} 0 1 = cc in omega arith)
+ran-done x Ends.ArithmeticOverflow h = absurd (let z : _≡_ {A = ℕ} 0 1 = cc in omega arith)
+
+ran-failed : {A : Type 0} (x : A) (r : End) → isDone r ≡ false → ranAs r x ≡ stop (faultOf r)
+ran-failed x Ends.Done h = absurd (let z : _≡_ {A = ℕ} 0 1 = cc in omega arith)
+ran-failed x Ends.NonConvergent h = refl
+ran-failed x Ends.ArithmeticOverflow h = refl
+
+-- the number of an answer is its result's
+pub ran-number : {A : Type 0} (x : A) (r : End) {R : Result A} → ranAs r x ≡ R → Numbered r R
+ran-number x r e = here r ∙ ap refusalNumber e
+  where
+    here : (r : End) → Numbered r (ranAs r x)
+    here Ends.Done = refl
+    here Ends.NonConvergent = refl
+    here Ends.ArithmeticOverflow = refl
+
+-- the code asked `done`, which answered b
+module _ {A : Type 0} (x : A) (r : End) {b : Bool} (eb : b ≡ isDone r) where
+  pub fails : not b ≡ true → ranAs r x ≡ stop (faultOf r)
+  fails h = ran-failed x r (sym eb ∙ not-yes b h)
+
+  pub end-goes : {d : Result A} → ranAs r x ≡ d → not b ≡ false → go x ≡ d
+  end-goes e h = sym (ran-done x r (sym eb ∙ not-no b h)) ∙ e
+
+  pub end-stops : {d : Result A} → ranAs r x ≡ d → not b ≡ true → stop (faultOf r) ≡ d
+  end-stops e h = sym (fails h) ∙ e
+
+-- ---- a body that was to be moved
+answer-is : (old : MomentumBody) (d : Result MomentumBody) → bodyAs (answerOf old d) ≡ d
 unfolding answerOf
 answer-is old (go body) = refl
 answer-is old (stop nonConvergent) = refl
 answer-is old (stop arithmeticOverflow) = refl
 
-answer-number : (old : MomentumBody) (d : Result MomentumBody) → finishNumber (answerOf old d .outcome) ≡ refusalNumber d
-unfolding answerOf
-answer-number old (go body) = refl
-answer-number old (stop nonConvergent) = refl
-answer-number old (stop arithmeticOverflow) = refl
-
 pub body-answered : {r : BodyAnswer} (old : MomentumBody) (d : Result MomentumBody) → r ≡ answerOf old d → BodyAnswered old d r
-body-answered old d e = record { is = e; numbered = ap (λ (x : BodyAnswer). finishNumber (x .outcome)) e ∙ answer-number old d }
+body-answered {r} old d e = record { is = e; numbered = ran-number (r .body) (r .outcome) (ap bodyAs e ∙ answer-is old d) }
 
-module _ {r : BodyAnswer} (old : MomentumBody) (d : Result MomentumBody) (e : BodyAnswered old d r) where
-  answered : {x : Finish} → r .outcome ≡ x → finishAs x (r .body) ≡ d
-  answered h = sym (ap (λ (y : Finish). finishAs y (r .body)) h) ∙ ap bodyAs (e .is) ∙ answer-is old d
-
-  pub answer-done : r .outcome ≡ Ends.Done → go (r .body) ≡ d
-  answer-done h = answered h
-
-  pub answer-nonconvergent : r .outcome ≡ Ends.NonConvergent → stop nonConvergent ≡ d
-  answer-nonconvergent h = answered h
-
-  pub answer-overflow : r .outcome ≡ Ends.ArithmeticOverflow → stop arithmeticOverflow ≡ d
-  answer-overflow h = answered h
+pub answered : {r : BodyAnswer} {old : MomentumBody} {d : Result MomentumBody} → BodyAnswered old d r → bodyAs r ≡ d
+answered {r} {old} {d} e = ap bodyAs (e .is) ∙ answer-is old d
 
 -- a state
 pub state-go : {r : StateAnswer} {state : BodyState} {d : Result BodyState} → StateAnswered d r → r ≡ State.Value state → go state ≡ d

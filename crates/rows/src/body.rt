@@ -1,4 +1,5 @@
 // A body with its momenta, as the solver moves it (body.rs).
+use crate::End;
 use vectors::matrix::Mat3;
 use vectors::quaternion::OptionQuat;
 use vectors::quaternion::Quat;
@@ -15,13 +16,6 @@ ghost use Rattle.rows.specs.Unit.{UnitOf, inFrame, integrateAsUnit, worl
 ghost use Rattle.rows.specs.Answer.{answerOf, BodyAnswered, passAs, StateAnswered};
 
 const MAX_ITERATIONS: usize = 32;
-
-// How a solver's call ended: as hoped, or with the Rust's `CollisionError` of that name.
-pub enum Finish {
-    Done,
-    NonConvergent,
-    ArithmeticOverflow,
-}
 
 // The record of a body: what a plan gives, and what a step reads.
 pub struct RigidBody {
@@ -59,7 +53,7 @@ pub struct MomentumBody {
 
 // The body holds a matrix, so the outcome stands beside it. Where it is not `Done` the body is the one at entry.
 pub struct BodyAnswer {
-    pub outcome: Finish,
+    pub outcome: End,
     pub body: MomentumBody,
 }
 
@@ -144,7 +138,7 @@ impl MomentumBody {
         };
         let center_of_mass = body.center_of_mass;
         BodyAnswer {
-            outcome: Finish::Done,
+            outcome: End::Done,
             body: MomentumBody {
                 center,
                 rotation,
@@ -185,7 +179,7 @@ impl MomentumBody {
         body.momentum = momentum;
         body.spin = spin;
         BodyAnswer {
-            outcome: Finish::Done,
+            outcome: End::Done,
             body,
         }
     }
@@ -194,7 +188,7 @@ impl MomentumBody {
         ensures { λ r. ⌜ r ≡ answerOf self (stop arithmeticOverflow) ⌝ }
     {
         BodyAnswer {
-            outcome: Finish::ArithmeticOverflow,
+            outcome: End::ArithmeticOverflow,
             body: self,
         }
     }
@@ -280,12 +274,12 @@ impl MomentumBody {
                 let mut body = self.turned(rotation);
                 body.center = center;
                 BodyAnswer {
-                    outcome: Finish::Done,
+                    outcome: End::Done,
                     body,
                 }
             }
             Pass::Next(_) => BodyAnswer {
-                outcome: Finish::NonConvergent,
+                outcome: End::NonConvergent,
                 body: self,
             },
             Pass::ArithmeticOverflow => self.overflow(),

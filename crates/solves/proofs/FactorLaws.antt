@@ -17,8 +17,8 @@ use Rattle.rows.specs.Fault.{Fault, nonConvergent, arithmeticOverflow, Result}
 use Rattle.rows.specs.View.{at, Out, Kept}
 use Rattle.rows.specs.Region.{is-tab, kept-refl, kept-then, kept-more, kept-set}
 use Rattle.solves.specs.declared.places.MassResponse.{MassResponse}
-use Rattle.solves.specs.declared.End.{End}
-use Rattle.solves.specs.declared.End.the-variants as Ends
+use Rattle.rows.specs.declared.End.{End}
+use Rattle.rows.specs.declared.End.the-variants as Ends
 use Rattle.solves.specs.Region.{vecAt, Filled, Does}
 use Rattle.solves.specs.RegionLaws.{vec-at, kept-vec, vec-set, vec-more, filled-vec}
 use Rattle.solves.specs.Solver.{rowIn, crossMass}

@@ -21,8 +21,8 @@ use Rattle.rows.specs.Fault.{Fault, nonConvergent, Result}
 use Rattle.rows.specs.View.{at, Out, Kept}
 use Rattle.rows.specs.Region.{tab-length, tab-ext, kept-refl, kept-then, kept-more, kept-set}
 use Rattle.solves.specs.declared.places.MassResponse.{MassResponse}
-use Rattle.solves.specs.declared.End.{End}
-use Rattle.solves.specs.declared.End.the-variants as Ends
+use Rattle.rows.specs.declared.End.{End}
+use Rattle.rows.specs.declared.End.the-variants as Ends
 use Rattle.solves.specs.declared.Pass.{Pass}
 use Rattle.solves.specs.declared.Pass.the-variants as Passes
 use Rattle.solves.specs.declared.Table.{Table}

@@ -15,7 +15,7 @@ use Rattle.arith.specs.RunLaws.{run-is, Reached, reached-none, reached-again, r
 use Rattle.rows.specs.Fault.{nonConvergent, arithmeticOverflow, Result}
 use Rattle.rows.specs.View.{Kept}
 use Rattle.rows.specs.Region.{Over, kept-refl, kept-then}
-use Rattle.solves.specs.declared.End.{End}
+use Rattle.rows.specs.declared.End.{End}
 use Rattle.solves.specs.declared.Ended.{Ended}
 use Rattle.solves.specs.declared.Next.{Next}
 use Rattle.solves.specs.declared.Next.the-variants as Nexts

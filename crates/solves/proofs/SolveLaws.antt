@@ -15,8 +15,8 @@ use Rattle.rows.specs.declared.geometry.EqualityRow.{EqualityRow}
 use Rattle.rows.specs.Fault.{Fault, nonConvergent, Result}
 use Rattle.rows.specs.View.{Kept}
 use Rattle.rows.specs.Region.{tab-length, is-tab, kept-then, kept-more}
-use Rattle.solves.specs.declared.End.{End}
-use Rattle.solves.specs.declared.End.the-variants as Ends
+use Rattle.rows.specs.declared.End.{End}
+use Rattle.rows.specs.declared.End.the-variants as Ends
 use Rattle.solves.specs.declared.Pass.{Pass}
 use Rattle.solves.specs.declared.Pass.the-variants as Passes
 use Rattle.solves.specs.declared.Table.{Table}

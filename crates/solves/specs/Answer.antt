@@ -1,18 +1,16 @@
 -- The code's answers as the definitions' results.
 use Prim.Native.Nat.{ℕ, _+_, _*_}
-use mathlib.Core.Path.{_≡_}
 use mathlib.Core.Bool.{Bool, true, false, cond}
 use mathlib.Core.List.{List}
 use lib.Ieee.{Float}
 use Rattle.arith.specs.Flow.{Turn, go, stop}
 use Rattle.arith.specs.Run.{ran, over}
+use Rattle.rows.specs.declared.End.{End}
 use Rattle.rows.specs.declared.geometry.EqualityRow.{EqualityRow}
-use Rattle.rows.specs.Fault.{nonConvergent, arithmeticOverflow, number, Result}
-use Rattle.rows.specs.Answer.{refusalNumber}
+use Rattle.rows.specs.Fault.{nonConvergent, arithmeticOverflow, Result}
+pub use Rattle.rows.specs.Answer.{ranAs, isDone, Numbered}
 use Rattle.solves.specs.declared.Sum.{Sum}
 use Rattle.solves.specs.declared.Sum.the-variants as Sums
-use Rattle.solves.specs.declared.End.{End}
-use Rattle.solves.specs.declared.End.the-variants as Ends
 use Rattle.solves.specs.declared.Pass.{Pass}
 use Rattle.solves.specs.declared.Pass.the-variants as Passes
 use Rattle.solves.specs.declared.Next.{Next}
@@ -47,17 +45,6 @@ shareAs Shares.ArithmeticOverflow = stop arithmeticOverflow
 abbrev pub preparedAs : Rho.Prepared → List Float → ℕ → Result Prepared
 preparedAs (Rhos.Rho rho) s n = go (preparedAt s n rho)
 preparedAs Rhos.NonConvergent s n = stop nonConvergent
-
--- a call that left x
-abbrev pub ranAs : {A : Type 0} → End → A → Result A
-ranAs Ends.Done x = go x
-ranAs Ends.NonConvergent x = stop nonConvergent
-ranAs Ends.ArithmeticOverflow x = stop arithmeticOverflow
-
-abbrev pub isDone : End → Bool
-isDone Ends.Done = true
-isDone Ends.NonConvergent = false
-isDone Ends.ArithmeticOverflow = false
 
 -- ---- passes
 -- a pass that left a for the next, or b
@@ -111,16 +98,6 @@ orderAs r = cond (r .found) (go (orderOf (r .order))) (stop tt)
 abbrev pub orderIn : Turn Seen (Unit {0}) → Turn (List ℕ) (Unit {0})
 orderIn (go seen) = go (seen .order)
 orderIn (stop _) = stop tt
-
--- ---- SPECIFICATION's number of an answer: 0 where nothing failed, and the fault's number
-abbrev pub endNumber : End → ℕ
-endNumber Ends.Done = 0
-endNumber Ends.NonConvergent = number nonConvergent
-endNumber Ends.ArithmeticOverflow = number arithmeticOverflow
-
--- it is that of the result d that is defined
-abbrev pub Numbered : {A : Type 0} → End → Result A → Type 0
-Numbered r d = endNumber r ≡ refusalNumber d
 
 -- ---- what the two calls say that the step takes, each with the number of its answer
 -- `transpose`: the bodies' shares of the rows at entry, as f says, or the fault; no more than the shares is touched

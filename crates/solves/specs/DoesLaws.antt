@@ -1,31 +1,31 @@
 -- How what functions do composes: `?` after a call, and the frames with it. From an answer's case to the definition's result, and its number.
 use Prim.Native.Nat.{ℕ}
-use mathlib.Core.Path.{_≡_, refl, sym, _∙_, ap}
+use mathlib.Core.Path.{_≡_, sym, _∙_, ap}
 use mathlib.Core.Bool.{Bool, true, false, not}
 use mathlib.Core.List.{List}
-use native.Mathlib.Omega.{arith}
 use lib.Ieee.{Float}
 use Rattle.arith.specs.Real.{isFinite}
 use Rattle.arith.specs.Flow.{go, stop, _>>=_, returnIf}
-use Rattle.arith.specs.FlowLaws.{then-go, then-stop, not-yes, not-no}
+use Rattle.arith.specs.FlowLaws.{then-go, then-stop}
 use Rattle.arith.specs.Run.{over}
 use Rattle.vectors.specs.declared.vector.Vec3.{Vec3}
 use Rattle.vectors.specs.Vector.{finiteOf}
-use Rattle.rows.specs.Fault.{Fault, nonConvergent, arithmeticOverflow, Result, tryFinite}
-use Rattle.rows.specs.Answer.{refusalNumber}
+use Rattle.rows.specs.Fault.{Fault, arithmeticOverflow, Result, tryFinite}
+use Rattle.rows.specs.declared.End.{End}
+use Rattle.rows.specs.Answer.{ranAs, isDone, Numbered}
+use Rattle.rows.specs.AnswerLaws.{faultOf, ran-number, end-goes, end-stops}
+pub use Rattle.rows.specs.AnswerLaws.{ran-done, fails}
 use Rattle.rows.specs.Region.{kept-then, kept-more}
 use Rattle.solves.specs.declared.places.Generalized.{Generalized}
 use Rattle.solves.specs.declared.Sum.{Sum}
 use Rattle.solves.specs.declared.Sum.the-variants as Sums
 use Rattle.solves.specs.declared.operator.Share.{Share}
 use Rattle.solves.specs.declared.operator.Share.the-variants as Shares
-use Rattle.solves.specs.declared.End.{End}
-use Rattle.solves.specs.declared.End.the-variants as Ends
 use Rattle.solves.specs.declared.Ended.{Ended}
 use Rattle.solves.specs.System.{Counting}
 use Rattle.solves.specs.Region.{Does}
 use Rattle.solves.specs.Solver.{tryNumber}
-use Rattle.solves.specs.Answer.{sumAs, shareAs, ranAs, endedAs, isDone, Numbered}
+use Rattle.solves.specs.Answer.{sumAs, shareAs, endedAs}
 
 -- tests
 pub finite-yes : {v w : Vec3} {b : Bool} → w ≡ v → b ≡ finiteOf w → b ≡ true → go w ≡ tryFinite v
@@ -62,31 +62,6 @@ sum-there e h = sym (ap sumAs h) ∙ e
 pub sum-over : {r : Sum} {x : Result Float} → sumAs r ≡ x → r ≡ Sums.ArithmeticOverflow → stop arithmeticOverflow ≡ x
 sum-over e h = sym (ap sumAs h) ∙ e
 
--- ---- how a call ended: what it left, or a fault, which is the same whatever was to be left
-abbrev pub faultOf : End → Fault
-faultOf Ends.Done = nonConvergent
-faultOf Ends.NonConvergent = nonConvergent
-faultOf Ends.ArithmeticOverflow = arithmeticOverflow
-
-pub ran-done : {A : Type 0} (x : A) (r : End) → isDone r ≡ true → ranAs r x ≡ go x
-ran-done x Ends.Done h = refl
-ran-done x Ends.NonConvergent h = absurd (let z : _≡_ {A = ℕ} 0 1 = cc in omega arith)
-ran-done x Ends.ArithmeticOverflow h = absurd (let z : _≡_ {A = ℕ} 0 1 = cc in omega arith)
-
-pub ran-failed : {A : Type 0} (x : A) (r : End) → isDone r ≡ false → ranAs r x ≡ stop (faultOf r)
-ran-failed x Ends.Done h = absurd (let z : _≡_ {A = ℕ} 0 1 = cc in omega arith)
-ran-failed x Ends.NonConvergent h = refl
-ran-failed x Ends.ArithmeticOverflow h = refl
-
--- the number of an answer is its result's
-pub ran-number : {A : Type 0} (x : A) (r : End) {R : Result A} → ranAs r x ≡ R → Numbered r R
-ran-number x r e = here r ∙ ap refusalNumber e
-  where
-    here : (r : End) → Numbered r (ranAs r x)
-    here Ends.Done = refl
-    here Ends.NonConvergent = refl
-    here Ends.ArithmeticOverflow = refl
-
 module _ {A : Type 0} {P : ℕ → Type 0} {s t : List Float} (x : A) where
   -- a call that the step takes, and its number
   pub does-numbered : (r : End) {R : Result A} → Does P s t (ranAs r x) R → (Does P s t (ranAs r x) R) × (Numbered r R)
@@ -100,18 +75,14 @@ module _ {A : Type 0} {P : ℕ → Type 0} {s t : List Float} (x : A) where
 module _ {A : Type 0} (x : A) (r : End) {b : Bool} (eb : b ≡ isDone r)
     {P : ℕ → Type 0} {s t : List Float} {R : Result A} (d : Does P s t (ranAs r x) R) where
   pub went : not b ≡ false → Does P s t (go x) R
-  went h = record { kept = d .kept; is = sym (ran-done x r (sym eb ∙ not-no b h)) ∙ d .is }
+  went h = record { kept = d .kept; is = end-goes x r eb (d .is) h }
 
   pub failed : not b ≡ true → Does P s t (stop (faultOf r)) R
-  failed h = record { kept = d .kept; is = sym (ran-failed x r (sym eb ∙ not-yes b h)) ∙ d .is }
+  failed h = record { kept = d .kept; is = end-stops x r eb (d .is) h }
 
 -- the same fault, in the answer of the caller
-module _ {A : Type 0} (x : A) (r : End) {b : Bool} (eb : b ≡ isDone r) (h : not b ≡ true) where
-  pub fails : ranAs r x ≡ stop (faultOf r)
-  fails = ran-failed x r (sym eb ∙ not-yes b h)
-
-  pub fails-over : {B : Type 0} → over {A = B} (ranAs r x) ≡ stop (faultOf r)
-  fails-over {B} = ap (over {A = B}) fails
+pub fails-over : {A B : Type 0} (x : A) (r : End) {b : Bool} → b ≡ isDone r → not b ≡ true → over {A = B} (ranAs r x) ≡ stop (faultOf r)
+fails-over {A} {B} x r eb h = ap (over {A = B}) (fails x r eb h)
 
 -- ---- calls one after the other, each under its frame
 module _ {A B : Type 0} {P Q : ℕ → Type 0} {s t : List Float} {R : Result A} (f : A → Result B) (w : (i : ℕ) → Q i → P i) where

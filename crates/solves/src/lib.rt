@@ -10,15 +10,10 @@ mod search;
 pub mod solver;
 pub mod values;
 
+pub use rows::End;
+pub use rows::done;
 ghost use mathlib.Core.Path.{_≡_};
-ghost use Rattle.solves.specs.Answer.{isDone, endedWith};
-
-// How a call ended: the Rust's `Result<(), _>`.
-pub enum End {
-    Done,
-    NonConvergent,
-    ArithmeticOverflow,
-}
+ghost use Rattle.solves.specs.Answer.{endedWith};
 
 // How a pass of a loop ended: there is to be another, or the loop is over.
 pub enum Pass {
@@ -49,17 +44,6 @@ pub struct Table {
     pub place: usize,
     pub rows: usize,
     pub bodies: usize,
-}
-
-// What `?` asks of a call that went through.
-pub fn done(end: End) -> bool
-    ensures { λ r. ⌜ r ≡ isDone end ⌝ }
-{
-    match end {
-        End::Done => true,
-        End::NonConvergent => false,
-        End::ArithmeticOverflow => false,
-    }
 }
 
 impl Ended {

@@ -19,8 +19,8 @@ use Rattle.rows.specs.declared.geometry.Joint.{Joint}
 use Rattle.rows.specs.Fault.{Result}
 use Rattle.rows.specs.View.{at, vec3At, Out, Kept}
 use Rattle.rows.specs.Region.{tab-length, tab-at, kept-then, kept-more}
-use Rattle.solves.specs.declared.End.{End}
-use Rattle.solves.specs.declared.End.the-variants as Ends
+use Rattle.rows.specs.declared.End.{End}
+use Rattle.rows.specs.declared.End.the-variants as Ends
 use Rattle.solves.specs.declared.Ended.{Ended}
 use Rattle.solves.specs.declared.Table.{Table}
 use Rattle.solves.specs.Layout.{MASS-TABLE}

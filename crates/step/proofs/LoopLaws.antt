@@ -12,8 +12,8 @@ use Rattle.rows.specs.declared.geometry.EqualityRow.{EqualityRow}
 use Rattle.rows.specs.Fault.{Result}
 use Rattle.rows.specs.View.{Out, Kept}
 use Rattle.rows.specs.Region.{tab-length, kept-then, kept-more}
-use Rattle.solves.specs.declared.End.{End}
-use Rattle.solves.specs.declared.End.the-variants as Ends
+use Rattle.rows.specs.declared.End.{End}
+use Rattle.rows.specs.declared.End.the-variants as Ends
 use Rattle.solves.specs.declared.Table.{Table}
 use Rattle.solves.specs.declared.places.Generalized.{Generalized}
 use Rattle.solves.specs.declared.places.MassResponse.{MassResponse}

@@ -14,7 +14,7 @@ use Rattle.arith.specs.RunLaws.{try-go, try-stop, leave-yes, leave-no}
 use Rattle.rows.specs.Fault.{nonConvergent, Result}
 use Rattle.rows.specs.View.{Kept}
 use Rattle.rows.specs.Region.{tab-length, is-tab, kept-then, kept-more}
-use Rattle.solves.specs.declared.End.{End}
+use Rattle.rows.specs.declared.End.{End}
 use Rattle.solves.specs.declared.Ended.{Ended}
 use Rattle.solves.specs.declared.Table.{Table}
 use Rattle.solves.specs.Layout.{ROW-TABLE}

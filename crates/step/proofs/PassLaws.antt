@@ -12,7 +12,7 @@ use Rattle.arith.specs.RunLaws.{run-is, then-go, then-stop, try-go, try-stop, R
 use Rattle.rows.specs.Fault.{nonConvergent, Result}
 use Rattle.rows.specs.View.{Kept}
 use Rattle.rows.specs.Region.{kept-refl, kept-then}
-use Rattle.solves.specs.declared.End.{End}
+use Rattle.rows.specs.declared.End.{End}
 use Rattle.solves.specs.declared.Ended.{Ended}
 use Rattle.solves.specs.declared.Pass.{Pass}
 use Rattle.solves.specs.declared.Pass.the-variants as Passes

@@ -1,6 +1,6 @@
 -- What the loops of a run keep: lengths, the bodies of rows, how many rows a joint has.
 use Prim.Native.Nat.{ℕ, _+_, _-_, _≤_, _<_}
-use mathlib.Core.Path.{_≡_, refl, sym, _∙_, ap, subst}
+use mathlib.Core.Path.{_≡_, refl, sym, _∙_, subst}
 use mathlib.Core.List.{List}
 use native.Mathlib.Omega.{arith}
 use native.Mathlib.Decide.{ℕ-discrete, decLe}
@@ -8,9 +8,6 @@ use lib.ListN.{length, getD, set, take, length-take}
 use lib.Seq.{getD-set-same, getD-set-other}
 use lib.Ieee.{Float}
 use Rattle.rows.specs.declared.body.MomentumBody.{MomentumBody}
-use Rattle.rows.specs.declared.body.Finish.{Finish}
-use Rattle.rows.specs.Fault.{Result}
-use Rattle.rows.specs.Answer.{finishAs}
 use Rattle.rows.specs.declared.geometry.Joint.{Joint}
 use Rattle.rows.specs.declared.geometry.Written.{Written}
 use Rattle.rows.specs.declared.geometry.Written.the-variants as Written
@@ -74,10 +71,6 @@ rows-of {joints} {count} {n} {size} rows t w j b = record {
 
 pub take-long : (n : ℕ) (s : List Float) → n ≤ length s → length (take n s) ≡ n
 take-long n s h = simp length-take (omega arith)
-
--- the cases of an end
-pub finish-case : {A : Type 0} (x : A) (r : Finish) {q : Finish} {d : Result A} → finishAs r x ≡ d → r ≡ q → finishAs q x ≡ d
-finish-case x r e h = sym (ap (λ (o : Finish). finishAs o x) h) ∙ e
 
 -- rows stay where the scratch keeps its length
 pub rows-at : {s t : List Float} {ia ib : List ℕ} {rows n size : ℕ} → Rows s ia ib rows n size → length t ≡ length s → Rows t ia ib rows n size

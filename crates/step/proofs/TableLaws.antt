@@ -18,16 +18,14 @@ use Rattle.vectors.specs.Quaternion.{toMat3Of}
 use Rattle.vectors.specs.Matrix.{columnOf, finiteMat, matProductOf, transposeOf, inverseSpdOf}
 use Rattle.rows.specs.declared.body.RigidBody.{RigidBody}
 use Rattle.rows.specs.declared.body.BodyState.{BodyState}
-use Rattle.rows.specs.declared.body.Finish.{Finish}
-use Rattle.rows.specs.declared.body.Finish.the-variants as Ends
 use Rattle.rows.specs.declared.body.BodyAnswer.{BodyAnswer}
 use Rattle.rows.specs.declared.body.MomentumBody.{MomentumBody}
 use Rattle.rows.specs.declared.geometry.EqualityRow.{EqualityRow}
 use Rattle.rows.specs.Fault.{Fault, arithmeticOverflow, Result}
 use Rattle.rows.specs.Body.{newOf, kickOf, driftOf, stateWith, stateOf}
-use Rattle.rows.specs.AnswerLaws.{answer-is, answer-done, answer-nonconvergent, answer-overflow}
+use Rattle.rows.specs.AnswerLaws.{answered, fails, end-goes, end-stops}
 use Rattle.rows.specs.View.{at, Out, Kept}
-use Rattle.rows.specs.Answer.{finishAs, bodyAs, BodyAnswered}
+use Rattle.rows.specs.Answer.{isDone, bodyAs, BodyAnswered}
 use Rattle.rows.specs.Region.{tab-length, tab-ext, tab-at, kept-refl, kept-set, kept-then, kept-more}
 use Rattle.rows.specs.Laws.Results.{go-same}
 use Rattle.solves.specs.declared.places.Generalized.{Generalized}
@@ -188,19 +186,16 @@ mass-is body {turned} {a} {b} {f} {g} {h} et ea eb ef eg eh =
 
 -- ---- kick_and_drift
 module _ (dt : Float) (body : MomentumBody) (kick : Generalized) {kicked : BodyAnswer}
-    (e : BodyAnswered body (kickOf body (kick .linear) (kick .angular)) kicked) where
+    (e : BodyAnswered body (kickOf body (kick .linear) (kick .angular)) kicked) {b : Bool} (eb : b ≡ isDone (kicked .outcome)) where
   abbrev drifting : MomentumBody → Result MomentumBody
   drifting b = driftOf b dt
 
-  pub kick-drifts : {r : BodyAnswer} → kicked .outcome ≡ Ends.Done → BodyAnswered (kicked .body) (driftOf (kicked .body) dt) r
+  pub kick-drifts : {r : BodyAnswer} → not b ≡ false → BodyAnswered (kicked .body) (driftOf (kicked .body) dt) r
       → bodyAs r ≡ kickAndDrift dt body kick
-  kick-drifts h q = ap bodyAs (q .is) ∙ answer-is (kicked .body) (driftOf (kicked .body) dt) ∙ then-go drifting (answer-done body _ e h)
+  kick-drifts h q = answered q ∙ then-go drifting (end-goes (kicked .body) (kicked .outcome) eb (answered e) h)
 
-  pub kick-nonconvergent : kicked .outcome ≡ Ends.NonConvergent → bodyAs kicked ≡ kickAndDrift dt body kick
-  kick-nonconvergent h = ap (λ (o : Finish). finishAs o (kicked .body)) h ∙ then-stop drifting (answer-nonconvergent body _ e h)
-
-  pub kick-overflow : kicked .outcome ≡ Ends.ArithmeticOverflow → bodyAs kicked ≡ kickAndDrift dt body kick
-  kick-overflow h = ap (λ (o : Finish). finishAs o (kicked .body)) h ∙ then-stop drifting (answer-overflow body _ e h)
+  pub kick-fails : not b ≡ true → bodyAs kicked ≡ kickAndDrift dt body kick
+  kick-fails h = fails (kicked .body) (kicked .outcome) eb h ∙ then-stop drifting (end-stops (kicked .body) (kicked .outcome) eb (answered e) h)
 
 -- ---- move_bodies
 module _ (dt : Float) (n : ℕ) (s₀ : List Float) where

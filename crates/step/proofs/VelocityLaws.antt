@@ -25,7 +25,7 @@ use Rattle.rows.specs.Region.{tab-length, kept-refl, kept-set, kept-then, kept-
 use Rattle.rows.specs.AnswerLaws.{vector-go, vector-stop}
 use Rattle.solves.specs.declared.places.Generalized.{Generalized}
 use Rattle.solves.specs.Solver.{rowIn, generalizedIn, transpose}
-use Rattle.solves.specs.declared.End.{End}
+use Rattle.rows.specs.declared.End.{End}
 use Rattle.solves.specs.declared.Ended.{Ended}
 use Rattle.solves.specs.declared.Table.{Table}
 use Rattle.solves.specs.System.{Counting}

@@ -19,7 +19,6 @@ use crate::velocity::velocity_loop;
 use arith::number::abs;
 use arith::number::is_finite;
 use rows::body::BodyAnswer;
-use rows::body::Finish;
 use rows::body::MomentumBody;
 use rows::body::StateAnswer;
 use rows::geometry::Joint;
@@ -92,15 +91,10 @@ fn start_bodies(s: &mut [f64], bodies: &[f64], n: usize) -> End
         let inverted = inverse_spd(inertia);
         let made = MomentumBody::new(record, inverted.inverse);
         let outcome = made.outcome;
-        match outcome {
-            Finish::Done => store_start(s, k, made.body),
-            Finish::NonConvergent => {
-                return End::NonConvergent;
-            }
-            Finish::ArithmeticOverflow => {
-                return End::ArithmeticOverflow;
-            }
+        if !done(outcome) {
+            return outcome;
         }
+        store_start(s, k, made.body);
     }
     End::Done
 }
@@ -229,11 +223,10 @@ fn kick_and_drift(body: MomentumBody, linear: Vec3, angular: Vec3, dt: f64) -> B
 {
     let kicked = body.kick(linear, angular);
     let outcome = kicked.outcome;
-    match outcome {
-        Finish::Done => kicked.body.drift(dt),
-        Finish::NonConvergent => kicked,
-        Finish::ArithmeticOverflow => kicked,
+    if !done(outcome) {
+        return kicked;
     }
+    kicked.body.drift(dt)
 }
 
 // The candidates: each pass restarts from the starting bodies with the summed impulses.
@@ -245,15 +238,10 @@ fn move_bodies(s: &mut [f64], n: usize, dt: f64) -> End
         let share = load_generalized(s, GENERALIZED, k);
         let moved = kick_and_drift(load_start(s, k), share.linear, share.angular, dt);
         let outcome = moved.outcome;
-        match outcome {
-            Finish::Done => store_candidate(s, k, moved.body),
-            Finish::NonConvergent => {
-                return End::NonConvergent;
-            }
-            Finish::ArithmeticOverflow => {
-                return End::ArithmeticOverflow;
-            }
+        if !done(outcome) {
+            return outcome;
         }
+        store_candidate(s, k, moved.body);
     }
     End::Done
 }

@@ -6,7 +6,6 @@ use crate::passes::loop_ended;
 use crate::passes::pass_ended;
 use arith::number::abs;
 use arith::number::is_finite;
-use rows::body::Finish;
 use rows::body::MomentumBody;
 use rows::geometry::EqualityRow;
 use solves::End;
@@ -143,15 +142,10 @@ fn kick_candidates(s: &mut [f64], bodies: usize) -> End
         let share = load_generalized(s, GENERALIZED, k);
         let kicked = load_candidate(s, k).kick(share.linear, share.angular);
         let outcome = kicked.outcome;
-        match outcome {
-            Finish::Done => store_candidate(s, k, kicked.body),
-            Finish::NonConvergent => {
-                return End::NonConvergent;
-            }
-            Finish::ArithmeticOverflow => {
-                return End::ArithmeticOverflow;
-            }
+        if !done(outcome) {
+            return outcome;
         }
+        store_candidate(s, k, kicked.body);
     }
     End::Done
 }

@@ -5,7 +5,7 @@ use Prim.Native.Nat.{_≤_, _-_}
 use lib.ListN.{length}
 use Rattle.arith.specs.Flow.{loop}
 use Rattle.arith.specs.FlowLaws.{cond-yes, cond-no}
-use Rattle.solves.specs.declared.End.the-variants as Ends
+use Rattle.rows.specs.declared.End.the-variants as Ends
 use Rattle.solves.specs.DoesLaws.{does-numbered}
 use Rattle.solves.specs.Region.{vecAt, Does}
 use Rattle.solves.specs.View.{rowsOn, sharesIn, Shares}
@@ -170,6 +170,6 @@ returns-2 c =
 pub transpose-spec : {M : Type 1} → statement M
 transpose-spec =
     tie.close (tie.spec
-      Inv-loop μ-loop (λ c. omega arith) (λ c κs. omega arith) loop-holds load-row-requires add-value mul-value
-      slice-read-value push-row-requires add-k (λ c. omega arith) loop-again shares-finite-requires same-length
-      returns same-length-2 returns-2)
+    Inv-loop μ-loop (λ c. omega arith) (λ c κs. omega arith) loop-holds load-row-requires add-value mul-value
+    slice-read-value push-row-requires add-k (λ c. omega arith) loop-again shares-finite-requires same-length
+    returns same-length-2 returns-2)

@@ -5,7 +5,7 @@ use mathlib.Core.Path.{_≡_, refl, _∙_}
 use Prim.Native.Nat.{_≤_, _-_}
 use lib.ListN.{length}
 use denote.Ref.{now}
-use Rattle.solves.specs.declared.End.{End}
+use Rattle.rows.specs.declared.End.{End}
 use Rattle.solves.specs.Path.{pathRow}
 use Rattle.solves.specs.Answer.{ranAs}
 use Rattle.solves.specs.View.{bandAt}
@@ -110,6 +110,6 @@ returns-3 c =
 pub path-factor-spec : {M : Type 1} → statement M
 path-factor-spec =
     tie.close (tie.spec
-      Inv-loop μ-loop (λ c. omega arith) (λ c κs. omega arith) loop-holds path-row-requires (λ c. search needs)
-      (λ c. search needs) same-length returns (λ c. search needs) same-length-2 returns-2 (λ c. omega arith)
-      (λ c. omega arith) loop-again same-length-3 returns-3)
+    Inv-loop μ-loop (λ c. omega arith) (λ c κs. omega arith) loop-holds path-row-requires (λ c. search needs)
+    (λ c. search needs) same-length returns (λ c. search needs) same-length-2 returns-2 (λ c. omega arith)
+    (λ c. omega arith) loop-again same-length-3 returns-3)

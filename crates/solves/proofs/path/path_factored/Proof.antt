@@ -3,7 +3,7 @@ use borrow.Author.Needs.{needs}
 use mathlib.Core.Path.{_∙_}
 use lib.ListN.{length}
 use denote.Ref.{now}
-use Rattle.solves.specs.declared.End.{End}
+use Rattle.rows.specs.declared.End.{End}
 use Rattle.solves.specs.Answer.{ranAs}
 use Rattle.solves.specs.Region.{vecAt}
 use Rattle.solves.specs.View.{PATH-SCALE}
@@ -62,5 +62,5 @@ returns-3 c =
 pub path-factored-spec : {M : Type 1} → statement M
 path-factored-spec =
     tie.close (tie.spec
-      path-scale-requires (λ c. search needs) path-factor-requires (λ c. search needs) (λ c. search needs)
-      same-length returns (λ c. search needs) returns-2 (λ c. search needs) returns-3)
+    path-scale-requires (λ c. search needs) path-factor-requires (λ c. search needs) (λ c. search needs)
+    same-length returns (λ c. search needs) returns-2 (λ c. search needs) returns-3)

@@ -1,7 +1,8 @@
 -- `start_bodies` is `startBodies`: before turn k the first k bodies stand in the table (TableLaws).
 use lib.ListN.{length}
 use denote.Ref.{now}
-use Rattle.rows.specs.AnswerLaws.{answer-done, answer-nonconvergent, answer-overflow}
+use Rattle.rows.specs.AnswerLaws.{answered, fails, end-goes, end-stops}
+use Rattle.solves.specs.DoesLaws.{does-eq}
 use Rattle.step.proofs.TableLaws.{Begun, begin-none, begin-again, begin-stops, begin-ends}
 use native.Mathlib.Omega.{arith}
 use mathlib.Core.Path.{_≡_, refl}
@@ -23,34 +24,29 @@ loop-holds c =
 
 returns : tie.Need-returns Inv-loop μ-loop
 returns c =
-    let at-inverse-spd = c .before .before .before in let at-load-record = at-inverse-spd .before .before in let at-test = at-load-record .before in
-    let at-loop = at-test .before in let at-entry = at-loop .before .before .before in
-    begin-stops (now (at-entry .args .bodies)) (at-entry .args .n) _ _ _ (at-loop .loop .inv .2) (at-test .loop-test .taken) (at-entry .pre .2) _
+    let at-new = c .before .before in let at-inverse-spd = at-new .before in let at-load-record = at-inverse-spd .before .before in
+    let at-test = at-load-record .before in let at-loop = at-test .before in let at-entry = at-loop .before .before .before in
+    let end = at-new .new .result .outcome in
+    does-eq (fails _ end (c .before .done .ensures) (c .if1 .taken))
+    (begin-stops (now (at-entry .args .bodies)) (at-entry .args .n) _ _ _ (at-loop .loop .inv .2) (at-test .loop-test .taken) (at-entry .pre .2) _
     (at-load-record .load-record .ensures) (at-inverse-spd .inverse-spd .ensures) refl
-    (answer-nonconvergent _ _ (c .before .before .new .ensures) (c .enum-told2 .given .1))
-
-returns-2 : tie.Need-returns-2 Inv-loop μ-loop
-returns-2 c =
-    let at-inverse-spd = c .before .before .before in let at-load-record = at-inverse-spd .before .before in let at-test = at-load-record .before in
-    let at-loop = at-test .before in let at-entry = at-loop .before .before .before in
-    begin-stops (now (at-entry .args .bodies)) (at-entry .args .n) _ _ _ (at-loop .loop .inv .2) (at-test .loop-test .taken) (at-entry .pre .2) _
-    (at-load-record .load-record .ensures) (at-inverse-spd .inverse-spd .ensures) refl
-    (answer-overflow _ _ (c .before .before .new .ensures) (c .enum-told3 .given .1))
+    (end-stops _ end (c .before .done .ensures) (answered (at-new .new .ensures)) (c .if1 .taken)))
 
 loop-again : tie.Need-loop-again Inv-loop μ-loop
 loop-again c =
-    let at-enum-told = c .before .before .before .before in let at-new = at-enum-told .before .before in let at-inverse-spd = at-new .before in
-    let at-load-record = at-inverse-spd .before .before in let at-test = at-load-record .before in let at-loop = at-test .before in
-    let at-entry = at-loop .before .before .before in (
+    let at-if1 = c .before .before .before .before in let at-done = at-if1 .before in let at-new = at-done .before in
+    let at-inverse-spd = at-new .before in let at-load-record = at-inverse-spd .before .before in let at-test = at-load-record .before in
+    let at-loop = at-test .before in let at-entry = at-loop .before .before .before in (
       omega arith,
       omega arith,
       begin-again (now (at-entry .args .bodies)) (at-entry .args .n) _ _ _ (at-loop .loop .inv .2) (at-test .loop-test .taken) (at-entry .pre .2) _
           (at-load-record .load-record .ensures) (at-inverse-spd .inverse-spd .ensures) refl
-          (answer-done _ _ (at-new .new .ensures) (at-enum-told .enum-told .given .1)) (c .before .before .store-start .ensures),
+          (end-goes _ (at-new .new .result .outcome) (at-done .done .ensures) (answered (at-new .new .ensures)) (at-if1 .if1 .left))
+          (c .before .before .store-start .ensures),
     )
 
-returns-3 : tie.Need-returns-3 Inv-loop μ-loop
-returns-3 c =
+returns-2 : tie.Need-returns-2 Inv-loop μ-loop
+returns-2 c =
     let at-entry = c .before .before .before .before in
     begin-ends (now (at-entry .args .bodies)) (at-entry .args .n) _ _ _ (c .before .loop .inv .2) (omega arith) (c .loop-test .left)
     (at-entry .pre .2)
@@ -58,7 +54,5 @@ returns-3 c =
 pub start-bodies-spec : {M : Type 1} → statement M
 start-bodies-spec =
     tie.close (tie.spec
-      Inv-loop μ-loop loop-holds (λ c κs. omega arith) (λ c κs. omega arith) (λ c κs. omega arith)
-      (λ c. search needs) (λ c κs. omega arith) (λ c. search needs) (λ c. omega arith) returns
-      (λ c. search needs) (λ c. omega arith) returns-2 (λ c. omega arith) (λ c. omega arith) loop-again
-      (λ c. omega arith) returns-3)
+    Inv-loop μ-loop loop-holds (λ c κs. omega arith) (λ c κs. omega arith) (λ c κs. omega arith) (λ c κs. search needs)
+    (λ c. omega arith) returns (λ c κs. omega arith) (λ c. omega arith) (λ c. omega arith) loop-again (λ c. omega arith) returns-2)
