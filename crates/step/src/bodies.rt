@@ -19,7 +19,8 @@ ghost use Rattle.arith.specs.Real.{ratio};
 ghost use Rattle.arith.specs.Flow.{every};
 ghost use Rattle.rows.specs.View.{vec3At, Out, Kept};
 ghost use Rattle.solves.specs.Lent.{came, left};
-ghost use Rattle.step.specs.Layout.{START, CANDIDATE, USED};
+ghost use Rattle.solves.specs.Layout.{BODIES-MOST};
+ghost use Rattle.step.specs.Layout.{RECORD, MOVING, START, CANDIDATE, USED};
 ghost use Rattle.step.specs.Records.{quatAt, matAt, recordAt, stateAt};
 ghost use Rattle.step.specs.Checks.{withinOf};
 ghost use Rattle.step.specs.View.{colsOf, fixedAt, fixedOf, movingAt, movingOf, bodyFrom, startBodyAt, candidateAt, heldOf, movedTo, Handed};
@@ -68,7 +69,7 @@ fn store_mat3(s: &mut [f64], i: usize, m: Mat3)
 
 // Record k of a body slice.
 pub(crate) fn load_record(bodies: &[f64], k: usize) -> RigidBody
-    requires { ⌜ 26 * k + 26 ≤ length (now bodies) ⌝ }
+    requires { ⌜ RECORD * k + RECORD ≤ length (now bodies) ⌝ }
     ensures { λ r. ⌜ r ≡ recordAt (came bodies) k ⌝ }
 {
     let i = RECORD * k;
@@ -85,7 +86,7 @@ pub(crate) fn load_record(bodies: &[f64], k: usize) -> RigidBody
 
 // The 13 numbers at i as a state.
 pub(crate) fn load_state(s: &[f64], i: usize) -> BodyState
-    requires { ⌜ i + 13 ≤ length (now s) ⌝ }
+    requires { ⌜ i + MOVING ≤ length (now s) ⌝ }
     ensures { λ r. ⌜ r ≡ stateAt (came s) i ⌝ }
 {
     BodyState {
@@ -97,8 +98,8 @@ pub(crate) fn load_state(s: &[f64], i: usize) -> BodyState
 }
 
 pub(crate) fn store_state(s: &mut [f64], i: usize, state: BodyState)
-    requires { ⌜ i + 13 ≤ length (now s) ⌝ }
-    ensures { λ _. ⌜ (Kept (λ j. Out i 13 j) (came s) (left s)) × (stateAt (left s) i ≡ state) ⌝ }
+    requires { ⌜ i + MOVING ≤ length (now s) ⌝ }
+    ensures { λ _. ⌜ (Kept (λ j. Out i MOVING j) (came s) (left s)) × (stateAt (left s) i ≡ state) ⌝ }
 {
     store3(s, i, state.origin);
     store4(s, i + 3, state.rotation);
@@ -107,8 +108,8 @@ pub(crate) fn store_state(s: &mut [f64], i: usize, state: BodyState)
 }
 
 fn store_moving(s: &mut [f64], i: usize, body: MomentumBody)
-    requires { ⌜ i + 13 ≤ length (now s) ⌝ }
-    ensures { λ _. ⌜ (Kept (λ j. Out i 13 j) (came s) (left s)) × (movingAt (left s) i ≡ movingOf body) ⌝ }
+    requires { ⌜ i + MOVING ≤ length (now s) ⌝ }
+    ensures { λ _. ⌜ (Kept (λ j. Out i MOVING j) (came s) (left s)) × (movingAt (left s) i ≡ movingOf body) ⌝ }
 {
     store3(s, i, body.center);
     store4(s, i + 3, body.rotation);
@@ -118,8 +119,8 @@ fn store_moving(s: &mut [f64], i: usize, body: MomentumBody)
 
 // What does not move: mass, local centre and inverse inertia.
 fn store_fixed(s: &mut [f64], i: usize, body: MomentumBody)
-    requires { ⌜ i + 13 ≤ length (now s) ⌝ }
-    ensures { λ _. ⌜ (Kept (λ j. Out i 13 j) (came s) (left s)) × (fixedAt (left s) i ≡ fixedOf body) ⌝ }
+    requires { ⌜ i + MOVING ≤ length (now s) ⌝ }
+    ensures { λ _. ⌜ (Kept (λ j. Out i MOVING j) (came s) (left s)) × (fixedAt (left s) i ≡ fixedOf body) ⌝ }
 {
     store3(s, i + 1, body.center_of_mass);
     store_mat3(s, i + 4, body.inverse_inertia);
@@ -127,8 +128,8 @@ fn store_fixed(s: &mut [f64], i: usize, body: MomentumBody)
 }
 
 pub(crate) fn store_start(s: &mut [f64], k: usize, body: MomentumBody)
-    requires { ⌜ (USED ≤ length (now s)) × (k < 16) ⌝ }
-    ensures { λ _. ⌜ (Kept (λ j. Out (START + 26 * k) 26 j) (came s) (left s)) × (startBodyAt (left s) k ≡ heldOf body) ⌝ }
+    requires { ⌜ (USED ≤ length (now s)) × (k < BODIES-MOST) ⌝ }
+    ensures { λ _. ⌜ (Kept (λ j. Out (START + RECORD * k) RECORD j) (came s) (left s)) × (startBodyAt (left s) k ≡ heldOf body) ⌝ }
 {
     let i = START + RECORD * k;
     store_moving(s, i, body);
@@ -136,16 +137,18 @@ pub(crate) fn store_start(s: &mut [f64], k: usize, body: MomentumBody)
 }
 
 pub(crate) fn store_candidate(s: &mut [f64], k: usize, body: MomentumBody)
-    requires { ⌜ (USED ≤ length (now s)) × (k < 16) ⌝ }
-    ensures { λ _. ⌜ (Kept (λ j. Out (CANDIDATE + 13 * k) 13 j) (came s) (left s)) × (candidateAt (left s) k ≡ movedTo body (startBodyAt (came s) k)) ⌝ }
+    requires { ⌜ (USED ≤ length (now s)) × (k < BODIES-MOST) ⌝ }
+    ensures { λ _. ⌜
+        (Kept (λ j. Out (CANDIDATE + MOVING * k) MOVING j) (came s) (left s))
+        × (candidateAt (left s) k ≡ movedTo body (startBodyAt (came s) k)) ⌝ }
 {
     store_moving(s, CANDIDATE + MOVING * k, body);
 }
 
 // The body whose moving numbers stand at i; mass and inertia are those of the start.
 fn load_body(s: &[f64], i: usize, k: usize) -> MomentumBody
-    requires { ⌜ (i + 13 ≤ length (now s)) × (USED ≤ length (now s)) × (k < 16) ⌝ }
-    ensures { λ r. ⌜ r ≡ bodyFrom (came s) i (START + 26 * k) ⌝ }
+    requires { ⌜ (i + MOVING ≤ length (now s)) × (USED ≤ length (now s)) × (k < BODIES-MOST) ⌝ }
+    ensures { λ r. ⌜ r ≡ bodyFrom (came s) i (START + RECORD * k) ⌝ }
 {
     let j = START + RECORD * k;
     MomentumBody {
@@ -160,25 +163,25 @@ fn load_body(s: &[f64], i: usize, k: usize) -> MomentumBody
 }
 
 pub(crate) fn load_start(s: &[f64], k: usize) -> MomentumBody
-    requires { ⌜ (USED ≤ length (now s)) × (k < 16) ⌝ }
+    requires { ⌜ (USED ≤ length (now s)) × (k < BODIES-MOST) ⌝ }
     ensures { λ r. ⌜ r ≡ startBodyAt (came s) k ⌝ }
 {
     load_body(s, START + RECORD * k, k)
 }
 
 pub(crate) fn load_candidate(s: &[f64], k: usize) -> MomentumBody
-    requires { ⌜ (USED ≤ length (now s)) × (k < 16) ⌝ }
+    requires { ⌜ (USED ≤ length (now s)) × (k < BODIES-MOST) ⌝ }
     ensures { λ r. ⌜ r ≡ candidateAt (came s) k ⌝ }
 {
     load_body(s, CANDIDATE + MOVING * k, k)
 }
 
 // Whether every resulting origin is on the plan's ground. The states stand where the candidates were.
-pub(crate) fn in_ground(s: &[f64], n: usize) -> bool
-    requires { ⌜ (USED ≤ length (now s)) × (n ≤ 16) ⌝ }
-    ensures { λ r. ⌜ r ≡ every n (λ k. withinOf (vec3At (came s) (CANDIDATE + 13 * k)) (ratio 8192 1)) ⌝ }
+pub(crate) fn in_ground(s: &[f64], body_count: usize) -> bool
+    requires { ⌜ (USED ≤ length (now s)) × («body_count» ≤ BODIES-MOST) ⌝ }
+    ensures { λ r. ⌜ r ≡ every «body_count» (λ k. withinOf (vec3At (came s) (CANDIDATE + MOVING * k)) (ratio 8192 1)) ⌝ }
 {
-    for k in 0..n {
+    for k in 0..body_count {
         if !within(load3(s, CANDIDATE + MOVING * k), 8192.0) {
             return false;
         }
@@ -187,11 +190,11 @@ pub(crate) fn in_ground(s: &[f64], n: usize) -> bool
 }
 
 // Hands the states back: the first 13 numbers of each record.
-pub(crate) fn write_states(bodies: &mut [f64], s: &[f64], n: usize)
-    requires { ⌜ (26 * n ≤ length (now bodies)) × (USED ≤ length (now s)) × (n ≤ 16) ⌝ }
-    ensures { λ _. ⌜ Handed n (came s) (came bodies) (left bodies) ⌝ }
+pub(crate) fn write_states(bodies: &mut [f64], s: &[f64], body_count: usize)
+    requires { ⌜ (RECORD * «body_count» ≤ length (now bodies)) × (USED ≤ length (now s)) × («body_count» ≤ BODIES-MOST) ⌝ }
+    ensures { λ _. ⌜ Handed «body_count» (came s) (came bodies) (left bodies) ⌝ }
 {
-    for k in 0..n {
+    for k in 0..body_count {
         store_state(bodies, RECORD * k, load_state(s, CANDIDATE + MOVING * k));
     }
 }

@@ -26,6 +26,7 @@ ghost use Rattle.arith.specs.Flow.{every};
 ghost use Rattle.rows.specs.Motions.{motionsOf};
 ghost use Rattle.rows.specs.View.{at};
 ghost use Rattle.step.specs.declared.Outcome.the-variants.{Accepted};
+ghost use Rattle.step.specs.Layout.{RECORD};
 ghost use Rattle.step.specs.Records.{recordAt};
 ghost use Rattle.step.specs.Checks.{withinOf, timeStepOk, bodiesFit, massInRange, bodyInRange, hasInverse, joinsTwo, frameOk};
 ghost use Rattle.step.specs.Checks.{lengthOk, swingOk, twistOk, coneOk, turningOk, motionsOk, jointOk, jointIn};
@@ -77,11 +78,11 @@ fn body_in_range(body: RigidBody) -> bool
     false
 }
 
-fn bodies_in_range(bodies: &[f64], n: usize) -> bool
-    requires { ⌜ 26 * n ≤ length (now bodies) ⌝ }
-    ensures { λ r. ⌜ r ≡ every n (λ k. bodyInRange (recordAt (now (bodies .entry)) k)) ⌝ }
+fn bodies_in_range(bodies: &[f64], body_count: usize) -> bool
+    requires { ⌜ RECORD * «body_count» ≤ length (now bodies) ⌝ }
+    ensures { λ r. ⌜ r ≡ every «body_count» (λ k. bodyInRange (recordAt (now (bodies .entry)) k)) ⌝ }
 {
-    for k in 0..n {
+    for k in 0..body_count {
         if !body_in_range(load_record(bodies, k)) {
             return false;
         }
@@ -104,11 +105,11 @@ fn has_inverse(body: RigidBody) -> bool
     }
 }
 
-fn inertias_invert(bodies: &[f64], n: usize) -> bool
-    requires { ⌜ 26 * n ≤ length (now bodies) ⌝ }
-    ensures { λ r. ⌜ r ≡ every n (λ k. hasInverse (recordAt (now (bodies .entry)) k)) ⌝ }
+fn inertias_invert(bodies: &[f64], body_count: usize) -> bool
+    requires { ⌜ RECORD * «body_count» ≤ length (now bodies) ⌝ }
+    ensures { λ r. ⌜ r ≡ every «body_count» (λ k. hasInverse (recordAt (now (bodies .entry)) k)) ⌝ }
 {
-    for k in 0..n {
+    for k in 0..body_count {
         if !has_inverse(load_record(bodies, k)) {
             return false;
         }
@@ -116,23 +117,23 @@ fn inertias_invert(bodies: &[f64], n: usize) -> bool
     true
 }
 
-fn joins_two(joint: Joint, n: usize) -> bool
-    ensures { λ r. ⌜ r ≡ joinsTwo n joint ⌝ }
+fn joins_two(joint: Joint, body_count: usize) -> bool
+    ensures { λ r. ⌜ r ≡ joinsTwo «body_count» joint ⌝ }
 {
-    if joint.body_a < n {
-        if joint.body_b < n {
+    if joint.body_a < body_count {
+        if joint.body_b < body_count {
             return joint.body_a != joint.body_b;
         }
     }
     false
 }
 
-fn joints_join(joints: [Joint; 16], count: usize, n: usize) -> bool
+fn joints_join(joints: [Joint; 16], count: usize, body_count: usize) -> bool
     requires { ⌜ count ≤ 16 ⌝ }
-    ensures { λ r. ⌜ r ≡ every count (λ k. joinsTwo n (jointIn joints k)) ⌝ }
+    ensures { λ r. ⌜ r ≡ every count (λ k. joinsTwo «body_count» (jointIn joints k)) ⌝ }
 {
     for k in 0..count {
-        if !joins_two(joints[k], n) {
+        if !joins_two(joints[k], body_count) {
             return false;
         }
     }
@@ -240,27 +241,27 @@ fn joints_ok(joints: [Joint; 16], count: usize) -> bool
     true
 }
 
-fn body_refusal(bodies: &[f64], n: usize) -> Outcome
-    requires { ⌜ 26 * n ≤ length (now bodies) ⌝ }
-    ensures { λ r. ⌜ r ≡ bodiesOr (now (bodies .entry)) n Accepted ⌝ }
+fn body_refusal(bodies: &[f64], body_count: usize) -> Outcome
+    requires { ⌜ RECORD * «body_count» ≤ length (now bodies) ⌝ }
+    ensures { λ r. ⌜ r ≡ bodiesOr (now (bodies .entry)) «body_count» Accepted ⌝ }
 {
     if !all_finite(bodies) {
         return Outcome::NotFinite;
     }
-    if !bodies_in_range(bodies, n) {
+    if !bodies_in_range(bodies, body_count) {
         return Outcome::OutOfRange;
     }
-    if !inertias_invert(bodies, n) {
+    if !inertias_invert(bodies, body_count) {
         return Outcome::Inertia;
     }
     Outcome::Accepted
 }
 
-fn joint_refusal(joints: [Joint; 16], count: usize, n: usize) -> Outcome
+fn joint_refusal(joints: [Joint; 16], count: usize, body_count: usize) -> Outcome
     requires { ⌜ count ≤ 16 ⌝ }
-    ensures { λ r. ⌜ r ≡ jointsOr joints count n Accepted ⌝ }
+    ensures { λ r. ⌜ r ≡ jointsOr joints count «body_count» Accepted ⌝ }
 {
-    if !joints_join(joints, count, n) {
+    if !joints_join(joints, count, body_count) {
         return Outcome::JointBodies;
     }
     if !joints_ok(joints, count) {
@@ -325,10 +326,10 @@ pub(crate) fn refusal(
     if !accepted(sizes) {
         return sizes;
     }
-    let n = bodies.len() / RECORD;
-    let of_bodies = body_refusal(bodies, n);
+    let body_count = bodies.len() / RECORD;
+    let of_bodies = body_refusal(bodies, body_count);
     if !accepted(of_bodies) {
         return of_bodies;
     }
-    joint_refusal(joints, count, n)
+    joint_refusal(joints, count, body_count)
 }

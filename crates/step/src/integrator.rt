@@ -12,7 +12,6 @@ use crate::layout::MOVING;
 use crate::layout::RECORD;
 use crate::passes::Passed;
 use crate::passes::Ran;
-use crate::passes::loop_ended;
 use crate::passes::pass_ended;
 use crate::passes::run_ended;
 use crate::velocity::velocity_loop;
@@ -56,8 +55,8 @@ ghost use Rattle.rows.specs.Answer.{bodyAs};
 ghost use Rattle.solves.specs.Lent.{came, left};
 ghost use Rattle.solves.specs.Region.{vecAt, Does};
 ghost use Rattle.solves.specs.View.{ROWS, MASSES, RHS, SOLUTION, GENERALIZED, rowsOn, massAt, massesAt, Beside, sharesIn};
-ghost use Rattle.solves.specs.Layout.{MASS-TABLE};
-ghost use Rattle.step.specs.Layout.{IMPULSES, START, CANDIDATE, USED, BODIES, STATES};
+ghost use Rattle.solves.specs.Layout.{ROWS-MOST, BODIES-MOST, MASS-TABLE};
+ghost use Rattle.step.specs.Layout.{RECORD, IMPULSES, START, CANDIDATE, USED, BODIES, STATES};
 ghost use Rattle.step.specs.Records.{bodyCount, recordAt, recordsOf};
 ghost use Rattle.step.specs.Bodies.{startBodies, massResponse, prepareMasses, kickAndDrift, moveBodies, rowsMet, rhsOf};
 ghost use Rattle.step.specs.Bodies.{addImpulses, candidateOf, statesOf};
@@ -81,11 +80,11 @@ pub(crate) struct MassAnswer {
     pub mass: MassResponse,
 }
 
-fn start_bodies(s: &mut [f64], bodies: &[f64], n: usize) -> End
-    requires { ⌜ (USED ≤ length (now s)) × (26 * n ≤ length (now bodies)) × (n ≤ 16) ⌝ }
-    ensures { λ r. ⌜ Leaves (Out START BODIES) s r (λ u. startBodiesAt u n) (startBodies (tab n (recordAt (came bodies)))) ⌝ }
+fn start_bodies(s: &mut [f64], bodies: &[f64], body_count: usize) -> End
+    requires { ⌜ (USED ≤ length (now s)) × (RECORD * «body_count» ≤ length (now bodies)) × («body_count» ≤ BODIES-MOST) ⌝ }
+    ensures { λ r. ⌜ Leaves (Out START BODIES) s r (λ u. startBodiesAt u «body_count») (startBodies (tab «body_count» (recordAt (came bodies)))) ⌝ }
 {
-    for k in 0..n {
+    for k in 0..body_count {
         let record = load_record(bodies, k);
         let inertia = record.inertia;
         let inverted = inverse_spd(inertia);
@@ -110,7 +109,7 @@ fn fill(index: &mut [usize], from: usize, n: usize, body: usize)
 
 // The bodies of every row, and how many rows there are.
 fn row_bodies(ia: &mut [usize], ib: &mut [usize], joints: [Joint; 16], count: usize) -> usize
-    requires { ⌜ (count ≤ 16) × (length (now ia) ≡ 96) × (length (now ib) ≡ 96) ⌝ }
+    requires { ⌜ (count ≤ 16) × (length (now ia) ≡ ROWS-MOST) × (length (now ib) ≡ ROWS-MOST) ⌝ }
     ensures { λ r. ⌜ (RowBodies joints count r (left ia) (left ib)) × (Sides joints count (left ia) (left ib)) × (r ≡ rowsBefore joints count) ⌝ }
 {
     let mut n = 0;
@@ -126,7 +125,7 @@ fn row_bodies(ia: &mut [usize], ib: &mut [usize], joints: [Joint; 16], count: us
 }
 
 fn load_moved(s: &[f64], k: usize, moved: bool) -> MomentumBody
-    requires { ⌜ (USED ≤ length (now s)) × (k < 16) ⌝ }
+    requires { ⌜ (USED ≤ length (now s)) × (k < BODIES-MOST) ⌝ }
     ensures { λ r. ⌜ r ≡ cond moved (candidateAt (came s) k) (startBodyAt (came s) k) ⌝ }
 {
     if moved {
@@ -136,16 +135,16 @@ fn load_moved(s: &[f64], k: usize, moved: bool) -> MomentumBody
 }
 
 // The rows of all joints, of the bodies at the start or of the candidates.
-fn write_rows(s: &mut [f64], joints: [Joint; 16], count: usize, rows: usize, moved: bool) -> End
-    requires { ⌜ (USED ≤ length (now s)) × (rows ≤ ROWS) × (Joined joints count 16) ⌝ }
-    ensures { λ r. ⌜ Writes s joints count rows moved r ⌝ }
+fn write_rows(s: &mut [f64], joints: [Joint; 16], count: usize, place: usize, moved: bool) -> End
+    requires { ⌜ (USED ≤ length (now s)) × (place ≤ ROWS) × (Joined joints count BODIES-MOST) ⌝ }
+    ensures { λ r. ⌜ Writes s joints count place moved r ⌝ }
 {
     let mut n = 0;
     for k in 0..count {
         let joint = joints[k];
         let a = load_moved(s, joint.body_a, moved);
         let b = load_moved(s, joint.body_b, moved);
-        match write_equality_rows(s, rows + ROW * n, joint, a, b) {
+        match write_equality_rows(s, place + ROW * n, joint, a, b) {
             Written::Rows(m) => {
                 n += m;
             }
@@ -187,7 +186,7 @@ fn all_three(a: bool, b: bool, c: bool) -> bool
 }
 
 fn prepare_mass(s: &mut [f64], k: usize, body: MomentumBody) -> End
-    requires { ⌜ (USED ≤ length (now s)) × (k < 16) ⌝ }
+    requires { ⌜ (USED ≤ length (now s)) × (k < BODIES-MOST) ⌝ }
     ensures { λ r. ⌜ Leaves (Out (MASSES + 10 * k) 10) s r (λ u. massAt u MASSES k) (massResponse body) ⌝ }
 {
     let answer = mass_response(body);
@@ -203,11 +202,11 @@ fn prepare_mass(s: &mut [f64], k: usize, body: MomentumBody) -> End
     End::Done
 }
 
-fn prepare_masses(s: &mut [f64], n: usize, moved: bool) -> End
-    requires { ⌜ (USED ≤ length (now s)) × (n ≤ 16) ⌝ }
-    ensures { λ r. ⌜ Leaves (Out MASSES MASS-TABLE) s r (λ u. massesAt u MASSES n) (prepareMasses (bodiesAt moved (came s) n)) ⌝ }
+fn prepare_masses(s: &mut [f64], body_count: usize, moved: bool) -> End
+    requires { ⌜ (USED ≤ length (now s)) × («body_count» ≤ BODIES-MOST) ⌝ }
+    ensures { λ r. ⌜ Leaves (Out MASSES MASS-TABLE) s r (λ u. massesAt u MASSES «body_count») (prepareMasses (bodiesAt moved (came s) «body_count»)) ⌝ }
 {
-    for k in 0..n {
+    for k in 0..body_count {
         let body = load_moved(s, k, moved);
         let end = prepare_mass(s, k, body);
         if !done(end) {
@@ -230,11 +229,13 @@ fn kick_and_drift(body: MomentumBody, linear: Vec3, angular: Vec3, dt: f64) -> B
 }
 
 // The candidates: each pass restarts from the starting bodies with the summed impulses.
-fn move_bodies(s: &mut [f64], n: usize, dt: f64) -> End
-    requires { ⌜ (USED ≤ length (now s)) × (n ≤ 16) ⌝ }
-    ensures { λ r. ⌜ Leaves (Out CANDIDATE STATES) s r (λ u. candidatesAt u n) (moveBodies dt (startBodiesAt (came s) n) (sharesIn (came s) n)) ⌝ }
+fn move_bodies(s: &mut [f64], body_count: usize, dt: f64) -> End
+    requires { ⌜ (USED ≤ length (now s)) × («body_count» ≤ BODIES-MOST) ⌝ }
+    ensures { λ r. ⌜
+        Leaves (Out CANDIDATE STATES) s r (λ u. candidatesAt u «body_count»)
+        (moveBodies dt (startBodiesAt (came s) «body_count») (sharesIn (came s) «body_count»)) ⌝ }
 {
-    for k in 0..n {
+    for k in 0..body_count {
         let share = load_generalized(s, GENERALIZED, k);
         let moved = kick_and_drift(load_start(s, k), share.linear, share.angular, dt);
         let outcome = moved.outcome;
@@ -247,7 +248,7 @@ fn move_bodies(s: &mut [f64], n: usize, dt: f64) -> End
 }
 
 fn rows_met(s: &[f64], n: usize) -> bool
-    requires { ⌜ (USED ≤ length (now s)) × (n ≤ 96) ⌝ }
+    requires { ⌜ (USED ≤ length (now s)) × (n ≤ ROWS-MOST) ⌝ }
     ensures { λ r. ⌜ ((ia ib : List ℕ) → r ≡ rowsMet (rowsOn ia ib (came s) ROWS n)) ⌝ }
 {
     for k in 0..n {
@@ -260,7 +261,7 @@ fn rows_met(s: &[f64], n: usize) -> bool
 }
 
 fn fill_rhs(s: &mut [f64], dt: f64, n: usize)
-    requires { ⌜ (USED ≤ length (now s)) × (n ≤ 96) ⌝ }
+    requires { ⌜ (USED ≤ length (now s)) × (n ≤ ROWS-MOST) ⌝ }
     ensures { λ _. ⌜ ((ia ib : List ℕ) → Does (Beside RHS) (came s) (left s) (vecAt (left s) RHS n) (rhsOf dt (rowsOn ia ib (came s) ROWS n))) ⌝ }
 {
     for k in 0..n {
@@ -269,7 +270,7 @@ fn fill_rhs(s: &mut [f64], dt: f64, n: usize)
 }
 
 fn add_impulses(s: &mut [f64], n: usize) -> End
-    requires { ⌜ (USED ≤ length (now s)) × (n ≤ 96) ⌝ }
+    requires { ⌜ (USED ≤ length (now s)) × (n ≤ ROWS-MOST) ⌝ }
     ensures { λ r. ⌜ Leaves (Beside IMPULSES) s r (λ u. vecAt u IMPULSES n) (addImpulses (vecAt (came s) IMPULSES n) (vecAt (came s) SOLUTION n)) ⌝ }
 {
     for k in 0..n {
@@ -370,11 +371,13 @@ fn nonlinear_loop(
 }
 
 // The states of the candidates, in their places.
-fn make_states(s: &mut [f64], bodies: &[f64], n: usize) -> End
-    requires { ⌜ (USED ≤ length (now s)) × (n ≤ bodyCount (now bodies)) × (n ≤ 16) ⌝ }
-    ensures { λ r. ⌜ Leaves (Out CANDIDATE STATES) s r (λ u. statesAt u n) (statesOf (recordsOf (came bodies)) (candidatesAt (came s) n)) ⌝ }
+fn make_states(s: &mut [f64], bodies: &[f64], body_count: usize) -> End
+    requires { ⌜ (USED ≤ length (now s)) × («body_count» ≤ bodyCount (now bodies)) × («body_count» ≤ BODIES-MOST) ⌝ }
+    ensures { λ r. ⌜
+        Leaves (Out CANDIDATE STATES) s r (λ u. statesAt u «body_count»)
+        (statesOf (recordsOf (came bodies)) (candidatesAt (came s) «body_count»)) ⌝ }
 {
-    for k in 0..n {
+    for k in 0..body_count {
         let body = load_candidate(s, k);
         match body.state(load_state(bodies, RECORD * k)) {
             StateAnswer::Value(state) => store_state(s, CANDIDATE + MOVING * k, state),
@@ -400,20 +403,20 @@ fn finish_run(
 {
     let weighed = prepare_masses(s, t.bodies, true);
     if !done(weighed) {
-        return loop_ended(weighed, 0);
+        return Ended::new(weighed, 0);
     }
-    let rows = Table {
+    let candidate_table = Table {
         place: ROWS,
         rows: t.rows,
         bodies: t.bodies,
     };
-    let corrected = velocity_loop(s, ia, ib, rows, cyclic);
+    let corrected = velocity_loop(s, ia, ib, candidate_table, cyclic);
     let end = corrected.end;
     if !done(end) {
         return corrected;
     }
     let made = make_states(s, bodies, t.bodies);
-    loop_ended(made, corrected.linear)
+    Ended::new(made, corrected.linear)
 }
 
 // What stands before the first pass: starting bodies, rows and masses.
@@ -421,8 +424,8 @@ fn start(s: &mut [f64], bodies: &[f64], joints: [Joint; 16], task: Task) -> End
     requires { ⌜ (USED ≤ length (now s)) × (Joined joints (task .count) (bodyCount (now bodies))) ⌝ }
     ensures { λ r. ⌜ Starts s bodies joints task r ⌝ }
 {
-    let size = bodies.len() / RECORD;
-    let made = start_bodies(s, bodies, size);
+    let body_count = bodies.len() / RECORD;
+    let made = start_bodies(s, bodies, body_count);
     if !done(made) {
         return made;
     }
@@ -430,7 +433,7 @@ fn start(s: &mut [f64], bodies: &[f64], joints: [Joint; 16], task: Task) -> End
     if !done(written) {
         return written;
     }
-    prepare_masses(s, size, false)
+    prepare_masses(s, body_count, false)
 }
 
 // From the starting bodies to the states.
@@ -438,23 +441,23 @@ pub(crate) fn run(bodies: &[f64], joints: [Joint; 16], count: usize, dt: f64, s:
     requires { ⌜ (USED ≤ length (now s)) × (Joined joints count (bodyCount (now bodies))) ⌝ }
     ensures { λ r. ⌜ Does (Out 0 USED) (came s) (left s) (leftAs r (statesAt (left s) (bodyCount (came bodies)))) (runFor (came bodies) joints count dt) ⌝ }
 {
-    let size = bodies.len() / RECORD;
+    let body_count = bodies.len() / RECORD;
     let task = Task {
         count,
         dt,
-        cyclic: size <= count,
+        cyclic: body_count <= count,
     };
     let mut ia = [0usize; 96];
     let mut ib = [0usize; 96];
-    let rows = row_bodies(&mut ia, &mut ib, joints, count);
+    let n = row_bodies(&mut ia, &mut ib, joints, count);
     let started = start(s, bodies, joints, task);
     if !done(started) {
         return run_ended(started, 0, 0);
     }
     let t = Table {
         place: START_ROWS,
-        rows,
-        bodies: size,
+        rows: n,
+        bodies: body_count,
     };
     let met = nonlinear_loop(s, &ia, &ib, t, joints, task);
     let end = met.end;

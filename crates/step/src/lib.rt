@@ -22,6 +22,7 @@ ghost use lib.ListN.{length, replicate};
 ghost use Rattle.arith.specs.Real.{ratio};
 ghost use Rattle.solves.specs.Lent.{came, left};
 ghost use Rattle.solves.specs.Answer.{ranAs};
+ghost use Rattle.solves.specs.Layout.{BODIES-MOST};
 ghost use Rattle.step.specs.Layout.{RECORD, SCRATCH, USED};
 ghost use Rattle.step.specs.Records.{bodyCount};
 ghost use Rattle.step.specs.Checks.{numberOf};
@@ -77,14 +78,14 @@ pub fn number(outcome: Outcome) -> usize
 }
 
 // What the run's end is to the caller: its states are written where all stand on the plan's ground.
-fn settle(bodies: &mut [f64], work: &[f64], n: usize, end: End) -> Outcome
-    requires { ⌜ (length (now bodies) % RECORD ≡ 0) × (n ≡ bodyCount (now bodies)) × (USED ≤ length (now work)) × (n ≤ 16) ⌝ }
-    ensures { λ r. ⌜ Settles bodies r (ranAs end (statesAt (came work) n)) ⌝ }
+fn settle(bodies: &mut [f64], work: &[f64], body_count: usize, end: End) -> Outcome
+    requires { ⌜ (length (now bodies) % RECORD ≡ 0) × («body_count» ≡ bodyCount (now bodies)) × (USED ≤ length (now work)) × («body_count» ≤ BODIES-MOST) ⌝ }
+    ensures { λ r. ⌜ Settles bodies r (ranAs end (statesAt (came work) «body_count»)) ⌝ }
 {
     match end {
         End::Done => {
-            if in_ground(work, n) {
-                write_states(bodies, work, n);
+            if in_ground(work, body_count) {
+                write_states(bodies, work, body_count);
                 return Outcome::Accepted;
             }
             Outcome::Ground
@@ -105,10 +106,10 @@ fn solve_in(
     requires { ⌜ (length (now work) ≡ SCRATCH) × (length (now bodies) % RECORD ≡ 0) × (Joined joints count (bodyCount (now bodies))) ⌝ }
     ensures { λ r. ⌜ Reports bodies work r (settled (came bodies) (replicate SCRATCH (ratio 0 1)) (runFor (came bodies) joints count dt)) ⌝ }
 {
-    let n = bodies.len() / RECORD;
+    let body_count = bodies.len() / RECORD;
     let ran = run(bodies, joints, count, dt, work);
     let end = ran.end;
-    let outcome = settle(bodies, work, n, end);
+    let outcome = settle(bodies, work, body_count, end);
     clear(work, 0, SCRATCH);
     Report {
         outcome,

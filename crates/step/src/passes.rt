@@ -1,6 +1,5 @@
 // How a pass of the step's two loops ends, and how a loop or the run: with the passes that were counted.
 use solves::End;
-use solves::Ended;
 use solves::Pass;
 ghost use mathlib.Core.Path.{_≡_};
 
@@ -21,12 +20,6 @@ pub(crate) fn pass_ended(pass: Pass, linear: usize) -> Passed
     ensures { λ r. ⌜ r ≡ record { pass = pass; linear = linear } ⌝ }
 {
     Passed { pass, linear }
-}
-
-pub(crate) fn loop_ended(end: End, linear: usize) -> Ended
-    ensures { λ r. ⌜ r ≡ record { end = end; linear = linear } ⌝ }
-{
-    Ended { end, linear }
 }
 
 pub(crate) fn run_ended(end: End, nonlinear: usize, linear: usize) -> Ran

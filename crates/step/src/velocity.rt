@@ -2,7 +2,6 @@
 use crate::bodies::load_candidate;
 use crate::bodies::store_candidate;
 use crate::passes::Passed;
-use crate::passes::loop_ended;
 use crate::passes::pass_ended;
 use arith::number::abs;
 use arith::number::is_finite;
@@ -31,6 +30,7 @@ ghost use Rattle.solves.specs.Lent.{came};
 ghost use Rattle.solves.specs.Region.{vecAt};
 ghost use Rattle.solves.specs.Answer.{sumAs};
 ghost use Rattle.solves.specs.View.{RHS, GENERALIZED, Beside, systemIn, rhsOn, solutionOn, sharesIn};
+ghost use Rattle.solves.specs.Layout.{ROWS-MOST, BODIES-MOST};
 ghost use Rattle.step.specs.Layout.{CANDIDATE, USED, STATES};
 ghost use Rattle.step.specs.Bodies.{velocityOf, velocityRhs, compatibleOf, kickBodies, reactionOf};
 ghost use Rattle.step.specs.Step.{velocityPass, velocityLoop};
@@ -49,7 +49,7 @@ pub(crate) struct Motion {
 }
 
 fn no_motion() -> Motion
-    ensures { λ r. ⌜ r .body ≡ 16 ⌝ }
+    ensures { λ r. ⌜ r .body ≡ BODIES-MOST ⌝ }
 {
     Motion {
         body: NO_BODY,
@@ -59,7 +59,7 @@ fn no_motion() -> Motion
 }
 
 fn motion_of(s: &[f64], k: usize) -> Motion
-    requires { ⌜ (USED ≤ length (now s)) × (k < 16) ⌝ }
+    requires { ⌜ (USED ≤ length (now s)) × (k < BODIES-MOST) ⌝ }
     ensures { λ r. ⌜ MotionAt (came s) k r ⌝ }
 {
     let body = load_candidate(s, k);
@@ -72,7 +72,7 @@ fn motion_of(s: &[f64], k: usize) -> Motion
 
 // The motion of candidate k: the one kept from the row before, where that row has the same body.
 fn motion_again(s: &[f64], k: usize, last: Motion) -> Motion
-    requires { ⌜ (USED ≤ length (now s)) × (k < 16) × Remembers (now s) last ⌝ }
+    requires { ⌜ (USED ≤ length (now s)) × (k < BODIES-MOST) × Remembers (now s) last ⌝ }
     ensures { λ r. ⌜ MotionAt (came s) k r ⌝ }
 {
     if last.body == k {
@@ -123,7 +123,7 @@ fn velocity_rhs(s: &mut [f64], ia: &[usize; 96], ib: &[usize; 96], t: Table) -> 
 }
 
 fn compatible(s: &[f64], n: usize) -> bool
-    requires { ⌜ (USED ≤ length (now s)) × (n ≤ 96) ⌝ }
+    requires { ⌜ (USED ≤ length (now s)) × (n ≤ ROWS-MOST) ⌝ }
     ensures { λ r. ⌜ r ≡ compatibleOf (vecAt (came s) RHS n) ⌝ }
 {
     for k in 0..n {
@@ -134,11 +134,13 @@ fn compatible(s: &[f64], n: usize) -> bool
     true
 }
 
-fn kick_candidates(s: &mut [f64], bodies: usize) -> End
-    requires { ⌜ (USED ≤ length (now s)) × (bodies ≤ 16) ⌝ }
-    ensures { λ r. ⌜ Leaves (Out CANDIDATE STATES) s r (λ u. candidatesAt u bodies) (kickBodies (candidatesAt (came s) bodies) (sharesIn (came s) bodies)) ⌝ }
+fn kick_candidates(s: &mut [f64], body_count: usize) -> End
+    requires { ⌜ (USED ≤ length (now s)) × («body_count» ≤ BODIES-MOST) ⌝ }
+    ensures { λ r. ⌜
+        Leaves (Out CANDIDATE STATES) s r (λ u. candidatesAt u «body_count»)
+        (kickBodies (candidatesAt (came s) «body_count») (sharesIn (came s) «body_count»)) ⌝ }
 {
-    for k in 0..bodies {
+    for k in 0..body_count {
         let share = load_generalized(s, GENERALIZED, k);
         let kicked = load_candidate(s, k).kick(share.linear, share.angular);
         let outcome = kicked.outcome;
@@ -220,8 +222,8 @@ pub(crate) fn velocity_loop(
         linear += passed.linear;
         let pass = passed.pass;
         if let Pass::Over(end) = pass {
-            return loop_ended(end, linear);
+            return Ended::new(end, linear);
         }
     }
-    loop_ended(End::NonConvergent, linear)
+    Ended::new(End::NonConvergent, linear)
 }

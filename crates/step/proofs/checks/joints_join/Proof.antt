@@ -19,7 +19,7 @@ returns : tie.Need-returns Inv-loop μ-loop
 returns c =
     let at-loop = c .before .before .before .before in
     let at-start = at-loop .before in
-    every-fail (λ (j : ℕ). joinsTwo (at-start .args .n) (jointIn (at-start .args .t1) j)) _ (omega arith)
+    every-fail (λ (j : ℕ). joinsTwo (at-start .args .body-count) (jointIn (at-start .args .t1) j)) _ (omega arith)
     (sym (c .before .joins-two .ensures) ∙ not-yes _ (c .if1 .taken))
 
 loop-again : tie.Need-loop-again Inv-loop μ-loop
@@ -27,14 +27,14 @@ loop-again c =
     let at-loop = c .before .before .before .before in
     let at-start = at-loop .before in (
       omega arith,
-      every-more (λ (j : ℕ). joinsTwo (at-start .args .n) (jointIn (at-start .args .t1) j)) (at-loop .loop .inv .1)
+      every-more (λ (j : ℕ). joinsTwo (at-start .args .body-count) (jointIn (at-start .args .t1) j)) (at-loop .loop .inv .1)
           (sym (c .before .joins-two .ensures) ∙ not-no _ (c .if1 .left)),
     )
 
 returns-2 : tie.Need-returns-2 Inv-loop μ-loop
 returns-2 c =
     let at-start = c .before .before in
-    every-end (λ (j : ℕ). joinsTwo (at-start .args .n) (jointIn (at-start .args .t1) j)) (omega arith) (omega arith) (c .before .loop .inv .1)
+    every-end (λ (j : ℕ). joinsTwo (at-start .args .body-count) (jointIn (at-start .args .t1) j)) (omega arith) (omega arith) (c .before .loop .inv .1)
 
 pub joints-join-spec : {M : Type 1} → statement M
 joints-join-spec =

@@ -24,7 +24,7 @@ same-length c =
 returns : tie.Need-returns
 returns c =
     let at-prepare-masses = c .before .before .before .before .before in let at-entry = at-prepare-masses .before .before .before .before in
-    ended-is (λ x. statesAt x (at-entry .args .t .bodies)) (c .loop-ended .ensures)
+    ended-is (λ x. statesAt x (at-entry .args .t .bodies)) (c .new .ensures)
     (not-weighed (at-entry .args .cyclic) (recordsOf (now (at-entry .args .bodies))) (now (at-entry .args .ia)) (now (at-entry .args .ib))
     (at-entry .args .t) (at-entry .pre .0 .ready .most) (at-entry .pre .0 .ready .bodies) (at-prepare-masses .prepare-masses .result)
     (at-prepare-masses .prepare-masses .ensures) (c .before .before .done .ensures) (c .before .if1 .taken))
@@ -75,7 +75,7 @@ returns-3 c =
     let at-make-states = c .before .before .before in let at-if2 = at-make-states .before .before in let at-done2 = at-if2 .before in
     let at-velocity-loop = at-done2 .before .before .before in let at-if1 = at-velocity-loop .before .before in let at-done = at-if1 .before in
     let at-prepare-masses = at-done .before .before .before in let at-entry = at-prepare-masses .before .before .before .before in
-    ended-is (λ x. statesAt x (at-entry .args .t .bodies)) (c .loop-ended2 .ensures)
+    ended-is (λ x. statesAt x (at-entry .args .t .bodies)) (c .new2 .ensures)
     (all-finished (at-entry .args .cyclic) (recordsOf (now (at-entry .args .bodies))) (now (at-entry .args .ia)) (now (at-entry .args .ib))
     (at-entry .args .t) (at-entry .pre .0 .ready .most) (at-entry .pre .0 .ready .bodies) (at-prepare-masses .prepare-masses .result)
     (at-prepare-masses .prepare-masses .ensures) (at-done .done .ensures) (at-if1 .if1 .left) (at-velocity-loop .velocity-loop .result)

@@ -17,7 +17,7 @@ abbrev μ-loop : tie.MeasureT-loop
 μ-loop s₀ n dt k₀ s k = n - k
 
 loop-holds : tie.Need-loop-holds Inv-loop μ-loop
-loop-holds c = (omega arith, refl, move-none (c .before .args .dt) (c .before .args .n) _)
+loop-holds c = (omega arith, refl, move-none (c .before .args .dt) (c .before .args .body-count) _)
 
 returns : tie.Need-returns Inv-loop μ-loop
 returns c =
@@ -25,7 +25,7 @@ returns c =
     let at-load-generalized = at-load-start .before .before in let at-test = at-load-generalized .before .before in let at-loop = at-test .before in
     let at-entry = at-loop .before .before in let moved = at-kick-and-drift .kick-and-drift in
     does-eq (fails _ (moved .result .outcome) (c .before .done .ensures) (c .if1 .taken))
-    (move-stops (at-entry .args .dt) (at-entry .args .n) _ _ _ (at-loop .loop .inv .2) (at-test .loop-test .taken) (at-entry .pre .1)
+    (move-stops (at-entry .args .dt) (at-entry .args .body-count) _ _ _ (at-loop .loop .inv .2) (at-test .loop-test .taken) (at-entry .pre .1)
     (at-load-generalized .load-generalized .ensures) (at-load-start .load-start .ensures) refl
     (end-stops (moved .result .body) (moved .result .outcome) (c .before .done .ensures) (moved .ensures) (c .if1 .taken)))
 
@@ -37,7 +37,7 @@ loop-again c =
     let moved = at-kick-and-drift .kick-and-drift in (
       omega arith,
       omega arith,
-      move-again (at-entry .args .dt) (at-entry .args .n) _ _ _ (at-loop .loop .inv .2) (at-test .loop-test .taken) (at-entry .pre .1)
+      move-again (at-entry .args .dt) (at-entry .args .body-count) _ _ _ (at-loop .loop .inv .2) (at-test .loop-test .taken) (at-entry .pre .1)
           (at-load-generalized .load-generalized .ensures) (at-load-start .load-start .ensures) refl
           (end-goes (moved .result .body) (moved .result .outcome) (at-done .done .ensures) (moved .ensures) (at-if1 .if1 .left))
           (c .before .before .store-candidate .ensures),
@@ -46,7 +46,7 @@ loop-again c =
 returns-2 : tie.Need-returns-2 Inv-loop μ-loop
 returns-2 c =
     let at-entry = c .before .before .before in
-    move-ends (at-entry .args .dt) (at-entry .args .n) _ _ _ (c .before .loop .inv .2) (omega arith) (c .loop-test .left) (at-entry .pre .1)
+    move-ends (at-entry .args .dt) (at-entry .args .body-count) _ _ _ (c .before .loop .inv .2) (omega arith) (c .loop-test .left) (at-entry .pre .1)
 
 pub move-bodies-spec : {M : Type 1} → statement M
 move-bodies-spec =

@@ -58,7 +58,7 @@ returns : tie.Need-returns Inv-loop μ-loop
 returns c =
     let at-s = c .before .before .before .before .before .before in let at-velocity-pass = at-s .before in
     let at-test = at-velocity-pass .before .before in let at-loop = at-test .before in let at-entry = at-loop .before .before in
-    ended-is (λ x. candidatesAt x (at-entry .args .t .bodies)) (c .loop-ended .ensures)
+    ended-is (λ x. candidatesAt x (at-entry .args .t .bodies)) (c .new .ensures)
     (rests (at-entry .args .cyclic) (now (at-entry .args .ia)) (now (at-entry .args .ib)) (at-entry .args .t)
     (loop-over 3 Correcting (passOver (at-entry .args .cyclic) (now (at-entry .args .ia)) (now (at-entry .args .ib)) (at-entry .args .t))
     (λ x. candidatesAt x (at-entry .args .t .bodies)) _ (λ x. candidatesAt x (at-entry .args .t .bodies))
@@ -97,7 +97,7 @@ loop-again c =
 returns-2 : tie.Need-returns-2 Inv-loop μ-loop
 returns-2 c =
     let at-entry = c .before .before .before .before in
-    ended-is (λ x. candidatesAt x (at-entry .args .t .bodies)) (c .loop-ended2 .ensures)
+    ended-is (λ x. candidatesAt x (at-entry .args .t .bodies)) (c .new2 .ensures)
     (rests (at-entry .args .cyclic) (now (at-entry .args .ia)) (now (at-entry .args .ib)) (at-entry .args .t)
     (loop-spent 3 Correcting (passOver (at-entry .args .cyclic) (now (at-entry .args .ia)) (now (at-entry .args .ib)) (at-entry .args .t))
     (λ x. candidatesAt x (at-entry .args .t .bodies)) _ (c .before .before .loop .inv .3) (c .before .loop-test .left) refl))
