@@ -14,10 +14,18 @@ pub enum Got {
     Bytes(usize),
 }
 
-// How many bytes came in all, and what the last read met. Where that was neither failure nor the end, the buffer is full.
+// One read: the C library's answer as it stands, and what it says.
+struct Read {
+    answer: isize,
+    got: Got,
+}
+
+// How many bytes came in all, what the last read met, and the C library's answer that says so. Where it met neither failure nor
+// the end, the buffer is full. That `answer` is what the C library answered, no contract can say: nothing names it afterwards.
 pub struct Received {
     pub count: usize,
     pub last: Got,
+    pub answer: isize,
 }
 
 // The first bytes of an input, and how they came. Those behind `got.count` are 0.
@@ -35,8 +43,8 @@ pub fn receive(fd: i32) -> Input
     Input { bytes, got }
 }
 
-// Reads until the buffer is full, the input ends or a read fails. Into a buffer with no room nothing is read, and `last` is
-// `Bytes(0)`.
+// Reads until the buffer is full, the input ends or a read fails. Into a buffer with no room nothing is read: `last` is
+// `Bytes(0)`, and `answer` is 0.
 pub fn read_all(fd: i32, buffer: &mut [u8]) -> Received
     ensures { λ r. ⌜ Receives (now (buffer .entry)) (now (buffer .exit)) r ⌝ }
 {
@@ -44,27 +52,31 @@ pub fn read_all(fd: i32, buffer: &mut [u8]) -> Received
     let chunk: &mut [u8] = &mut space;
     let mut count = 0;
     let mut last = Got::Bytes(0);
+    let mut answer = 0;
     while count < buffer.len() {
-        last = read_to(fd, buffer, count, chunk);
+        let read = read_to(fd, buffer, count, chunk);
+        last = read.got;
+        answer = read.answer;
         let n = bytes(last);
         if n == 0 {
-            return Received { count, last };
+            return Received { count, last, answer };
         }
         count += n;
     }
-    Received { count, last }
+    Received { count, last, answer }
 }
 
 // One read into the buffer from `at` on. It goes by way of `chunk`, so that no byte of the buffer changes but those that
 // came.
-fn read_to(fd: i32, buffer: &mut [u8], at: usize, chunk: &mut [u8]) -> Got
+fn read_to(fd: i32, buffer: &mut [u8], at: usize, chunk: &mut [u8]) -> Read
     requires { ⌜ (at < length (now buffer)) × (0 < length (now chunk)) ⌝ }
     ensures { λ r. ⌜ Reads (now (buffer .entry)) at (now (buffer .exit)) r ⌝ }
 {
     let n = least(buffer.len() - at, chunk.len());
-    let got = met(libc::read(fd, &mut chunk[..n]));
+    let answer = libc::read(fd, &mut chunk[..n]);
+    let got = met(answer);
     copy(chunk, bytes(got), buffer, at);
-    got
+    Read { answer, got }
 }
 
 // What a read's answer says.

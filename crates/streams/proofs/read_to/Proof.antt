@@ -69,11 +69,9 @@ returns c =
     let at-copy = c .before .before in
     let at-bytes = at-copy .before .before in
     let at-met = at-bytes .before .before in
-    let at-read = at-met .before .before .before in
-    let start = at-read .before .before .before .before .before in
     let asked = copy-requires (at-copy .before) (at-copy .copy .lifetimes) in
-    reads (now (start .args .buffer)) (chunk at-read) (start .args .at) (answer at-read)
-    (at-met .met .ensures) (at-bytes .bytes .ensures) (asked .1) (asked .0) (at-copy .copy .ensures)
+    reads (chunk (at-met .before .before .before)) (at-met .met .ensures) (at-bytes .bytes .ensures)
+    (asked .1) (asked .0) (at-copy .copy .ensures)
 
 pub read-to-spec : {M : Type 1} → statement M
 read-to-spec =
