@@ -170,6 +170,6 @@ returns-2 c =
 pub transpose-spec : {M : Type 1} → statement M
 transpose-spec =
     tie.close (tie.spec
-      Inv-loop μ-loop (λ c. omega arith) (λ c κs. omega arith) loop-holds load-row-requires add-value mul-value
-      slice-read-value push-row-requires add-k (λ c. omega arith) loop-again shares-finite-requires same-length
-      returns same-length-2 returns-2)
+    Inv-loop μ-loop (λ c. omega arith) (λ c κs. omega arith) loop-holds load-row-requires add-value mul-value
+    slice-read-value push-row-requires add-k (λ c. omega arith) loop-again shares-finite-requires same-length
+    returns same-length-2 returns-2)
