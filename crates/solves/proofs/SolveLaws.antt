@@ -318,9 +318,8 @@ module _ {s : List Float} {ia ib : List ℕ} (table : Table) (pre : Rows s ia ib
     linear-path order o e = chosen-from (byPath (listAt order n₂)) (chosen o) e
 
 -- what path_order answered
-pub order-no : (r : PathOrder) {d : Turn (List ℕ) (Unit {0})} → orderAs r ≡ d → r .found ≡ false → stop tt ≡ d
-order-no r e h = cond-no _ _ h ∙ e
+pub order-no : (r : PathOrder) (n : ℕ) {d : Turn (List ℕ) (Unit {0})} → orderAs r n ≡ d → r .found ≡ false → stop tt ≡ d
+order-no r n e h = cond-no _ _ h ∙ e
 
-pub order-yes : (r : PathOrder) (n : ℕ) {d : Turn (List ℕ) (Unit {0})} → orderAs r ≡ d → r .found ≡ true → r .order .count ≡ n
-    → go (listAt (r .order .rows) n) ≡ d
-order-yes r n e h c = ap (λ (m : ℕ). go (listAt (r .order .rows) m)) (sym c) ∙ cond-yes _ _ h ∙ e
+pub order-yes : (r : PathOrder) (n : ℕ) {d : Turn (List ℕ) (Unit {0})} → orderAs r n ≡ d → r .found ≡ true → go (listAt (r .rows) n) ≡ d
+order-yes r n e h = cond-yes _ _ h ∙ e

@@ -13,12 +13,12 @@ use lib.Seq.{getD-set-same, getD-set-other}
 use Rattle.arith.specs.Flow.{Turn, go, stop, _>>=_, tab, loop, returnIf}
 use Rattle.arith.specs.FlowLaws.{then-go, then-stop, loop-none, loop-more, loop-stop, loop-end, cond-yes, cond-no}
 use Rattle.rows.specs.Region.{tab-length, tab-more}
-use Rattle.solves.specs.declared.path.Order.{Order}
 use Rattle.solves.specs.declared.path.PathOrder.{PathOrder}
 use Rattle.solves.specs.Path.{index, none, pathStarts, pathEdges, neighbor, follows, nextBlock, Seen, Walk, run, walkTurn, walked, walk, walkFrom, isEnd, pathWalks, pathOrder}
 use Rattle.solves.specs.Answer.{orderAs, orderIn}
-use Rattle.solves.specs.View.{listAt, orderOf, Along, Blank, noPath}
-use Rattle.solves.specs.PathView.{Blocks, blocksAt, startsOf, rowsOf, sizeOf, Blocked, Parted, Linked, Linking, orderAt, seenOf, Listed, Appended, room, Free, edgesOn, walkOn, endOn, fromOn, walksOn, foundAs, Walks, Orders}
+use Rattle.solves.specs.View.{listAt, noPath}
+use Rattle.solves.specs.PathView.{Blocks, blocksAt, startsOf, rowsOf, sizeOf, Blocked, Parted, Linked, Linking, Graph, Order, orderAt, orderOf, seenOf, Listed}
+use Rattle.solves.specs.PathView.{Appended, room, Free, edgesOn, walkOn, endOn, fromOn, walksOn, foundAs, Walks, Orders, Ordered}
 use Rattle.solves.specs.DoesLaws.{goes-on, returns-if}
 use Rattle.solves.proofs.BlockLaws.{list-more, start-is, body-is, a-body, b-body, end-is}
 
@@ -203,7 +203,10 @@ pub record WalksSo (ia ib : List ℕ) (blocks : Blocks) (edges : List ℕ) (k : 
   pub is : go (seenOf order visited) ≡ loop k (fromOn ia ib blocks edges) (record { order = []; visited = replicate 96 false })
   pub free : Free blocks order visited
 
-module _ {ia ib : List ℕ} {blocks : Blocks} (pre : Blocked ia ib blocks) {edges : List ℕ} (link : Linking (blocks .count) edges) where
+module _ {ia ib : List ℕ} {blocks : Blocks} {edges : List ℕ} (graph : Graph ia ib blocks edges) where
+  abbrev pre : Blocked ia ib blocks
+  pre = graph .blocked
+
   abbrev A : List ℕ
   A = listAt ia (rowsOf blocks)
 
@@ -235,10 +238,10 @@ module _ {ia ib : List ℕ} {blocks : Blocks} (pre : Blocked ia ib blocks) {edge
     next-there q = linked-there (rw en (next-linked previous lx ly)) q
       where
         lx : Linked (blocks .count) x
-        lx = rw ex (neighbor-linked _ current link (a-body pre here))
+        lx = rw ex (neighbor-linked _ current (graph .linking) (a-body pre here))
 
         ly : Linked (blocks .count) y
-        ly = rw ey (neighbor-linked _ current link (b-body pre here))
+        ly = rw ey (neighbor-linked _ current (graph .linking) (b-body pre here))
 
   abbrev begun : Order → List Bool → ℕ → Walk
   begun start visited first = record { seen = seenOf start visited; current = first; previous = none }
@@ -427,62 +430,57 @@ finish-is n (stop _) = refl
 length-is : (order : Order) → length (orderOf order) ≡ order .count
 length-is order = tab-length (order .count) (λ k. getD (order .rows) k 0)
 
--- what path_order says of its answer, where d is what is defined
-abbrev Answers : PathOrder → ℕ → Turn (List ℕ) (Unit {0}) → Type 0
-Answers r n d =
-    (orderAs r ≡ d) × (r .found ≡ true → (r .order .count ≡ n) × (Along (r .order .rows) n) × (Blank (r .order .rows) n)) × (r .found ≡ false → r ≡ noPath)
-
-pub no-path-is : {r : PathOrder} {n : ℕ} {d : Turn (List ℕ) (Unit {0})} → r ≡ noPath → stop tt ≡ d → Answers r n d
-no-path-is h e = (ap orderAs h ∙ e, λ f. absurd (false-true (sym (ap (λ (x : PathOrder). x .found) h) ∙ f)), λ _. h)
+pub no-path-is : {r : PathOrder} {n : ℕ} {d : Turn (List ℕ) (Unit {0})} → r ≡ noPath → stop tt ≡ d → Ordered n r d
+no-path-is {r} {n} h e = record { is = ap (λ (x : PathOrder). orderAs x n) h ∙ e; along = λ f. absurd (not-found f); blank = λ f. absurd (not-found f); none = λ _. h }
+  where
+    not-found : r .found ≡ true → ⊥
+    not-found f = false-true (sym (ap (λ (x : PathOrder). x .found) h) ∙ f)
 
 module _ {ia ib : List ℕ} {n : ℕ} {before starts : List ℕ} {blocks : ℕ} (made : Parted ia ib n before starts blocks) where
   abbrev Blocks₂ : Blocks
   Blocks₂ = blocksAt starts blocks
 
-  abbrev Ordered : Turn (List ℕ) (Unit {0})
-  Ordered = pathOrder (listAt ia n) (listAt ib n) n
+  abbrev Defined : Turn (List ℕ) (Unit {0})
+  Defined = pathOrder (listAt ia n) (listAt ib n) n
 
   edges-are : loop blocks (edgesOn ia ib Blocks₂) (replicate 32 96) ≡ pathEdges (listAt ia n) (listAt ib n) (pathStarts (listAt ia n) (listAt ib n) n)
   unfolding pathEdges
   edges-are = ap (λ (m : ℕ). loop m (edgesOn ia ib Blocks₂) (replicate 32 96)) (sym (tab-length blocks (λ j. getD starts j 0)))
       ∙ λ j. pathEdges (listAt ia (made .rows j)) (listAt ib (made .rows j)) (made .is j)
 
-  pub order-declined : stop tt ≡ loop blocks (edgesOn ia ib Blocks₂) (replicate 32 96) → stop tt ≡ Ordered
+  pub order-declined : stop tt ≡ loop blocks (edgesOn ia ib Blocks₂) (replicate 32 96) → stop tt ≡ Defined
   unfolding pathOrder
   order-declined e = then-stop _ (e ∙ edges-are)
 
   module _ {edges : List ℕ} (e : go edges ≡ loop blocks (edgesOn ia ib Blocks₂) (replicate 32 96)) {found : Bool} {order : Order}
       (w : Orders Blocks₂ found order (walksOn ia ib Blocks₂ edges)) where
-    walked-is : finish n (foundAs found (orderOf order)) ≡ Ordered
+    walked-is : finish n (foundAs found (orderOf order)) ≡ Defined
     unfolding pathOrder
     walked-is = ap (finish n) (w .is ∙ λ j. orderIn (pathWalks (listAt ia (made .rows j)) (listAt ib (made .rows j)) (made .rows j) (made .is j) edges))
         ∙ finish-is n _ ∙ then-go _ (e ∙ edges-are)
 
-    pub order-lost : found ≡ false → stop tt ≡ Ordered
+    pub order-lost : found ≡ false → stop tt ≡ Defined
     unfolding finish
     order-lost h = ap (finish n) (cond-no _ _ h) ∙ walked-is
 
     module _ (yes-found : found ≡ true) where
-      ended-is : finish n (go (orderOf order)) ≡ Ordered
+      ended-is : finish n (go (orderOf order)) ≡ Defined
       ended-is = ap (finish n) (cond-yes _ _ yes-found) ∙ walked-is
 
-      pub order-short : (order .count ≡ n → ⊥) → stop tt ≡ Ordered
+      pub order-short : (order .count ≡ n → ⊥) → stop tt ≡ Defined
       unfolding finish
       order-short h = then-stop _ (returns-if (tt {0}) (ap not (ne-eqb (length (orderOf order)) n (λ q. h (sym (length-is order) ∙ q))))) ∙ ended-is
 
       -- the path is found: its order lists n rows below n, and behind them its table is 0
-      pub order-found : order .count ≡ n → Answers (record { found = true; order = orderAt (order .rows) n }) n Ordered
+      pub order-found : order .count ≡ n → Ordered n (record { found = true; rows = order .rows }) Defined
       unfolding finish
-      order-found h = (
-        ap (λ (m : ℕ). go (listAt (order .rows) m)) (sym h)
-            ∙ then-go _ (goes-on (tt {0}) (ap not (eq-eqb (length (orderOf order)) n (length-is order ∙ h)))) ∙ ended-is,
-        λ _. (
-          refl,
-          λ i q. subst (λ (m : ℕ). getD (order .rows) i 0 < m) (made .rows) (listed .rows i (omega arith)),
-          λ i q m. listed .blank i (omega arith) m,
-        ),
-        λ e. absurd (false-true (sym e)),
-      )
+      order-found h = record {
+        is = ap (λ (m : ℕ). go (listAt (order .rows) m)) (sym h)
+            ∙ then-go _ (goes-on (tt {0}) (ap not (eq-eqb (length (orderOf order)) n (length-is order ∙ h)))) ∙ ended-is;
+        along = λ _ i q. subst (λ (m : ℕ). getD (order .rows) i 0 < m) (made .rows) (listed .rows i (omega arith));
+        blank = λ _ i q m. listed .blank i (omega arith) m;
+        none = λ e. absurd (false-true (sym e));
+      }
         where
           listed : Listed order (rowsOf Blocks₂)
           listed = w .listed yes-found

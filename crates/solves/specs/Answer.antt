@@ -31,7 +31,7 @@ use Rattle.solves.specs.Path.{Seen}
 use Rattle.solves.specs.Search.{leastPass, gradientPass}
 use Rattle.solves.specs.Lent.{Lent, came, left}
 use Rattle.solves.specs.Region.{vecAt, Does}
-use Rattle.solves.specs.View.{searchAt, preparedAt, orderOf, rowsOn, sharesIn, systemIn, Shares, Work, SOLUTION}
+use Rattle.solves.specs.View.{searchAt, preparedAt, listAt, rowsOn, sharesIn, systemIn, Shares, Work, SOLUTION}
 
 -- ---- the Rust's Result
 abbrev pub sumAs : Sum → Result Float
@@ -90,9 +90,9 @@ abbrev pub edgesAs : Bool → List ℕ → Turn (List ℕ) (Unit {0})
 edgesAs true edges = go edges
 edgesAs false edges = stop tt
 
--- the order along the paths, or declined
-abbrev pub orderAs : PathOrder → Turn (List ℕ) (Unit {0})
-orderAs r = cond (r .found) (go (orderOf (r .order))) (stop tt)
+-- the order of n rows along the paths, or declined
+abbrev pub orderAs : PathOrder → ℕ → Turn (List ℕ) (Unit {0})
+orderAs r n = cond (r .found) (go (listAt (r .rows) n)) (stop tt)
 
 -- the order of what was seen
 abbrev pub orderIn : Turn Seen (Unit {0}) → Turn (List ℕ) (Unit {0})

@@ -3,18 +3,23 @@ use Prim.Native.Nat.{ℕ, zero, suc, _+_, _*_, _-_, _≤_, _<_, min}
 use mathlib.Core.Path.{_≡_}
 use mathlib.Core.Bool.{Bool, true, false, cond}
 use mathlib.Core.List.{List, _++_}
-use lib.ListN.{length, getD}
+use lib.ListN.{length, getD, set}
 use lib.Ieee.{Float}
 use Rattle.arith.specs.Flow.{Turn, go, stop}
 use Rattle.rows.specs.declared.geometry.EqualityRow.{EqualityRow}
-use Rattle.rows.specs.View.{at}
+use Rattle.rows.specs.Fault.{Result}
+use Rattle.rows.specs.View.{at, Out}
+use Rattle.solves.specs.declared.End.{End}
+use Rattle.solves.specs.declared.Table.{Table}
 use Rattle.solves.specs.declared.places.MassResponse.{MassResponse}
-use Rattle.solves.specs.declared.path.Order.{Order}
+use Rattle.solves.specs.declared.path.PathOrder.{PathOrder}
+use Rattle.solves.specs.declared.path.Walked.{Walked}
 use Rattle.solves.specs.declared.path.Line.{Line}
 use Rattle.solves.specs.Path.{none, pathStarts, blockEdges, Seen, run, walk, walkFrom, isEnd, pathWalks}
-use Rattle.solves.specs.Answer.{orderIn}
-use Rattle.solves.specs.Lent.{Lent, came}
-use Rattle.solves.specs.View.{rowsOn, massesAt, listAt, orderOf, MASSES, PATH-BAND, PATH-RHS, END}
+use Rattle.solves.specs.Answer.{ranAs, edgesAs, orderAs, orderIn}
+use Rattle.solves.specs.Lent.{Slice, Lent, came, left}
+use Rattle.solves.specs.Region.{vecAt, Does}
+use Rattle.solves.specs.View.{rowsOn, massesAt, listAt, Along, Blank, noPath, bandAt, MASSES, PATH-BAND, BAND, PATH-SCALE, PATH-RHS, END}
 
 -- the first n rows are on bodies below 16
 abbrev pub Bodies : List ℕ → ℕ → Type 0
@@ -47,6 +52,11 @@ pub record Blocked (ia ib : List ℕ) (blocks : Blocks) : Type 0 where
   pub a-there : Bodies ia (rowsOf blocks)
   pub b-there : Bodies ib (rowsOf blocks)
 
+-- `note_start` of row i: it is the next start if a block begins there
+pub record Noted (begins : Bool) (starts : List ℕ) (blocks i : ℕ) (after : List ℕ) (r : ℕ) : Type 0 where
+  pub is : r ≡ cond begins (blocks + 1) blocks
+  pub written : after ≡ cond begins (set starts blocks i) starts
+
 -- `path_blocks` of n rows: the blocks stand in the array, and behind them it is as it was
 pub record Parted (ia ib : List ℕ) (n : ℕ) (before after : List ℕ) (blocks : ℕ) : Type 0 where
   pub are : Blocked ia ib (blocksAt after blocks)
@@ -64,9 +74,29 @@ pub record Linking (m : ℕ) (edges : List ℕ) : Type 0 where
   pub size : length edges ≡ 32
   pub each : (i : ℕ) → i < 32 → Linked m (getD edges i 0)
 
--- ---- the order
+-- blocks and their edges, which every walk goes along
+pub record Graph (ia ib : List ℕ) (blocks : Blocks) (edges : List ℕ) : Type 0 where
+  pub blocked : Blocked ia ib blocks
+  pub linking : Linking (blocks .count) edges
+
+abbrev pub OnGraph : Slice ℕ → Slice ℕ → Slice ℕ → ℕ → Slice ℕ → Type 0
+OnGraph ia ib starts blocks edges = Graph (ia .now) (ib .now) (blocksAt (starts .now) blocks) (edges .now)
+
+-- `path_edges`
+pub record Edged (m : ℕ) (noted : Bool) (edges : List ℕ) (defined : Turn (List ℕ) (Unit {0})) : Type 0 where
+  pub is : edgesAs noted edges ≡ defined
+  pub links : noted ≡ true → Linking m edges
+
+-- ---- the order: the first `count` of an array
+pub record Order : Type 0 where
+  pub rows : List ℕ
+  pub count : ℕ
+
 abbrev pub orderAt : List ℕ → ℕ → Order
 orderAt rows count = record { rows = rows; count = count }
+
+abbrev pub orderOf : Order → List ℕ
+orderOf order = listAt (order .rows) (order .count)
 
 abbrev pub seenOf : Order → List Bool → Seen
 seenOf order visited = record { order = orderOf order; visited = visited }
@@ -124,14 +154,42 @@ pub record Walks (blocks : Blocks) (found : Bool) (order : Order) (visited : Lis
   pub is : foundAs found (seenOf order visited) ≡ defined
   pub free : found ≡ true → Free blocks order visited
 
+abbrev pub walkedWith : Bool → ℕ → Walked
+walkedWith found listed = record { found = found; listed = listed }
+
+-- the same on the lent arrays, where f is what is defined
+abbrev pub WalksOn : Lent ℕ → ℕ → Lent Bool → Lent ℕ → ℕ → Walked → (Blocks → Seen → Turn Seen (Unit {0})) → Type 0
+WalksOn starts blocks visited rows listed r f =
+    let at-entry = blocksAt (came starts) blocks in
+    Walks at-entry (r .found) (orderAt (left rows) (r .listed)) (left visited) (f at-entry (seenOf (orderAt (came rows) listed) (came visited)))
+
 -- All walks. Where one declines, the order is free for the same reason.
 pub record Orders (blocks : Blocks) (found : Bool) (order : Order) (defined : Turn Seen (Unit {0})) : Type 0 where
   pub is : foundAs found (orderOf order) ≡ orderIn defined
   pub listed : found ≡ true → Listed order (rowsOf blocks)
 
+-- `path_order` of n rows: a path's order lists n rows below n, and behind them its table is 0; where there is none the answer is `noPath`
+pub record Ordered (n : ℕ) (r : PathOrder) (defined : Turn (List ℕ) (Unit {0})) : Type 0 where
+  pub is : orderAs r n ≡ defined
+  pub along : r .found ≡ true → Along (r .rows) n
+  pub blank : r .found ≡ true → Blank (r .rows) n
+  pub none : r .found ≡ false → r ≡ noPath
+
 -- ---- the factor's definitions on the scratch and the order at entry
-abbrev pub onPath : {A : Type 0} → Lent Float → Lent ℕ → Lent ℕ → Lent ℕ → ℕ → ℕ → ℕ → (List EqualityRow → List MassResponse → List ℕ → A) → A
-onPath s ia ib order rows n count f = f (rowsOn (came ia) (came ib) (came s) rows n) (massesAt (came s) MASSES count) (listAt (came order) n)
+abbrev pub onPath : {A : Type 0} → Lent Float → Lent ℕ → Lent ℕ → Table → Lent ℕ → (List EqualityRow → List MassResponse → List ℕ → A) → A
+onPath s ia ib t order f =
+    f (rowsOn (came ia) (came ib) (came s) (t .place) (t .rows)) (massesAt (came s) MASSES (t .bodies)) (listAt (came order) (t .rows))
+
+-- the band at exit is what f says of the scales and the band at entry, and no more than the band is touched
+abbrev pub BandAs : Lent Float → Lent ℕ → Lent ℕ → Table → Lent ℕ → End
+    → (List EqualityRow → List MassResponse → List ℕ → List Float → List Float → Result (List Float)) → Type 0
+BandAs s ia ib t order r f =
+    Does (Out PATH-BAND BAND) (came s) (left s) (ranAs r (bandAt (left s) (t .rows)))
+    (onPath s ia ib t order f (vecAt (came s) PATH-SCALE (t .rows)) (bandAt (came s) (t .rows)))
+
+-- a sweep of the factor at entry
+abbrev pub byFactor : {A : Type 0} → Lent Float → Lent ℕ → ℕ → (ℕ → List ℕ → List Float → List Float → A) → A
+byFactor s order n f = f n (listAt (came order) n) (vecAt (came s) PATH-SCALE n) (bandAt (came s) n)
 
 -- ---- the doubles of a sum
 -- where number t of a line stands

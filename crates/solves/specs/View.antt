@@ -12,7 +12,6 @@ use Rattle.rows.specs.declared.geometry.EqualityRow.{EqualityRow}
 use Rattle.rows.specs.View.{at, vec3At, rowAt, Out}
 use Rattle.solves.specs.declared.places.Generalized.{Generalized}
 use Rattle.solves.specs.declared.places.MassResponse.{MassResponse}
-use Rattle.solves.specs.declared.path.Order.{Order}
 use Rattle.solves.specs.declared.path.PathOrder.{PathOrder}
 use Rattle.solves.specs.declared.Table.{Table}
 pub use Rattle.solves.specs.Layout.{ROWS-MOST, BODIES-MOST, VECTOR, SHARES, BAND, START-ROWS, ROWS, MASSES, RHS, SOLUTION, RESIDUAL, DIRECTION}
@@ -159,9 +158,6 @@ Onto s n to from = (n ≤ ROWS-MOST) × (to + VECTOR ≤ length (s .now)) × (fr
 abbrev pub listAt : List ℕ → ℕ → List ℕ
 listAt l n = tab n (λ k. getD l k 0)
 
-abbrev pub orderOf : Order → List ℕ
-orderOf order = listAt (order .rows) (order .count)
-
 -- the first n of an order are rows below n
 abbrev pub Along : List ℕ → ℕ → Type 0
 Along order n = (i : ℕ) → i < n → getD order i 0 < n
@@ -172,7 +168,7 @@ Blank order n = (i : ℕ) → n ≤ i → i < 96 → getD order i 0 ≡ 0
 
 -- no path
 abbrev pub noPath : PathOrder
-noPath = record { found = false; order = record { rows = replicate 96 0; count = 0 } }
+noPath = record { found = false; rows = replicate 96 0 }
 
 -- ---- the path's numbers
 abbrev pub bandAt : List Float → ℕ → List Float

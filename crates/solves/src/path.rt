@@ -25,47 +25,48 @@ use crate::values::difference;
 use arith::number::is_finite;
 use arith::root::sqrt;
 ghost use mathlib.Core.Path.{_≡_};
-ghost use mathlib.Core.Bool.{true, false, cond};
 ghost use Prim.Native.Nat.{_+_, _-_, _≤_, _<_, min};
-ghost use lib.ListN.{length, set};
+ghost use lib.ListN.{length};
 ghost use Rattle.arith.specs.Flow.{loop};
 ghost use Rattle.arith.specs.Run.{upTo};
 ghost use Rattle.rows.specs.Fault.{nonConvergent};
-ghost use Rattle.rows.specs.View.{Out};
 ghost use Rattle.solves.specs.Solver.{crossMass};
 ghost use Rattle.solves.specs.Path.{begins as beginsOf, addEdge, neighbor as neighborOf, follows as followsOf, nextBlock};
 ghost use Rattle.solves.specs.Path.{pathOrder, rowOf, pathScale, lessProducts, reduced as reducedOf, pathEntry, pathRow};
 ghost use Rattle.solves.specs.Path.{pathFactor, pathFactored, forwardSum, forward as forwardOf, backwardSum};
 ghost use Rattle.solves.specs.Path.{backward as backwardOf, refine as refineOf};
-ghost use Rattle.solves.specs.Answer.{sumAs, ranAs, edgesAs, orderAs, Solves};
+ghost use Rattle.solves.specs.Answer.{sumAs, ranAs, edgesAs, Solves};
 ghost use Rattle.solves.specs.Lent.{came, left};
-ghost use Rattle.solves.specs.PathView.{Bodies, blocksAt, rowsOf, Blocked, Parted, Linking, orderAt, seenOf, Listed};
-ghost use Rattle.solves.specs.PathView.{Appended, Free, edgesOn, walkOn, endOn, fromOn, walksOn, Walks, Orders, onPath};
+ghost use Rattle.solves.specs.PathView.{Bodies, blocksAt, rowsOf, Noted, Parted, OnGraph, Edged, orderAt, Listed, Appended, Free};
+ghost use Rattle.solves.specs.PathView.{edgesOn, walkOn, endOn, fromOn, walksOn, walkedWith, WalksOn, Orders, Ordered, onPath, BandAs, byFactor};
 ghost use Rattle.solves.specs.PathView.{placeOf, lineAt, Stands, Lies, rowLine, columnLine, sideLine};
 ghost use Rattle.solves.specs.Region.{vecAt, Does};
-ghost use Rattle.solves.specs.View.{listAt, Along, Blank, noPath, bandAt, factorAt, refinedAt, Refining, Factoring, Rows};
-ghost use Rattle.solves.specs.View.{SOLUTION, RESIDUAL, PATH-BAND, PATH-SCALE, PATH-RHS, END, Beside, BAND};
+ghost use Rattle.solves.specs.View.{listAt, Along, noPath, bandAt, factorAt, refinedAt, Refining, Factoring};
+ghost use Rattle.solves.specs.View.{SOLUTION, RESIDUAL, PATH-SCALE, PATH-RHS, END, Beside};
 ghost use Rattle.solves.specs.Search.{refinement, pathAlong};
 ghost use Rattle.solves.specs.View.{systemIn, rhsOn, solutionOn, orderOn, Ready};
 
 // No block: the Rust's `usize::MAX`. There are at most 96 blocks.
 const NONE: usize = 96;
 
-// The rows in the order of the path, and how many there are.
-pub(crate) struct Order {
-    pub rows: [usize; 96],
-    pub count: usize,
-}
-
+// Whether the graph is a path, and the rows in its order.
 pub(crate) struct PathOrder {
     pub found: bool,
-    pub order: Order,
+    pub rows: [usize; 96],
 }
 
 // Whether a walk came to an end of the path, and how many rows stand in order then.
 pub(crate) struct Walked {
     pub found: bool,
     pub listed: usize,
+}
+
+impl Walked {
+    fn new(found: bool, listed: usize) -> Walked
+        ensures { λ r. ⌜ r ≡ walkedWith found listed ⌝ }
+    {
+        Walked { found, listed }
+    }
 }
 
 // How many runs of rows on one pair of bodies there are: block k is the rows from `starts[k]` to before `starts[k + 1]`.
@@ -106,9 +107,7 @@ fn note_start(
     i: usize,
 ) -> usize
     requires { ⌜ (i < 96) × (blocks < 97) ⌝ }
-    ensures { λ r. ⌜
-        (r ≡ cond (beginsOf (came ia) (came ib) i) (blocks + 1) blocks)
-        × (left starts ≡ cond (beginsOf (came ia) (came ib) i) (set (came starts) blocks i) (came starts)) ⌝ }
+    ensures { λ r. ⌜ Noted (beginsOf (came ia) (came ib) i) (came starts) blocks i (left starts) r ⌝ }
 {
     if begins(ia, ib, i) {
         starts[blocks] = i;
@@ -140,10 +139,8 @@ fn path_edges(
     blocks: usize,
     edges: &mut [usize; 32],
 ) -> bool
-    requires { ⌜ (Blocked (now ia) (now ib) (blocksAt (now starts) blocks)) × (Linking blocks (now edges)) ⌝ }
-    ensures { λ r. ⌜
-        (edgesAs r (left edges) ≡ loop blocks (edgesOn (came ia) (came ib) (blocksAt (came starts) blocks)) (came edges))
-        × (r ≡ true → Linking blocks (left edges)) ⌝ }
+    requires { ⌜ OnGraph ia ib starts blocks edges ⌝ }
+    ensures { λ r. ⌜ Edged blocks r (left edges) (loop blocks (edgesOn (came ia) (came ib) (blocksAt (came starts) blocks)) (came edges)) ⌝ }
 {
     for k in 0..blocks {
         let row = starts[k];
@@ -216,24 +213,15 @@ fn walk(
     rows: &mut [usize; 96],
     listed: usize,
 ) -> Walked
-    requires { ⌜
-        (Blocked (now ia) (now ib) (blocksAt (now starts) blocks))
-        × (Linking blocks (now edges))
-        × (first < blocks)
-        × (Free (blocksAt (now starts) blocks) (orderAt (now rows) listed) (now visited)) ⌝ }
-    ensures { λ r. ⌜
-        Walks (blocksAt (came starts) blocks) (r .found) (orderAt (left rows) (r .listed)) (left visited)
-        (walkOn (came ia) (came ib) (blocksAt (came starts) blocks) (came edges) first (seenOf (orderAt (came rows) listed) (came visited))) ⌝ }
+    requires { ⌜ (OnGraph ia ib starts blocks edges) × (first < blocks) × (Free (blocksAt (now starts) blocks) (orderAt (now rows) listed) (now visited)) ⌝ }
+    ensures { λ r. ⌜ WalksOn starts blocks visited rows listed r (λ b. walkOn (came ia) (came ib) b (came edges) first) ⌝ }
 {
     let mut count = listed;
     let mut current = first;
     let mut previous = NONE;
     for k in 0..blocks {
         if visited[current] {
-            return Walked {
-                found: false,
-                listed: count,
-            };
+            return Walked::new(false, count);
         }
         visited[current] = true;
         let row = starts[current];
@@ -244,18 +232,12 @@ fn walk(
             previous,
         );
         if next == NONE {
-            return Walked {
-                found: true,
-                listed: count,
-            };
+            return Walked::new(true, count);
         }
         previous = current;
         current = next;
     }
-    Walked {
-        found: false,
-        listed: count,
-    }
+    Walked::new(false, count)
 }
 
 // Whether a block has a free end and was not visited yet.
@@ -268,10 +250,7 @@ fn is_end(
     visited: &[bool; 96],
     block: usize,
 ) -> bool
-    requires { ⌜
-        (Blocked (now ia) (now ib) (blocksAt (now starts) blocks))
-        × (Linking blocks (now edges))
-        × (block < blocks) ⌝ }
+    requires { ⌜ (OnGraph ia ib starts blocks edges) × (block < blocks) ⌝ }
     ensures { λ r. ⌜ r ≡ endOn (came ia) (came ib) (blocksAt (came starts) blocks) (came edges) (came visited) block ⌝ }
 {
     if visited[block] {
@@ -296,22 +275,13 @@ fn walk_from(
     rows: &mut [usize; 96],
     listed: usize,
 ) -> Walked
-    requires { ⌜
-        (Blocked (now ia) (now ib) (blocksAt (now starts) blocks))
-        × (Linking blocks (now edges))
-        × (first < blocks)
-        × (Free (blocksAt (now starts) blocks) (orderAt (now rows) listed) (now visited)) ⌝ }
-    ensures { λ r. ⌜
-        Walks (blocksAt (came starts) blocks) (r .found) (orderAt (left rows) (r .listed)) (left visited)
-        (fromOn (came ia) (came ib) (blocksAt (came starts) blocks) (came edges) first (seenOf (orderAt (came rows) listed) (came visited))) ⌝ }
+    requires { ⌜ (OnGraph ia ib starts blocks edges) × (first < blocks) × (Free (blocksAt (now starts) blocks) (orderAt (now rows) listed) (now visited)) ⌝ }
+    ensures { λ r. ⌜ WalksOn starts blocks visited rows listed r (λ b. fromOn (came ia) (came ib) b (came edges) first) ⌝ }
 {
     if is_end(ia, ib, starts, blocks, edges, visited, first) {
         return walk(ia, ib, starts, blocks, edges, visited, first, rows, listed);
     }
-    Walked {
-        found: true,
-        listed,
-    }
+    Walked::new(true, listed)
 }
 
 // Walks from every end into `rows`, which comes blank.
@@ -323,12 +293,8 @@ fn path_walks(
     edges: &[usize; 32],
     rows: &mut [usize; 96],
 ) -> Walked
-    requires { ⌜
-        (Blocked (now ia) (now ib) (blocksAt (now starts) blocks))
-        × (Linking blocks (now edges))
-        × (Listed (orderAt (now rows) 0) (rowsOf (blocksAt (now starts) blocks))) ⌝ }
-    ensures { λ r. ⌜
-        Orders (blocksAt (came starts) blocks) (r .found) (orderAt (left rows) (r .listed))
+    requires { ⌜ (OnGraph ia ib starts blocks edges) × (Listed (orderAt (now rows) 0) (rowsOf (blocksAt (now starts) blocks))) ⌝ }
+    ensures { λ r. ⌜ Orders (blocksAt (came starts) blocks) (r .found) (orderAt (left rows) (r .listed))
         (walksOn (came ia) (came ib) (blocksAt (came starts) blocks) (came edges)) ⌝ }
 {
     let mut visited = [false; 96];
@@ -347,16 +313,10 @@ fn path_walks(
         );
         listed = walked.listed;
         if !walked.found {
-            return Walked {
-                found: false,
-                listed,
-            };
+            return Walked::new(false, listed);
         }
     }
-    Walked {
-        found: true,
-        listed,
-    }
+    Walked::new(true, listed)
 }
 
 fn no_path() -> PathOrder
@@ -364,20 +324,14 @@ fn no_path() -> PathOrder
 {
     PathOrder {
         found: false,
-        order: Order {
-            rows: [0usize; 96],
-            count: 0,
-        },
+        rows: [0usize; 96],
     }
 }
 
 // The rows along the path, if the graph is one.
 pub(crate) fn path_order(ia: &[usize; 96], ib: &[usize; 96], n: usize) -> PathOrder
     requires { ⌜ (n ≤ 96) × (Bodies (now ia) n) × (Bodies (now ib) n) ⌝ }
-    ensures { λ r. ⌜
-        (orderAs r ≡ pathOrder (listAt (came ia) n) (listAt (came ib) n) n)
-        × (r .found ≡ true → (r .order .count ≡ n) × (Along (r .order .rows) n) × (Blank (r .order .rows) n))
-        × (r .found ≡ false → r ≡ noPath) ⌝ }
+    ensures { λ r. ⌜ Ordered n r (pathOrder (listAt (came ia) n) (listAt (came ib) n) n) ⌝ }
 {
     let mut starts = [0usize; 97];
     let blocks = path_blocks(ia, ib, n, &mut starts);
@@ -391,10 +345,7 @@ pub(crate) fn path_order(ia: &[usize; 96], ib: &[usize; 96], n: usize) -> PathOr
         return no_path();
     }
     if walked.listed == n {
-        return PathOrder {
-            found: true,
-            order: Order { rows, count: n },
-        };
+        return PathOrder { found: true, rows };
     }
     no_path()
 }
@@ -476,37 +427,32 @@ fn cross_at(
     s: &[f64],
     ia: &[usize; 96],
     ib: &[usize; 96],
-    rows: usize,
+    t: Table,
     order: &[usize; 96],
-    n: usize,
-    count: usize,
     i: usize,
     j: usize,
 ) -> Sum
-    requires { ⌜ (Rows (now s) (now ia) (now ib) rows n count) × (Along (now order) n) × (i < n) × (j < n) ⌝ }
-    ensures { λ r. ⌜ sumAs r ≡ onPath s ia ib order rows n count (λ r m o. crossMass (rowOf r m o i) (rowOf r m o j) m) ⌝ }
+    requires { ⌜ (Ready s ia ib t) × (Along (now order) (t .rows)) × (i < t .rows) × (j < t .rows) ⌝ }
+    ensures { λ r. ⌜ sumAs r ≡ onPath s ia ib t order (λ r m o. crossMass (rowOf r m o i) (rowOf r m o j) m) ⌝ }
 {
-    let a = load_row(s, ia, ib, rows, order[i]);
-    let b = load_row(s, ia, ib, rows, order[j]);
-    cross_mass(s, a, b, count)
+    let a = load_row(s, ia, ib, t.place, order[i]);
+    let b = load_row(s, ia, ib, t.place, order[j]);
+    cross_mass(s, a, b, t.bodies)
 }
 
 fn path_scale(
     s: &mut [f64],
     ia: &[usize; 96],
     ib: &[usize; 96],
-    rows: usize,
+    t: Table,
     order: &[usize; 96],
-    n: usize,
-    count: usize,
 ) -> End
-    requires { ⌜ (Rows (now s) (now ia) (now ib) rows n count) × (Along (now order) n) ⌝ }
-    ensures { λ r. ⌜
-        Does (Beside PATH-SCALE) (came s) (left s) (ranAs r (vecAt (left s) PATH-SCALE n))
-        (onPath s ia ib order rows n count pathScale n) ⌝ }
+    requires { ⌜ (Ready s ia ib t) × (Along (now order) (t .rows)) ⌝ }
+    ensures { λ r. ⌜ Does (Beside PATH-SCALE) (came s) (left s) (ranAs r (vecAt (left s) PATH-SCALE (t .rows)))
+        (onPath s ia ib t order pathScale (t .rows)) ⌝ }
 {
-    for i in 0..n {
-        let Sum::Value(value) = cross_at(s, ia, ib, rows, order, n, count, i, i) else {
+    for i in 0..t.rows {
+        let Sum::Value(value) = cross_at(s, ia, ib, t, order, i, i) else {
             return End::ArithmeticOverflow;
         };
         if value <= 0.0 {
@@ -530,22 +476,24 @@ fn path_entry(
     s: &mut [f64],
     ia: &[usize; 96],
     ib: &[usize; 96],
-    rows: usize,
+    t: Table,
     order: &[usize; 96],
-    n: usize,
-    count: usize,
     i: usize,
     j: usize,
 ) -> End
-    requires { ⌜ (Rows (now s) (now ia) (now ib) rows n count) × (Along (now order) n) × (i < n) × (j ≤ i) × (i ≤ j + 11) ⌝ }
-    ensures { λ r. ⌜
-        Does (Out PATH-BAND BAND) (came s) (left s) (ranAs r (bandAt (left s) n))
-        (onPath s ia ib order rows n count pathEntry (vecAt (came s) PATH-SCALE n) i j (bandAt (came s) n)) ⌝ }
+    requires { ⌜ (Ready s ia ib t) × (Along (now order) (t .rows)) × (i < t .rows) × (j ≤ i) × (i ≤ j + 11) ⌝ }
+    ensures { λ r. ⌜ BandAs s ia ib t order r (λ rows masses order scale. pathEntry rows masses order scale i j) ⌝ }
 {
-    let Sum::Value(entry) = cross_at(s, ia, ib, rows, order, n, count, i, j) else {
+    let Sum::Value(entry) = cross_at(s, ia, ib, t, order, i, j) else {
         return End::ArithmeticOverflow;
     };
-    let value = reduced(s, entry / (s[PATH_SCALE + i] * s[PATH_SCALE + j]), i, j, n);
+    let value = reduced(
+        s,
+        entry / (s[PATH_SCALE + i] * s[PATH_SCALE + j]),
+        i,
+        j,
+        t.rows,
+    );
     if j == i {
         if !is_finite(value) {
             return End::NonConvergent;
@@ -564,26 +512,17 @@ fn path_row(
     s: &mut [f64],
     ia: &[usize; 96],
     ib: &[usize; 96],
-    rows: usize,
+    t: Table,
     order: &[usize; 96],
-    n: usize,
-    count: usize,
     i: usize,
 ) -> End
-    requires { ⌜ (Rows (now s) (now ia) (now ib) rows n count) × (Along (now order) n) × (i < n) ⌝ }
-    ensures { λ r. ⌜
-        Does (Out PATH-BAND BAND) (came s) (left s) (ranAs r (bandAt (left s) n))
-        (onPath s ia ib order rows n count pathRow (vecAt (came s) PATH-SCALE n) i (bandAt (came s) n)) ⌝ }
+    requires { ⌜ (Ready s ia ib t) × (Along (now order) (t .rows)) × (i < t .rows) ⌝ }
+    ensures { λ r. ⌜ BandAs s ia ib t order r (λ rows masses order scale. pathRow rows masses order scale i) ⌝ }
 {
     for j in band_start(i)..i + 1 {
-        match path_entry(s, ia, ib, rows, order, n, count, i, j) {
-            End::Done => {}
-            End::NonConvergent => {
-                return End::NonConvergent;
-            }
-            End::ArithmeticOverflow => {
-                return End::ArithmeticOverflow;
-            }
+        let end = path_entry(s, ia, ib, t, order, i, j);
+        if !done(end) {
+            return end;
         }
     }
     End::Done
@@ -593,26 +532,17 @@ fn path_factor(
     s: &mut [f64],
     ia: &[usize; 96],
     ib: &[usize; 96],
-    rows: usize,
+    t: Table,
     order: &[usize; 96],
-    n: usize,
-    count: usize,
 ) -> End
-    requires { ⌜ (Rows (now s) (now ia) (now ib) rows n count) × (Along (now order) n) ⌝ }
-    ensures { λ r. ⌜
-        Does (Out PATH-BAND BAND) (came s) (left s) (ranAs r (bandAt (left s) n))
-        (onPath s ia ib order rows n count pathFactor (vecAt (came s) PATH-SCALE n) n) ⌝ }
+    requires { ⌜ (Ready s ia ib t) × (Along (now order) (t .rows)) ⌝ }
+    ensures { λ r. ⌜ BandAs s ia ib t order r (λ rows masses order scale _. pathFactor rows masses order scale (t .rows)) ⌝ }
 {
-    clear(s, PATH_BAND, BAND_WIDTH * n);
-    for i in 0..n {
-        match path_row(s, ia, ib, rows, order, n, count, i) {
-            End::Done => {}
-            End::NonConvergent => {
-                return End::NonConvergent;
-            }
-            End::ArithmeticOverflow => {
-                return End::ArithmeticOverflow;
-            }
+    clear(s, PATH_BAND, BAND_WIDTH * t.rows);
+    for i in 0..t.rows {
+        let end = path_row(s, ia, ib, t, order, i);
+        if !done(end) {
+            return end;
         }
     }
     End::Done
@@ -628,9 +558,7 @@ fn forward_sum(s: &[f64], start: f64, i: usize, n: usize) -> f64
 
 fn forward(s: &mut [f64], order: &[usize; 96], n: usize)
     requires { ⌜ (END ≤ length (now s)) × (n ≤ 96) × (Along (now order) n) ⌝ }
-    ensures { λ _. ⌜
-        Does (Beside PATH-RHS) (came s) (left s) (vecAt (left s) PATH-RHS n)
-        (forwardOf n (listAt (came order) n) (vecAt (came s) PATH-SCALE n) (bandAt (came s) n) (vecAt (came s) RESIDUAL n)) ⌝ }
+    ensures { λ _. ⌜ Does (Beside PATH-RHS) (came s) (left s) (vecAt (left s) PATH-RHS n) (byFactor s order n forwardOf (vecAt (came s) RESIDUAL n)) ⌝ }
 {
     for i in 0..n {
         let start = s[RESIDUAL + order[i]] / s[PATH_SCALE + i];
@@ -666,10 +594,8 @@ fn backward_sum(s: &[f64], start: f64, i: usize, n: usize) -> f64
 // From the last row to the first, with the correction added to the solution.
 fn backward(s: &mut [f64], order: &[usize; 96], n: usize)
     requires { ⌜ (END ≤ length (now s)) × (n ≤ 96) × (Along (now order) n) ⌝ }
-    ensures { λ _. ⌜
-        Does (λ i. (Beside PATH-RHS i) × (Beside SOLUTION i)) (came s) (left s) (vecAt (left s) SOLUTION n)
-        (backwardOf n (listAt (came order) n) (vecAt (came s) PATH-SCALE n) (bandAt (came s) n) (vecAt (came s) PATH-RHS n)
-        (vecAt (came s) SOLUTION n)) ⌝ }
+    ensures { λ _. ⌜ Does (λ i. (Beside PATH-RHS i) × (Beside SOLUTION i)) (came s) (left s) (vecAt (left s) SOLUTION n)
+        (byFactor s order n backwardOf (vecAt (came s) PATH-RHS n) (vecAt (came s) SOLUTION n)) ⌝ }
 {
     for k in 0..n {
         let i = n - 1 - k;
@@ -684,21 +610,17 @@ fn path_factored(
     s: &mut [f64],
     ia: &[usize; 96],
     ib: &[usize; 96],
-    rows: usize,
+    t: Table,
     order: &[usize; 96],
-    n: usize,
-    count: usize,
 ) -> End
-    requires { ⌜ (Rows (now s) (now ia) (now ib) rows n count) × (Along (now order) n) ⌝ }
-    ensures { λ r. ⌜
-        Does Factoring (came s) (left s) (ranAs r (factorAt (left s) n))
-        (onPath s ia ib order rows n count pathFactored n) ⌝ }
+    requires { ⌜ (Ready s ia ib t) × (Along (now order) (t .rows)) ⌝ }
+    ensures { λ r. ⌜ Does Factoring (came s) (left s) (ranAs r (factorAt (left s) (t .rows))) (onPath s ia ib t order pathFactored (t .rows)) ⌝ }
 {
-    match path_scale(s, ia, ib, rows, order, n, count) {
-        End::Done => path_factor(s, ia, ib, rows, order, n, count),
-        End::NonConvergent => End::NonConvergent,
-        End::ArithmeticOverflow => End::ArithmeticOverflow,
+    let end = path_scale(s, ia, ib, t, order);
+    if !done(end) {
+        return end;
     }
+    path_factor(s, ia, ib, t, order)
 }
 
 // One refinement, up to the new residual.
@@ -755,7 +677,7 @@ pub(crate) fn path_along(
     ensures { λ r. ⌜ Solves s ia ib t r (λ system. pathAlong system (rhsOn s t) (solutionOn s t) (orderOn order t)) ⌝ }
 {
     let n = t.rows;
-    let factored = path_factored(s, ia, ib, t.place, order, n, t.bodies);
+    let factored = path_factored(s, ia, ib, t, order);
     if !done(factored) {
         return Ended::new(factored, 0);
     }

@@ -34,7 +34,6 @@ pub fn linear_solve(
     if !path.found {
         return gradients(s, ia, ib, t);
     }
-    let along = path.order;
-    let order = along.rows;
+    let order = path.rows;
     path_along(s, ia, ib, t, &order)
 }

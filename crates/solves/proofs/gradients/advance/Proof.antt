@@ -108,6 +108,6 @@ returns-5 c =
 pub advance-spec : {M : Type 1} → statement M
 advance-spec =
     tie.close (tie.spec
-      operator-requires (λ c κs. search needs) same-length returns (λ c κs. omega arith) (λ c. search needs)
-      (λ c. search needs) same-length-2 returns-2 same-length-3 returns-3 (λ c κs. search needs) same-length-4
-      returns-4 (λ c κs. omega arith) (λ c κs. omega arith) same-length-5 returns-5)
+    operator-requires (λ c κs. search needs) same-length returns (λ c κs. omega arith) (λ c. search needs)
+    (λ c. search needs) same-length-2 returns-2 same-length-3 returns-3 (λ c κs. search needs) same-length-4
+    returns-4 (λ c κs. omega arith) (λ c κs. omega arith) same-length-5 returns-5)

@@ -65,5 +65,5 @@ returns-3 c =
 pub gradient-pass-spec : {M : Type 1} → statement M
 gradient-pass-spec =
     tie.close (tie.spec
-      (λ c κs. omega arith) (λ c. search needs) (λ c. search needs) returns (λ c. search needs) advance-requires
-      (λ c κs. search needs) same-length-2 returns-2 settle-requires same-length-3 returns-3)
+    (λ c κs. omega arith) (λ c. search needs) (λ c. search needs) returns (λ c. search needs) advance-requires
+    (λ c κs. search needs) same-length-2 returns-2 settle-requires same-length-3 returns-3)

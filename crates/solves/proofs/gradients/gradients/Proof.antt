@@ -75,6 +75,6 @@ returns-3 c =
 pub gradients-spec : {M : Type 1} → statement M
 gradients-spec =
     tie.close (tie.spec
-      (λ c κs. c .before .before .pre) (λ c. search needs) (λ c. search needs) (λ c κs. search needs)
-      same-length returns (λ c κs. omega arith) (λ c. search needs) (λ c. search needs) (λ c κs. search needs)
-      same-length-2 returns-2 search-requires same-length-3 returns-3)
+    (λ c κs. c .before .before .pre) (λ c. search needs) (λ c. search needs) (λ c κs. search needs)
+    same-length returns (λ c κs. omega arith) (λ c. search needs) (λ c. search needs) (λ c κs. search needs)
+    same-length-2 returns-2 search-requires same-length-3 returns-3)

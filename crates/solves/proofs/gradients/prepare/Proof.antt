@@ -100,8 +100,8 @@ returns-3 c = prepared-ends (c .before .before .before .pre) _ (c .before .loop 
 pub prepare-spec : {M : Type 1} → statement M
 prepare-spec =
     tie.close (tie.spec
-      Inv-loop μ-loop loop-holds (λ c κs. omega arith) load-mass-requires load-mass-requires-2
-      (λ c κs. omega arith) (λ c κs. omega arith) same-length returns same-length-2 returns-2 (λ c. omega arith)
-      (λ c. omega arith) (λ c. omega arith) (λ c. omega arith) (λ c. omega arith) (λ c. omega arith)
-      (λ c. omega arith) (λ c. omega arith) slice-write-s-2 (λ c. omega arith) (λ c. omega arith) loop-again
-      (λ c. c .before .loop .inv .1) returns-3)
+    Inv-loop μ-loop loop-holds (λ c κs. omega arith) load-mass-requires load-mass-requires-2
+    (λ c κs. omega arith) (λ c κs. omega arith) same-length returns same-length-2 returns-2 (λ c. omega arith)
+    (λ c. omega arith) (λ c. omega arith) (λ c. omega arith) (λ c. omega arith) (λ c. omega arith)
+    (λ c. omega arith) (λ c. omega arith) slice-write-s-2 (λ c. omega arith) (λ c. omega arith) loop-again
+    (λ c. c .before .loop .inv .1) returns-3)

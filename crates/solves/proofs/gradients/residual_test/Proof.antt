@@ -32,5 +32,5 @@ returns-3 c =
 pub residual-test-spec : {M : Type 1} → statement M
 residual-test-spec =
     tie.close (tie.spec
-      (λ c κs. search needs) (λ c. search needs) (λ c. search needs) returns (λ c κs. search needs) returns-2
-      returns-3)
+    (λ c κs. search needs) (λ c. search needs) (λ c. search needs) returns (λ c κs. search needs) returns-2
+    returns-3)

@@ -38,5 +38,5 @@ returns-2 c =
 pub settle-spec : {M : Type 1} → statement M
 settle-spec =
     tie.close (tie.spec
-      (λ c κs. c .before .before .pre) (λ c. search needs) same-length returns (λ c. search needs)
-      (λ c κs. omega arith) (λ c κs. omega arith) same-length-2 returns-2)
+    (λ c κs. c .before .before .pre) (λ c. search needs) same-length returns (λ c. search needs)
+    (λ c κs. omega arith) (λ c κs. omega arith) same-length-2 returns-2)

@@ -80,6 +80,6 @@ returns-4 c =
 pub true-residual-spec : {M : Type 1} → statement M
 true-residual-spec =
     tie.close (tie.spec
-      (λ c κs. omega arith) (λ c. search needs) (λ c. search needs) (λ c. search needs) returns
-      (λ c κs. search needs) (λ c. search needs) returns-2 operator-requires (λ c κs. search needs)
-      same-length-3 returns-3 (λ c κs. omega arith) (λ c κs. omega arith) same-length-4 returns-4)
+    (λ c κs. omega arith) (λ c. search needs) (λ c. search needs) (λ c. search needs) returns
+    (λ c κs. search needs) (λ c. search needs) returns-2 operator-requires (λ c κs. search needs)
+    same-length-3 returns-3 (λ c κs. omega arith) (λ c κs. omega arith) same-length-4 returns-4)

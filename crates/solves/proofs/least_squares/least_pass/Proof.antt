@@ -222,8 +222,8 @@ returns-7 c =
 pub least-pass-spec : {M : Type 1} → statement M
 least-pass-spec =
     tie.close (tie.spec
-      (λ c κs. search needs) returns operator-requires (λ c κs. search needs) same-length returns-2
-      (λ c κs. omega arith) (λ c. search needs) (λ c. search needs) same-length-2 returns-3 same-length-3
-      returns-4 (λ c κs. omega arith) (λ c κs. omega arith) operator-requires-2 (λ c κs. search needs)
-      same-length-4 returns-5 dot-requires-2 (λ c. search needs) (λ c. search needs) same-length-5 returns-6
-      add-scaled-requires-2 same-length-6 returns-7)
+    (λ c κs. search needs) returns operator-requires (λ c κs. search needs) same-length returns-2
+    (λ c κs. omega arith) (λ c. search needs) (λ c. search needs) same-length-2 returns-3 same-length-3
+    returns-4 (λ c κs. omega arith) (λ c κs. omega arith) operator-requires-2 (λ c κs. search needs)
+    same-length-4 returns-5 dot-requires-2 (λ c. search needs) (λ c. search needs) same-length-5 returns-6
+    add-scaled-requires-2 same-length-6 returns-7)

@@ -113,7 +113,7 @@ returns-4 c =
 pub least-squares-spec : {M : Type 1} → statement M
 least-squares-spec =
     tie.close (tie.spec
-      operator-requires (λ c κs. search needs) (λ c κs. search needs) same-length returns (λ c κs. omega arith)
-      (λ c. search needs) (λ c. search needs) (λ c κs. search needs) same-length-2 returns-2
-      (λ c κs. omega arith) (λ c. search needs) (λ c. search needs) (λ c κs. search needs) same-length-3
-      returns-3 (λ c κs. omega arith) search-requires same-length-4 returns-4)
+    operator-requires (λ c κs. search needs) (λ c κs. search needs) same-length returns (λ c κs. omega arith)
+    (λ c. search needs) (λ c. search needs) (λ c κs. search needs) same-length-2 returns-2
+    (λ c κs. omega arith) (λ c. search needs) (λ c. search needs) (λ c κs. search needs) same-length-3
+    returns-3 (λ c κs. omega arith) search-requires same-length-4 returns-4)

@@ -79,5 +79,5 @@ returns-3 c =
 pub operator-spec : {M : Type 1} → statement M
 operator-spec =
     tie.close (tie.spec
-      transpose-requires (λ c κs. omega arith) same-length returns (λ c κs. omega arith) (λ c κs. omega arith)
-      same-length-2 returns-2 rates-requires same-length-3 returns-3)
+    transpose-requires (λ c κs. omega arith) same-length returns (λ c κs. omega arith) (λ c κs. omega arith)
+    same-length-2 returns-2 rates-requires same-length-3 returns-3)

@@ -16,4 +16,4 @@ returns c =
 pub push-into-spec : {M : Type 1} → statement M
 push-into-spec =
     tie.close (tie.spec
-      (λ c κs. search needs) (λ c κs. search needs) (λ c κs. search needs) (λ c. search needs) returns)
+    (λ c κs. search needs) (λ c κs. search needs) (λ c κs. search needs) (λ c. search needs) returns)

@@ -9,4 +9,4 @@ returns c = simp (c .add2 .ensures, c .before .scale2 .ensures, c .before .befor
 pub pushed-spec : {M : Type 1} → statement M
 pushed-spec =
     tie.close (tie.spec
-      (λ c κs. search needs) (λ c κs. search needs) (λ c κs. search needs) (λ c κs. search needs) returns)
+    (λ c κs. search needs) (λ c κs. search needs) (λ c κs. search needs) (λ c κs. search needs) returns)

@@ -110,6 +110,6 @@ returns-2 c =
 pub rates-spec : {M : Type 1} → statement M
 rates-spec =
     tie.close (tie.spec
-      Inv-loop μ-loop loop-holds (λ c κs. omega arith) load-generalized-requires load-generalized-requires-2
-      (λ c κs. omega arith) add-s mul-s slice-write-s (λ c κs. omega arith) same-length returns add-k
-      (λ c. omega arith) loop-again (λ c. c .before .loop .inv .1) returns-2)
+    Inv-loop μ-loop loop-holds (λ c κs. omega arith) load-generalized-requires load-generalized-requires-2
+    (λ c κs. omega arith) add-s mul-s slice-write-s (λ c κs. omega arith) same-length returns add-k
+    (λ c. omega arith) loop-again (λ c. c .before .loop .inv .1) returns-2)

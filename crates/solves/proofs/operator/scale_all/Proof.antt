@@ -54,6 +54,6 @@ returns-2 c = scale-ends _ _ (c .before .before .before .pre .1) (c .before .loo
 pub scale-all-spec : {M : Type 1} → statement M
 scale-all-spec =
     tie.close (tie.spec
-      Inv-loop μ-loop loop-holds (λ c κs. omega arith) (λ c κs. omega arith) (λ c κs. omega arith)
-      (λ c. search needs) (λ c κs. omega arith) (λ c. search needs) (λ c. omega arith) returns
-      (λ c. omega arith) (λ c. omega arith) loop-again (λ c. omega arith) returns-2)
+    Inv-loop μ-loop loop-holds (λ c κs. omega arith) (λ c κs. omega arith) (λ c κs. omega arith)
+    (λ c. search needs) (λ c κs. omega arith) (λ c. search needs) (λ c. omega arith) returns
+    (λ c. omega arith) (λ c. omega arith) loop-again (λ c. omega arith) returns-2)

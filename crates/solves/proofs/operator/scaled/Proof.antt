@@ -22,5 +22,5 @@ returns-3 c = scaled-1 _ _ (c .before .before .scale .ensures) (c .before .is-fi
 pub scaled-spec : {M : Type 1} → statement M
 scaled-spec =
     tie.close (tie.spec
-      (λ c κs. search needs) (λ c κs. search needs) (λ c κs. search needs) (λ c κs. search needs) returns
-      returns-2 returns-3)
+    (λ c κs. search needs) (λ c κs. search needs) (λ c κs. search needs) (λ c κs. search needs) returns
+    returns-2 returns-3)

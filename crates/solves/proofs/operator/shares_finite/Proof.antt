@@ -59,5 +59,5 @@ returns-3 c =
 pub shares-finite-spec : {M : Type 1} → statement M
 shares-finite-spec =
     tie.close (tie.spec
-      Inv-loop μ-loop (λ c. (omega arith, every-none _)) (λ c κs. omega arith) (λ c κs. omega arith) returns
-      (λ c κs. omega arith) returns-2 (λ c. omega arith) (λ c. omega arith) loop-again returns-3)
+    Inv-loop μ-loop (λ c. (omega arith, every-none _)) (λ c κs. omega arith) (λ c κs. omega arith) returns
+    (λ c κs. omega arith) returns-2 (λ c. omega arith) (λ c. omega arith) loop-again returns-3)

@@ -20,4 +20,4 @@ returns-2 c =
 pub tolerance-for-spec : {M : Type 1} → statement M
 tolerance-for-spec =
     tie.close (tie.spec
-      (λ c κs. search needs) (λ c. search needs) (λ c. search needs) returns (λ c κs. search needs) returns-2)
+    (λ c κs. search needs) (λ c. search needs) (λ c. search needs) returns (λ c κs. search needs) returns-2)

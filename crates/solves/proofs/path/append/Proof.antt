@@ -28,5 +28,5 @@ returns c =
 pub append-spec : {M : Type 1} → statement M
 append-spec =
     tie.close (tie.spec
-      Inv-loop μ-loop loop-holds (λ c. omega arith) (λ c. omega arith) (λ c. omega arith) (λ c. omega arith)
-      (λ c. omega arith) loop-again returns)
+    Inv-loop μ-loop loop-holds (λ c. omega arith) (λ c. omega arith) (λ c. omega arith) (λ c. omega arith)
+    (λ c. omega arith) loop-again returns)

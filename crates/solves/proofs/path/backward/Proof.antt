@@ -97,9 +97,9 @@ returns c =
 pub backward-spec : {M : Type 1} → statement M
 backward-spec =
     tie.close (tie.spec
-      Inv-loop μ-loop loop-holds (λ c. omega arith) (λ c. omega arith) (λ c. omega arith) (λ c. omega arith)
-      (λ c. omega arith) (λ c κs. omega arith) (λ c. omega arith) (λ c. omega arith) (λ c. omega arith)
-      (λ c. omega arith) (λ c. omega arith) (λ c. omega arith) (λ c. omega arith) (λ c. omega arith)
-      (λ c. omega arith) add-at mul-s-2 slice-read-s (λ c. omega arith) (λ c. omega arith) slice-read-s-2
-      mul-s-4 slice-write-s-2 (λ c. omega arith) (λ c. omega arith) loop-again (λ c. c .before .loop .inv .1)
-      returns)
+    Inv-loop μ-loop loop-holds (λ c. omega arith) (λ c. omega arith) (λ c. omega arith) (λ c. omega arith)
+    (λ c. omega arith) (λ c κs. omega arith) (λ c. omega arith) (λ c. omega arith) (λ c. omega arith)
+    (λ c. omega arith) (λ c. omega arith) (λ c. omega arith) (λ c. omega arith) (λ c. omega arith)
+    (λ c. omega arith) add-at mul-s-2 slice-read-s (λ c. omega arith) (λ c. omega arith) slice-read-s-2
+    mul-s-4 slice-write-s-2 (λ c. omega arith) (λ c. omega arith) loop-again (λ c. c .before .loop .inv .1)
+    returns)

@@ -28,5 +28,5 @@ returns c =
 pub backward-sum-spec : {M : Type 1} → statement M
 backward-sum-spec =
     tie.close (tie.spec
-      (λ c. omega arith) (λ c κs. omega arith) (λ c κs. omega arith) (λ c κs. omega arith) (λ c. omega arith)
-      less-products-requires returns)
+    (λ c. omega arith) (λ c κs. omega arith) (λ c κs. omega arith) (λ c κs. omega arith) (λ c. omega arith)
+    less-products-requires returns)

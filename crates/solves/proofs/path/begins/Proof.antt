@@ -31,6 +31,6 @@ returns-4 c =
 pub begins-spec : {M : Type 1} → statement M
 begins-spec =
     tie.close (tie.spec
-      returns (λ c. search needs) (λ c. search needs) (λ c. search needs) (λ c. search needs)
-      (λ c. search needs) (λ c. search needs) (λ c. search needs) (λ c. search needs) (λ c. search needs)
-      (λ c. search needs) returns-2 returns-3 returns-4)
+    returns (λ c. search needs) (λ c. search needs) (λ c. search needs) (λ c. search needs)
+    (λ c. search needs) (λ c. search needs) (λ c. search needs) (λ c. search needs) (λ c. search needs)
+    (λ c. search needs) returns-2 returns-3 returns-4)

@@ -43,5 +43,5 @@ returns c =
 pub cross-at-spec : {M : Type 1} → statement M
 cross-at-spec =
     tie.close (tie.spec
-      (λ c. omega arith) (λ c. omega arith) load-row-requires (λ c. omega arith) (λ c. omega arith)
-      load-row-requires-2 cross-mass-requires returns)
+    (λ c. omega arith) (λ c. omega arith) load-row-requires (λ c. omega arith) (λ c. omega arith)
+    load-row-requires-2 cross-mass-requires returns)

@@ -71,7 +71,7 @@ returns c =
 pub forward-spec : {M : Type 1} → statement M
 forward-spec =
     tie.close (tie.spec
-      Inv-loop μ-loop loop-holds (λ c. omega arith) (λ c. omega arith) add-start mul-start-2 slice-read-start
-      (λ c. omega arith) (λ c. omega arith) (λ c. omega arith) (λ c κs. omega arith) (λ c. omega arith)
-      (λ c. omega arith) (λ c. omega arith) (λ c. omega arith) (λ c. omega arith) (λ c. omega arith)
-      (λ c. omega arith) (λ c. omega arith) (λ c. omega arith) loop-again (λ c. c .before .loop .inv .1) returns)
+    Inv-loop μ-loop loop-holds (λ c. omega arith) (λ c. omega arith) add-start mul-start-2 slice-read-start
+    (λ c. omega arith) (λ c. omega arith) (λ c. omega arith) (λ c κs. omega arith) (λ c. omega arith)
+    (λ c. omega arith) (λ c. omega arith) (λ c. omega arith) (λ c. omega arith) (λ c. omega arith)
+    (λ c. omega arith) (λ c. omega arith) (λ c. omega arith) loop-again (λ c. c .before .loop .inv .1) returns)

@@ -29,5 +29,5 @@ returns c =
 pub forward-sum-spec : {M : Type 1} → statement M
 forward-sum-spec =
     tie.close (tie.spec
-      (λ c κs. search needs) (λ c κs. omega arith) (λ c κs. omega arith) (λ c. omega arith)
-      less-products-requires returns)
+    (λ c κs. search needs) (λ c κs. omega arith) (λ c κs. omega arith) (λ c. omega arith)
+    less-products-requires returns)

@@ -13,22 +13,22 @@ returns c =
     let start = c .before .before in
     let args = start .args in
     let pre = start .pre in
-    end-visited (pre .0) (pre .1) (now (args .visited)) (args .block) (c .if1 .taken)
+    end-visited (pre .0) (now (args .visited)) (args .block) (c .if1 .taken)
 
 mul-neighbor : tie.Need-mul-neighbor
 mul-neighbor c =
     let pre = c .before .before .before .pre in
-    omega (arith, row-there (pre .0) (pre .2))
+    omega (arith, row-there (pre .0 .blocked) (pre .1))
 
 element-copy-out-neighbor : tie.Need-element-copy-out-neighbor
 element-copy-out-neighbor c =
     let pre = c .before .before .before .pre in
-    omega (arith, row-there (pre .0) (pre .2))
+    omega (arith, row-there (pre .0 .blocked) (pre .1))
 
 neighbor-requires : tie.Need-neighbor-requires
 neighbor-requires c κs =
     let pre = c .before .before .before .before .pre in
-    a-body (pre .0) (pre .2)
+    a-body (pre .0 .blocked) (pre .1)
 
 returns-2 : tie.Need-returns-2
 returns-2 c =
@@ -37,25 +37,25 @@ returns-2 c =
     let start = at-if1 .before .before in
     let args = start .args in
     let pre = start .pre in
-    end-a (pre .0) (pre .1) (now (args .visited)) (args .block) (pre .2) (at-if1 .if1 .left) (at-neighbor .neighbor .ensures) (c .if2 .taken)
+    end-a (pre .0) (now (args .visited)) (args .block) (pre .1) (at-if1 .if1 .left) (at-neighbor .neighbor .ensures) (c .if2 .taken)
 
 mul-neighbor-2 : tie.Need-mul-neighbor-2
 mul-neighbor-2 c =
     let start = c .before .before .before .before .before .before in
     let pre = start .pre in
-    omega (arith, row-there (pre .0) (pre .2))
+    omega (arith, row-there (pre .0 .blocked) (pre .1))
 
 element-copy-out-neighbor-2 : tie.Need-element-copy-out-neighbor-2
 element-copy-out-neighbor-2 c =
     let start = c .before .before .before .before .before .before in
     let pre = start .pre in
-    omega (arith, row-there (pre .0) (pre .2))
+    omega (arith, row-there (pre .0 .blocked) (pre .1))
 
 neighbor-requires-2 : tie.Need-neighbor-requires-2
 neighbor-requires-2 c κs =
     let at-if12 = c .before .before .before .before .before .before in
     let pre = at-if12 .before .pre in
-    b-body (pre .0) (pre .2)
+    b-body (pre .0 .blocked) (pre .1)
 
 returns-3 : tie.Need-returns-3
 returns-3 c =
@@ -65,11 +65,11 @@ returns-3 c =
     let start = at-if1 .before .before in
     let args = start .args in
     let pre = start .pre in
-    end-b (pre .0) (pre .1) (now (args .visited)) (args .block) (pre .2) (at-if1 .if1 .left) (at-neighbor .neighbor .ensures) (at-if2 .if2 .left)
+    end-b (pre .0) (now (args .visited)) (args .block) (pre .1) (at-if1 .if1 .left) (at-neighbor .neighbor .ensures) (at-if2 .if2 .left)
     (c .neighbor2 .ensures) refl
 
 pub is-end-spec : {M : Type 1} → statement M
 is-end-spec =
     tie.close (tie.spec
-      (λ c. search needs) returns (λ c. search needs) (λ c. search needs) mul-neighbor element-copy-out-neighbor
-      neighbor-requires returns-2 mul-neighbor-2 element-copy-out-neighbor-2 neighbor-requires-2 returns-3)
+    (λ c. search needs) returns (λ c. search needs) (λ c. search needs) mul-neighbor element-copy-out-neighbor
+    neighbor-requires returns-2 mul-neighbor-2 element-copy-out-neighbor-2 neighbor-requires-2 returns-3)

@@ -70,6 +70,6 @@ returns c =
 pub less-products-spec : {M : Type 1} → statement M
 less-products-spec =
     tie.close (tie.spec
-      Inv-loop μ-loop (λ c. (omega arith, turns-none _ _)) place-requires mul-value shared-slice-read-value
-      place-requires-2 mul-value-2 shared-slice-read-value-2 (λ c. omega arith) (λ c. omega arith) loop-again
-      returns)
+    Inv-loop μ-loop (λ c. (omega arith, turns-none _ _)) place-requires mul-value shared-slice-read-value
+    place-requires-2 mul-value-2 shared-slice-read-value-2 (λ c. omega arith) (λ c. omega arith) loop-again
+    returns)

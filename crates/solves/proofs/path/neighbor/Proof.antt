@@ -7,7 +7,7 @@ use Rattle.solves.proofs.path.neighbor.Tie as tie
 pub neighbor-spec : {M : Type 1} → statement M
 neighbor-spec =
     tie.close (tie.spec
-      (λ c. search needs) (λ c. search needs) (λ c. search needs) (λ c. search needs) (λ c. search needs)
-      (λ c. search needs) (λ c. search needs) (λ c. neighbor-second _ _ _ (c .before .if1 .taken))
-      (λ c. search needs) (λ c. search needs) (λ c. search needs)
-      (λ c. neighbor-first _ _ _ (c .before .if1 .left)))
+    (λ c. search needs) (λ c. search needs) (λ c. search needs) (λ c. search needs) (λ c. search needs)
+    (λ c. search needs) (λ c. search needs) (λ c. neighbor-second _ _ _ (c .before .if1 .taken))
+    (λ c. search needs) (λ c. search needs) (λ c. search needs)
+    (λ c. neighbor-first _ _ _ (c .before .if1 .left)))

@@ -8,14 +8,16 @@ use Rattle.solves.proofs.path.note_start.Tie as tie
 returns : tie.Need-returns
 returns c =
     let at-begins = c .before in
-    (cond-yes _ _ (sym (at-begins .begins .ensures) ∙ c .if1 .taken), cond-yes _ _ (sym (at-begins .begins .ensures) ∙ c .if1 .taken))
+    let begun = sym (at-begins .begins .ensures) ∙ c .if1 .taken in
+    record { is = cond-yes _ _ begun; written = cond-yes _ _ begun }
 
 returns-2 : tie.Need-returns-2
 returns-2 c =
     let at-begins = c .before in
-    (cond-no _ _ (sym (at-begins .begins .ensures) ∙ c .if1 .left), cond-no _ _ (sym (at-begins .begins .ensures) ∙ c .if1 .left))
+    let begun = sym (at-begins .begins .ensures) ∙ c .if1 .left in
+    record { is = cond-no _ _ begun; written = cond-no _ _ begun }
 
 pub note-start-spec : {M : Type 1} → statement M
 note-start-spec =
     tie.close (tie.spec
-      (λ c κs. search needs) (λ c. search needs) (λ c. search needs) (λ c. search needs) returns returns-2)
+    (λ c κs. search needs) (λ c. search needs) (λ c. search needs) (λ c. search needs) returns returns-2)

@@ -16,8 +16,8 @@ loop-again c =
     let at-loop-test = c .before .before in
     let at-loop = at-loop-test .before in (
       omega arith,
-      starts-more _ _ _ _ (at-loop .loop .inv .1) (at-loop-test .loop-test .taken) (at-loop .before .pre .0) (c .note-start .ensures .0)
-          (c .note-start .ensures .1),
+      starts-more _ _ _ _ (at-loop .loop .inv .1) (at-loop-test .loop-test .taken) (at-loop .before .pre .0) (c .note-start .ensures .is)
+          (c .note-start .ensures .written),
     )
 
 returns : tie.Need-returns Inv-loop μ-loop
@@ -29,5 +29,5 @@ returns c =
 pub path-blocks-spec : {M : Type 1} → statement M
 path-blocks-spec =
     tie.close (tie.spec
-      Inv-loop μ-loop (λ c. (omega arith, starts-none _ _ _ _ (c .pre .3))) (λ c κs. omega arith)
-      (λ c. omega arith) (λ c. omega arith) loop-again (λ c. omega arith) (λ c. omega arith) returns)
+    Inv-loop μ-loop (λ c. (omega arith, starts-none _ _ _ _ (c .pre .3))) (λ c κs. omega arith)
+    (λ c. omega arith) (λ c. omega arith) loop-again (λ c. omega arith) (λ c. omega arith) returns)

@@ -17,43 +17,44 @@ abbrev μ-loop : tie.MeasureT-loop
 mul-add-edge : tie.Need-mul-add-edge Inv-loop μ-loop
 mul-add-edge c =
     let at-loop-test = c .before .before in
-    omega (arith, row-there (at-loop-test .before .before .pre .0) (at-loop-test .loop-test .taken))
+    omega (arith, row-there (at-loop-test .before .before .pre .blocked) (at-loop-test .loop-test .taken))
 
 element-copy-out-add-edge : tie.Need-element-copy-out-add-edge Inv-loop μ-loop
 element-copy-out-add-edge c =
     let at-loop-test = c .before .before in
-    omega (arith, row-there (at-loop-test .before .before .pre .0) (at-loop-test .loop-test .taken))
+    omega (arith, row-there (at-loop-test .before .before .pre .blocked) (at-loop-test .loop-test .taken))
 
 add-edge-requires : tie.Need-add-edge-requires Inv-loop μ-loop
 add-edge-requires c κs =
     let at-loop-test = c .before .before .before in
-    a-body (at-loop-test .before .before .pre .0) (at-loop-test .loop-test .taken)
+    a-body (at-loop-test .before .before .pre .blocked) (at-loop-test .loop-test .taken)
 
 returns : tie.Need-returns Inv-loop μ-loop
 returns c =
     let at-add-edge = c .before in
     let at-loop-test = at-add-edge .before .before .before .before in
-    let at-loop = at-loop-test .before in (
-      edges-lost-a (at-loop .before .pre .0) (at-loop .loop .inv .1) (at-loop-test .loop-test .taken)
-          (edges-no (at-add-edge .add-edge .result) (at-add-edge .add-edge .last .0) (at-add-edge .add-edge .ensures) (not-yes _ (c .if1 .taken))),
-      λ e. absurd (false-true e),
-    )
+    let at-loop = at-loop-test .before in
+    record {
+      is = edges-lost-a (at-loop .before .pre .blocked) (at-loop .loop .inv .1) (at-loop-test .loop-test .taken)
+          (edges-no (at-add-edge .add-edge .result) (at-add-edge .add-edge .last .0) (at-add-edge .add-edge .ensures) (not-yes _ (c .if1 .taken)));
+      links = λ e. absurd (false-true e);
+    }
 
 mul-add-edge-2 : tie.Need-mul-add-edge-2 Inv-loop μ-loop
 mul-add-edge-2 c =
     let at-loop-test = c .before .before .before .before .before .before in
-    omega (arith, row-there (at-loop-test .before .before .pre .0) (at-loop-test .loop-test .taken))
+    omega (arith, row-there (at-loop-test .before .before .pre .blocked) (at-loop-test .loop-test .taken))
 
 element-copy-out-add-edge-2 : tie.Need-element-copy-out-add-edge-2 Inv-loop μ-loop
 element-copy-out-add-edge-2 c =
     let at-loop-test = c .before .before .before .before .before .before in
-    omega (arith, row-there (at-loop-test .before .before .pre .0) (at-loop-test .loop-test .taken))
+    omega (arith, row-there (at-loop-test .before .before .pre .blocked) (at-loop-test .loop-test .taken))
 
 add-edge-requires-2 : tie.Need-add-edge-requires-2 Inv-loop μ-loop
 add-edge-requires-2 c κs =
     let at-row = c .before .before .before .before .before .before in
     let at-loop-test = at-row .before in
-    b-body (at-loop-test .before .before .pre .0) (at-loop-test .loop-test .taken)
+    b-body (at-loop-test .before .before .pre .blocked) (at-loop-test .loop-test .taken)
 
 returns-2 : tie.Need-returns-2 Inv-loop μ-loop
 returns-2 c =
@@ -61,13 +62,14 @@ returns-2 c =
     let at-if1 = at-add-edge2 .before .before .before in
     let at-add-edge = at-if1 .before in
     let at-loop-test = at-add-edge .before .before .before .before in
-    let at-loop = at-loop-test .before in (
-      edges-lost-b (at-loop .before .pre .0) (at-loop .loop .inv .1) (at-loop-test .loop-test .taken)
+    let at-loop = at-loop-test .before in
+    record {
+      is = edges-lost-b (at-loop .before .pre .blocked) (at-loop .loop .inv .1) (at-loop-test .loop-test .taken)
           (edges-yes (at-add-edge .add-edge .result) (at-add-edge .add-edge .last .0) (at-add-edge .add-edge .ensures) (not-no _ (at-if1 .if1 .left)))
           (edges-no (at-add-edge2 .add-edge2 .result) (at-add-edge2 .add-edge2 .last .0) (at-add-edge2 .add-edge2 .ensures)
-          (not-yes _ (c .if2 .taken))),
-      λ e. absurd (false-true e),
-    )
+          (not-yes _ (c .if2 .taken)));
+      links = λ e. absurd (false-true e);
+    }
 
 loop-again : tie.Need-loop-again Inv-loop μ-loop
 loop-again c =
@@ -77,7 +79,7 @@ loop-again c =
     let at-loop-test = at-add-edge .before .before .before .before in
     let at-loop = at-loop-test .before in (
       omega arith,
-      edges-more (at-loop .before .pre .0) (at-loop .loop .inv .1) (at-loop-test .loop-test .taken)
+      edges-more (at-loop .before .pre .blocked) (at-loop .loop .inv .1) (at-loop-test .loop-test .taken)
           (edges-yes (at-add-edge .add-edge .result) (at-add-edge .add-edge .last .0) (at-add-edge .add-edge .ensures) (not-no _ (at-if1 .if1 .left)))
           (edges-yes (at-add-edge2 .add-edge2 .result) (at-add-edge2 .add-edge2 .last .0) (at-add-edge2 .add-edge2 .ensures) (not-no _ (c .if2 .left))),
     )
@@ -85,12 +87,12 @@ loop-again c =
 returns-3 : tie.Need-returns-3 Inv-loop μ-loop
 returns-3 c =
     let at-loop = c .before in
-    (loop-end _ _ (at-loop .loop .inv .0) (c .loop-test .left) (at-loop .loop .inv .1 .is), λ e. at-loop .loop .inv .1 .links)
+    record { is = loop-end _ _ (at-loop .loop .inv .0) (c .loop-test .left) (at-loop .loop .inv .1 .is); links = λ e. at-loop .loop .inv .1 .links }
 
 pub path-edges-spec : {M : Type 1} → statement M
 path-edges-spec =
     tie.close (tie.spec
-      Inv-loop μ-loop (λ c. (omega arith, edges-none (c .pre .1))) (λ c. omega arith) (λ c. omega arith)
-      mul-add-edge element-copy-out-add-edge add-edge-requires returns mul-add-edge-2
-      element-copy-out-add-edge-2 add-edge-requires-2 returns-2 (λ c. omega arith) (λ c. omega arith) loop-again
-      returns-3)
+    Inv-loop μ-loop (λ c. (omega arith, edges-none (c .pre .linking))) (λ c. omega arith) (λ c. omega arith)
+    mul-add-edge element-copy-out-add-edge add-edge-requires returns mul-add-edge-2
+    element-copy-out-add-edge-2 add-edge-requires-2 returns-2 (λ c. omega arith) (λ c. omega arith) loop-again
+    returns-3)

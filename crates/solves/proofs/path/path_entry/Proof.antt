@@ -85,10 +85,10 @@ returns-5 c =
 pub path-entry-spec : {M : Type 1} → statement M
 path-entry-spec =
     tie.close (tie.spec
-      cross-at-requires (λ c. search needs) (λ c. search needs) (λ c. refl) returns (λ c. omega arith)
-      (λ c. omega arith) (λ c. omega arith) (λ c. omega arith) (λ c. omega arith) (λ c. omega arith)
-      reduced-requires (λ c κs. search needs) (λ c. refl) returns-2 (λ c. refl) returns-3 (λ c κs. search needs)
-      (λ c. omega arith) (λ c. omega arith) (λ c. omega arith) (λ c. omega arith) (λ c. simp length-set)
-      returns-4 (λ c. omega arith) (λ c. omega arith) (λ c. omega arith) (λ c. omega arith) (λ c. omega arith)
-      (λ c. omega arith) (λ c. omega arith) (λ c. omega arith) (λ c. omega arith) (λ c. omega arith)
-      (λ c. simp length-set) returns-5)
+    cross-at-requires (λ c. search needs) (λ c. search needs) (λ c. refl) returns (λ c. omega arith)
+    (λ c. omega arith) (λ c. omega arith) (λ c. omega arith) (λ c. omega arith) (λ c. omega arith)
+    reduced-requires (λ c κs. search needs) (λ c. refl) returns-2 (λ c. refl) returns-3 (λ c κs. search needs)
+    (λ c. omega arith) (λ c. omega arith) (λ c. omega arith) (λ c. omega arith) (λ c. simp length-set)
+    returns-4 (λ c. omega arith) (λ c. omega arith) (λ c. omega arith) (λ c. omega arith) (λ c. omega arith)
+    (λ c. omega arith) (λ c. omega arith) (λ c. omega arith) (λ c. omega arith) (λ c. omega arith)
+    (λ c. simp length-set) returns-5)

@@ -7,7 +7,7 @@ use Rattle.solves.proofs.path.path_order.Statement.{statement}
 use Rattle.solves.proofs.path.path_order.Tie as tie
 
 path-edges-requires : tie.Need-path-edges-requires
-path-edges-requires c κs = (c .before .before .path-blocks .ensures .are, linked-none _)
+path-edges-requires c κs = record { blocked = c .before .before .path-blocks .ensures .are; linking = linked-none _ }
 
 returns : tie.Need-returns
 returns c =
@@ -15,14 +15,16 @@ returns c =
     let at-path-edges = at-if1 .before in
     no-path-is (c .no-path .ensures)
     (order-declined (at-path-edges .before .before .before .path-blocks .ensures)
-    (edges-no (at-path-edges .path-edges .result) _ (at-path-edges .path-edges .ensures .0) (not-yes _ (at-if1 .if1 .taken))))
+    (edges-no (at-path-edges .path-edges .result) _ (at-path-edges .path-edges .ensures .is) (not-yes _ (at-if1 .if1 .taken))))
 
 path-walks-requires : tie.Need-path-walks-requires
 path-walks-requires c κs =
     let at-if1 = c .before .before .before in
     let at-path-edges = at-if1 .before in
-    let at-path-blocks = at-path-edges .before .before .before in
-    (at-path-blocks .path-blocks .ensures .are, at-path-edges .path-edges .ensures .1 (not-no _ (at-if1 .if1 .left)), listed-none _)
+    let at-path-blocks = at-path-edges .before .before .before in (
+      record { blocked = at-path-blocks .path-blocks .ensures .are; linking = at-path-edges .path-edges .ensures .links (not-no _ (at-if1 .if1 .left)) },
+      listed-none _,
+    )
 
 returns-2 : tie.Need-returns-2
 returns-2 c =
@@ -32,7 +34,7 @@ returns-2 c =
     let at-path-edges = at-if1 .before in
     no-path-is (c .no-path2 .ensures)
     (order-lost (at-path-edges .before .before .before .path-blocks .ensures)
-    (edges-yes (at-path-edges .path-edges .result) _ (at-path-edges .path-edges .ensures .0) (not-no _ (at-if1 .if1 .left)))
+    (edges-yes (at-path-edges .path-edges .result) _ (at-path-edges .path-edges .ensures .is) (not-no _ (at-if1 .if1 .left)))
     (at-path-walks .path-walks .ensures) (not-yes _ (at-if2 .if2 .taken)))
 
 returns-3 : tie.Need-returns-3
@@ -42,7 +44,7 @@ returns-3 c =
     let at-if1 = at-path-walks .before .before .before .before in
     let at-path-edges = at-if1 .before in
     order-found (at-path-edges .before .before .before .path-blocks .ensures)
-    (edges-yes (at-path-edges .path-edges .result) _ (at-path-edges .path-edges .ensures .0) (not-no _ (at-if1 .if1 .left)))
+    (edges-yes (at-path-edges .path-edges .result) _ (at-path-edges .path-edges .ensures .is) (not-no _ (at-if1 .if1 .left)))
     (at-path-walks .path-walks .ensures) (not-no _ (at-if2 .if2 .left)) (c .if3 .taken)
 
 returns-4 : tie.Need-returns-4
@@ -54,11 +56,11 @@ returns-4 c =
     let at-path-edges = at-if1 .before in
     no-path-is (c .no-path3 .ensures)
     (order-short (at-path-edges .before .before .before .path-blocks .ensures)
-    (edges-yes (at-path-edges .path-edges .result) _ (at-path-edges .path-edges .ensures .0) (not-no _ (at-if1 .if1 .left)))
+    (edges-yes (at-path-edges .path-edges .result) _ (at-path-edges .path-edges .ensures .is) (not-no _ (at-if1 .if1 .left)))
     (at-path-walks .path-walks .ensures) (not-no _ (at-if2 .if2 .left)) (at-if3 .if3 .left))
 
 pub path-order-spec : {M : Type 1} → statement M
 path-order-spec =
     tie.close (tie.spec
-      (λ c κs. search needs) path-edges-requires (λ c κs. search needs) returns path-walks-requires
-      (λ c κs. search needs) returns-2 returns-3 (λ c κs. search needs) returns-4)
+    (λ c κs. search needs) path-edges-requires (λ c κs. search needs) returns path-walks-requires
+    (λ c κs. search needs) returns-2 returns-3 (λ c κs. search needs) returns-4)

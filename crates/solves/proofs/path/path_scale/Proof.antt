@@ -17,12 +17,12 @@ use Rattle.solves.proofs.path.path_scale.Statement.{statement}
 use Rattle.solves.proofs.path.path_scale.Tie as tie
 
 abbrev Inv-loop : tie.InvT-loop
-Inv-loop s₀ ia ib rows order n count i₀ s i =
-    (i ≤ n) × (length s ≡ length s₀) × (Does (λ j. Beside PATH-SCALE j) s₀ s (go (vecAt s PATH-SCALE i))
-    (pathScale (rowsOn ia ib s₀ rows n) (massesAt s₀ MASSES count) (listAt order n) i))
+Inv-loop s₀ ia ib t order i₀ i-end s i =
+    (i ≤ t .rows) × (length s ≡ length s₀) × (Does (λ j. Beside PATH-SCALE j) s₀ s (go (vecAt s PATH-SCALE i))
+    (pathScale (rowsOn ia ib s₀ (t .place) (t .rows)) (massesAt s₀ MASSES (t .bodies)) (listAt order (t .rows)) i))
 
 abbrev μ-loop : tie.MeasureT-loop
-μ-loop s₀ ia ib rows order n count i₀ s i = n - i
+μ-loop s₀ ia ib t order i₀ i-end s i = t .rows - i
 
 loop-holds : tie.Need-loop-holds Inv-loop μ-loop
 loop-holds c =
@@ -93,6 +93,6 @@ returns-3 c =
 pub path-scale-spec : {M : Type 1} → statement M
 path-scale-spec =
     tie.close (tie.spec
-      Inv-loop μ-loop loop-holds cross-at-requires (λ c. search needs) (λ c. search needs) same-length returns
-      same-length-2 returns-2 (λ c κs. search needs) (λ c. omega arith) (λ c. omega arith) (λ c. omega arith)
-      (λ c. omega arith) (λ c. omega arith) loop-again (λ c. c .before .loop .inv .1) returns-3)
+    Inv-loop μ-loop loop-holds cross-at-requires (λ c. search needs) (λ c. search needs) same-length returns
+    same-length-2 returns-2 (λ c κs. search needs) (λ c. omega arith) (λ c. omega arith) (λ c. omega arith)
+    (λ c. omega arith) (λ c. omega arith) loop-again (λ c. c .before .loop .inv .1) returns-3)

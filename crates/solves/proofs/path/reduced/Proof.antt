@@ -31,5 +31,5 @@ returns c =
 pub reduced-spec : {M : Type 1} → statement M
 reduced-spec =
     tie.close (tie.spec
-      (λ c κs. search needs) (λ c κs. omega arith) (λ c κs. omega arith) (λ c. omega arith)
-      less-products-requires returns)
+    (λ c κs. search needs) (λ c κs. omega arith) (λ c κs. omega arith) (λ c. omega arith)
+    less-products-requires returns)

@@ -89,5 +89,5 @@ returns-2 c =
 pub refine-spec : {M : Type 1} → statement M
 refine-spec =
     tie.close (tie.spec
-      forward-requires backward-requires operator-requires (λ c κs. search needs) same-length returns
-      difference-requires same-length-2 returns-2)
+    forward-requires backward-requires operator-requires (λ c κs. search needs) same-length returns
+    difference-requires same-length-2 returns-2)

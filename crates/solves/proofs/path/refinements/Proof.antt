@@ -109,7 +109,7 @@ returns-3 c =
 pub refinements-spec : {M : Type 1} → statement M
 refinements-spec =
     tie.close (tie.spec
-      Inv-loop μ-loop loop-holds refine-requires (λ c κs. search needs) (λ c κs. search needs) same-length
-      returns (λ c κs. omega arith) (λ c. search needs) (λ c. omega arith) (λ c κs. search needs) same-length-2
-      returns-2 (λ c. search needs) (λ c. omega arith) (λ c. omega arith) loop-again (λ c κs. search needs)
-      (λ c. c .before .before .loop .inv .kept .size) returns-3)
+    Inv-loop μ-loop loop-holds refine-requires (λ c κs. search needs) (λ c κs. search needs) same-length
+    returns (λ c κs. omega arith) (λ c. search needs) (λ c. omega arith) (λ c κs. search needs) same-length-2
+    returns-2 (λ c. search needs) (λ c. omega arith) (λ c. omega arith) loop-again (λ c κs. search needs)
+    (λ c. c .before .before .loop .inv .kept .size) returns-3)

@@ -1,7 +1,9 @@
 -- `walk` meets its contract: turn by turn by WalkLaws `walk-more`; a turn that ends the walk by `walk-met` or `walk-ends`.
 use native.Mathlib.Omega.{arith}
 use borrow.Author.Needs.{needs}
-use Prim.Native.Nat.{_≤_, _-_}
+use Prim.Native.Nat.{_≤_, _<_, _-_}
+use denote.Ref.{now}
+use lib.ListN.{getD}
 use Rattle.solves.specs.PathView.{blocksAt, orderAt}
 use Rattle.solves.proofs.BlockLaws.{row-there, a-body, b-body}
 use Rattle.solves.proofs.WalkLaws.{WalkSo, walk-none, walk-met, append-fits, walk-ends, walk-more, walk-spent}
@@ -15,85 +17,57 @@ Inv-loop ia ib starts blocks edges visited₀ first rows₀ listed count₀ curr
 abbrev μ-loop : tie.MeasureT-loop
 μ-loop ia ib starts blocks edges visited₀ first rows₀ listed count₀ current₀ previous₀ k₀ visited rows count current previous k = blocks - k
 
-loop-holds : tie.Need-loop-holds Inv-loop μ-loop
-loop-holds c = (omega arith, walk-none (c .pre .0) (c .pre .1) (c .pre .2) (c .pre .3))
+-- the loop, seen from where the block's rows were appended
+abbrev at-loop : tie.After-append Inv-loop μ-loop → tie.At-loop Inv-loop μ-loop
+at-loop c =
+    let at-if1 = c .before .before .before .before in
+    at-if1 .before .before .before
+
+-- the block's first row
+there : (c : tie.After-append Inv-loop μ-loop) → getD (now (at-loop c .before .args .starts)) (at-loop c .loop .current) 0 < 96
+there c =
+    let pre = at-loop c .before .pre .0 .blocked in
+    omega (arith, row-there pre (at-loop c .loop .inv .1 .here))
 
 returns : tie.Need-returns Inv-loop μ-loop
 returns c =
-    let at-loop-test = c .before .before in
+    let at-loop-test = c .before .before .before in
     let at-loop = at-loop-test .before in
-    let pre = at-loop .before .pre in
-    walk-met (pre .0) (pre .1) (at-loop .loop .inv .1) (at-loop-test .loop-test .taken) (c .if1 .taken)
+    rw (c .new .ensures) (walk-met (at-loop .before .pre .0) (at-loop .loop .inv .1) (at-loop-test .loop-test .taken) (c .before .if1 .taken))
 
 append-requires : tie.Need-append-requires Inv-loop μ-loop
 append-requires c κs =
     let at-if1 = c .before .before .before in
     let at-loop-test = at-if1 .before .before in
     let at-loop = at-loop-test .before in
-    let pre = at-loop .before .pre in
-    append-fits (pre .0) (pre .1) (at-loop .loop .inv .1) (at-loop-test .loop-test .taken) (at-if1 .if1 .left)
-
-mul-neighbor : tie.Need-mul-neighbor Inv-loop μ-loop
-mul-neighbor c =
-    let at-loop-test = c .before .before .before .before .before .before in
-    let at-loop = at-loop-test .before in
-    omega (arith, row-there (at-loop .before .pre .0) (at-loop .loop .inv .1 .here))
-
-element-copy-out-neighbor : tie.Need-element-copy-out-neighbor Inv-loop μ-loop
-element-copy-out-neighbor c =
-    let at-loop-test = c .before .before .before .before .before .before in
-    let at-loop = at-loop-test .before in
-    omega (arith, row-there (at-loop .before .pre .0) (at-loop .loop .inv .1 .here))
+    append-fits (at-loop .before .pre .0) (at-loop .loop .inv .1) (at-loop-test .loop-test .taken) (at-if1 .if1 .left)
 
 neighbor-requires : tie.Need-neighbor-requires Inv-loop μ-loop
 neighbor-requires c κs =
-    let at-if12 = c .before .before .before .before .before .before in
-    let at-loop = at-if12 .before .before in
-    a-body (at-loop .before .pre .0) (at-loop .loop .inv .1 .here)
-
-mul-neighbor-2 : tie.Need-mul-neighbor-2 Inv-loop μ-loop
-mul-neighbor-2 c =
-    let at-if1 = c .before .before .before .before .before .before in
-    let at-loop = at-if1 .before .before .before in
-    omega (arith, row-there (at-loop .before .pre .0) (at-loop .loop .inv .1 .here))
-
-element-copy-out-neighbor-2 : tie.Need-element-copy-out-neighbor-2 Inv-loop μ-loop
-element-copy-out-neighbor-2 c =
-    let at-if1 = c .before .before .before .before .before .before in
-    let at-loop = at-if1 .before .before .before in
-    omega (arith, row-there (at-loop .before .pre .0) (at-loop .loop .inv .1 .here))
+    let loop = at-loop (c .before) in
+    a-body (loop .before .pre .0 .blocked) (loop .loop .inv .1 .here)
 
 neighbor-requires-2 : tie.Need-neighbor-requires-2 Inv-loop μ-loop
 neighbor-requires-2 c κs =
-    let at-row = c .before .before .before .before .before .before in
-    let at-loop = at-row .before .before .before .before in
-    b-body (at-loop .before .pre .0) (at-loop .loop .inv .1 .here)
+    let loop = at-loop (c .before .before .before) in
+    b-body (loop .before .pre .0 .blocked) (loop .loop .inv .1 .here)
 
 returns-2 : tie.Need-returns-2 Inv-loop μ-loop
 returns-2 c =
-    let at-next-block = c .before in
+    let at-next-block = c .before .before in
     let at-neighbor2 = at-next-block .before in
     let at-neighbor = at-neighbor2 .before .before in
     let at-append = at-neighbor .before .before in
     let at-if1 = at-append .before .before .before .before in
-    let at-loop-test = at-if1 .before .before in
-    let at-loop = at-loop-test .before in
-    let pre = at-loop .before .pre in
-    walk-ends (pre .0) (pre .1) (at-loop .loop .inv .1) (at-loop-test .loop-test .taken) (at-if1 .if1 .left) (at-append .append .ensures)
-    (at-neighbor .neighbor .ensures) (at-neighbor2 .neighbor2 .ensures) (at-next-block .next-block .ensures) (c .if2 .taken)
+    let loop = at-loop at-append in
+    rw (c .new2 .ensures)
+    (walk-ends (loop .before .pre .0) (loop .loop .inv .1) (at-if1 .before .before .loop-test .taken) (at-if1 .if1 .left) (at-append .append .ensures)
+    (at-neighbor .neighbor .ensures) (at-neighbor2 .neighbor2 .ensures) (at-next-block .next-block .ensures) (c .before .if2 .taken))
 
-add-k : tie.Need-add-k Inv-loop μ-loop
-add-k c =
-    let at-append = c .before .before .before .before .before .before in
-    let at-loop-test = at-append .before .before .before .before .before .before in
-    let pre = at-loop-test .before .before .pre in
-    omega (arith, at-loop-test .loop-test .taken, pre .0 .few, pre .0 .most)
-
-loop-less : tie.Need-loop-less Inv-loop μ-loop
-loop-less c =
-    let at-append = c .before .before .before .before .before .before in
-    let at-loop-test = at-append .before .before .before .before .before .before in
-    omega (arith, at-loop-test .loop-test .taken)
+turns-left : (c : tie.After-append Inv-loop μ-loop) → at-loop c .loop .k < at-loop c .before .args .blocks
+turns-left c =
+    let at-if1 = c .before .before .before .before in
+    at-if1 .before .before .loop-test .taken
 
 loop-again : tie.Need-loop-again Inv-loop μ-loop
 loop-again c =
@@ -102,24 +76,34 @@ loop-again c =
     let at-neighbor = at-neighbor2 .before .before in
     let at-append = at-neighbor .before .before in
     let at-if1 = at-append .before .before .before .before in
-    let at-loop-test = at-if1 .before .before in
-    let at-loop = at-loop-test .before in
-    let pre = at-loop .before .pre in (
-      omega (arith, at-loop-test .loop-test .taken),
-      walk-more (pre .0) (pre .1) (at-loop .loop .inv .1) (at-loop-test .loop-test .taken) (at-if1 .if1 .left) (at-append .append .ensures)
+    let loop = at-loop at-append in (
+      omega (arith, turns-left at-append),
+      walk-more (loop .before .pre .0) (loop .loop .inv .1) (turns-left at-append) (at-if1 .if1 .left) (at-append .append .ensures)
           (at-neighbor .neighbor .ensures) (at-neighbor2 .neighbor2 .ensures) (at-next-block .next-block .ensures) (c .if2 .left),
     )
 
+add-k : tie.Need-add-k Inv-loop μ-loop
+add-k c =
+    let at-append = c .before .before .before .before .before .before in
+    let pre = at-loop at-append .before .pre .0 .blocked in
+    omega (arith, turns-left at-append, pre .few, pre .most)
+
+loop-less : tie.Need-loop-less Inv-loop μ-loop
+loop-less c =
+    let at-append = c .before .before .before .before .before .before in
+    omega (arith, turns-left at-append)
+
 returns-3 : tie.Need-returns-3 Inv-loop μ-loop
 returns-3 c =
-    let at-loop = c .before in
-    let pre = at-loop .before .pre in
-    walk-spent (pre .0) (pre .1) (at-loop .loop .inv .1) (at-loop .loop .inv .0) (c .loop-test .left)
+    let at-loop = c .before .before in
+    rw (c .new3 .ensures) (walk-spent (at-loop .before .pre .0) (at-loop .loop .inv .1) (at-loop .loop .inv .0) (c .before .loop-test .left))
 
 pub walk-spec : {M : Type 1} → statement M
 walk-spec =
     tie.close (tie.spec
-      Inv-loop μ-loop loop-holds (λ c. omega arith) returns (λ c. omega arith) (λ c. omega arith)
-      (λ c. omega arith) (λ c. omega arith) (λ c. omega arith) (λ c. omega arith) append-requires mul-neighbor
-      element-copy-out-neighbor neighbor-requires mul-neighbor-2 element-copy-out-neighbor-2 neighbor-requires-2
-      (λ c κs. search needs) returns-2 add-k loop-less loop-again returns-3)
+    Inv-loop μ-loop (λ c. (omega arith, walk-none (c .pre .0) (c .pre .1) (c .pre .2))) (λ c. omega arith)
+    (λ c κs. search needs) returns (λ c. omega arith) (λ c. omega arith) (λ c. omega arith)
+    (λ c. omega arith) (λ c. omega arith) (λ c. omega arith) append-requires (λ c. omega (arith, there c))
+    (λ c. omega (arith, there c)) neighbor-requires (λ c. omega (arith, there (c .before .before)))
+    (λ c. omega (arith, there (c .before .before))) neighbor-requires-2 (λ c κs. search needs)
+    (λ c κs. search needs) returns-2 add-k loop-less loop-again (λ c κs. search needs) returns-3)

@@ -12,19 +12,18 @@ returns c =
     let at-is-end = at-if1 .before in
     let start = at-is-end .before .before in
     let args = start .args in
-    let pre = start .pre in
-    from-end (pre .0) (pre .1) (orderAt (now (args .rows)) (args .listed)) (now (args .visited)) (args .first) (at-is-end .is-end .ensures)
+    from-end (start .pre .0) (orderAt (now (args .rows)) (args .listed)) (now (args .visited)) (args .first) (at-is-end .is-end .ensures)
     (at-if1 .if1 .taken) (c .walk .ensures)
 
 returns-2 : tie.Need-returns-2
 returns-2 c =
-    let at-is-end = c .before in
+    let at-is-end = c .before .before in
     let start = at-is-end .before .before in
     let args = start .args in
-    let pre = start .pre in
-    from-other (pre .0) (pre .1) (orderAt (now (args .rows)) (args .listed)) (now (args .visited)) (args .first) (at-is-end .is-end .ensures)
-    (c .if1 .left) (pre .3)
+    rw (c .new .ensures)
+    (from-other (start .pre .0) (orderAt (now (args .rows)) (args .listed)) (now (args .visited)) (args .first) (at-is-end .is-end .ensures)
+    (c .before .if1 .left) (start .pre .2))
 
 pub walk-from-spec : {M : Type 1} → statement M
 walk-from-spec =
-    tie.close (tie.spec (λ c κs. search needs) (λ c κs. search needs) returns returns-2)
+    tie.close (tie.spec (λ c κs. search needs) (λ c κs. search needs) returns (λ c κs. search needs) returns-2)

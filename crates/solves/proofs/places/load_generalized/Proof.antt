@@ -6,5 +6,5 @@ use Rattle.solves.proofs.places.load_generalized.Tie as tie
 pub load-generalized-spec : {M : Type 1} → statement M
 load-generalized-spec =
     tie.close (tie.spec
-      (λ c. search needs) (λ c. search needs) (λ c κs. search needs) (λ c. search needs) (λ c κs. search needs)
-      (λ c. cc))
+    (λ c. search needs) (λ c. search needs) (λ c κs. search needs) (λ c. search needs) (λ c κs. search needs)
+    (λ c. cc))

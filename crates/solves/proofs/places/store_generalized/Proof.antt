@@ -14,5 +14,5 @@ returns c =
 pub store-generalized-spec : {M : Type 1} → statement M
 store-generalized-spec =
     tie.close (tie.spec
-      (λ c. search needs) (λ c. search needs) (λ c κs. search needs) (λ c. search needs) (λ c κs. search needs)
-      (λ c. search needs) returns)
+    (λ c. search needs) (λ c. search needs) (λ c κs. search needs) (λ c. search needs) (λ c κs. search needs)
+    (λ c. search needs) returns)

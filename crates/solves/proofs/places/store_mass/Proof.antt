@@ -59,6 +59,6 @@ returns c =
 pub store-mass-spec : {M : Type 1} → statement M
 store-mass-spec =
     tie.close (tie.spec
-      (λ c. search needs) (λ c. search needs) (λ c. search needs) (λ c. search needs) (λ c. search needs)
-      (λ c κs. simp length-set (omega arith)) (λ c. search needs) store3-requires-2 (λ c. search needs)
-      store3-requires-3 same-length returns)
+    (λ c. search needs) (λ c. search needs) (λ c. search needs) (λ c. search needs) (λ c. search needs)
+    (λ c κs. simp length-set (omega arith)) (λ c. search needs) store3-requires-2 (λ c. search needs)
+    store3-requires-3 same-length returns)

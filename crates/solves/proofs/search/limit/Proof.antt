@@ -17,5 +17,5 @@ returns-2 c = sym (ap (λ (w : Which). limitOf w (c .before .before .args .n)) (
 pub limit-spec : {M : Type 1} → statement M
 limit-spec =
     tie.close (tie.spec
-      (λ c. search needs) (λ c. omega arith) (λ c. omega arith) (λ c. search needs) (λ c. omega arith)
-      (λ c. omega arith) returns returns-2)
+    (λ c. search needs) (λ c. omega arith) (λ c. omega arith) (λ c. search needs) (λ c. omega arith)
+    (λ c. omega arith) returns returns-2)

@@ -94,6 +94,6 @@ returns-2 c =
 pub search-spec : {M : Type 1} → statement M
 search-spec =
     tie.close (tie.spec
-      Inv-loop μ-loop (λ c κs. c .before .pre .most) loop-holds search-pass-requires (λ c. search needs)
-      (λ c. search needs) (λ c κs. search needs) same-length returns (λ c. omega arith) (λ c. omega arith)
-      loop-again (λ c κs. search needs) (λ c. c .before .before .loop .inv .kept .size) returns-2)
+    Inv-loop μ-loop (λ c κs. c .before .pre .most) loop-holds search-pass-requires (λ c. search needs)
+    (λ c. search needs) (λ c κs. search needs) same-length returns (λ c. omega arith) (λ c. omega arith)
+    loop-again (λ c κs. search needs) (λ c. c .before .before .loop .inv .kept .size) returns-2)

@@ -51,5 +51,5 @@ returns-2 c =
 pub search-pass-spec : {M : Type 1} → statement M
 search-pass-spec =
     tie.close (tie.spec
-      (λ c. search needs) least-pass-requires (λ c. search needs) gradient-pass-requires same-length returns
-      same-length-2 returns-2)
+    (λ c. search needs) least-pass-requires (λ c. search needs) gradient-pass-requires same-length returns
+    same-length-2 returns-2)

@@ -66,30 +66,28 @@ returns-2 c =
     solves-numbered _ (c .before .before .gradients .result)
     (linear-gradients (start .args .t) (start .pre) (start .args .cyclic) (at-clear .clear .ensures) (at-copy .copy .ensures)
     (at-path-order .before .if1 .left)
-    (order-no (at-path-order .path-order .result) (at-path-order .path-order .ensures .0) (not-yes _ (at-if2 .if2 .taken)))
+    (order-no (at-path-order .path-order .result) _ (at-path-order .path-order .ensures .is) (not-yes _ (at-if2 .if2 .taken)))
     (c .before .before .gradients .ensures))
 
 path-along-requires : tie.Need-path-along-requires
 path-along-requires c κs =
-    let at-if2 = c .before .before .before .before in
+    let at-if2 = c .before .before .before in
     let at-copy = at-if2 .before .before .before .before .before .before in
     let at-clear = at-copy .before .before .before .before in (
       rows-kept (at-clear .before .before .before .pre) (at-copy .copy .ensures .kept .size ∙ at-clear .clear .ensures .kept .size),
-      at-if2 .before .before .path-order .ensures .1 (not-no _ (at-if2 .if2 .left)) .1,
+      at-if2 .before .before .path-order .ensures .along (not-no _ (at-if2 .if2 .left)),
     )
 
 same-length-3 : tie.Need-same-length-3
 same-length-3 c =
-    let at-along = c .before .before .before .before .before .before in
-    let at-s2 = at-along .before .before .before .before .before .before in
-    let at-copy = at-s2 .before in
+    let at-if2 = c .before .before .before .before .before .before in
+    let at-copy = at-if2 .before .before .before .before .before .before in
     let at-clear = at-copy .before .before .before .before in
     c .before .before .path-along .ensures .kept .size ∙ at-copy .copy .ensures .kept .size ∙ at-clear .clear .ensures .kept .size
 
 returns-3 : tie.Need-returns-3
 returns-3 c =
-    let at-along = c .before .before .before .before .before .before in
-    let at-if2 = at-along .before in
+    let at-if2 = c .before .before .before .before .before .before in
     let at-path-order = at-if2 .before .before in
     let at-copy = at-path-order .before .before .before .before in
     let at-clear = at-copy .before .before .before .before in
@@ -97,13 +95,12 @@ returns-3 c =
     let found = not-no _ (at-if2 .if2 .left) in
     solves-numbered _ (c .before .before .path-along .result)
     (linear-path (start .args .t) (start .pre) (start .args .cyclic) (at-clear .clear .ensures) (at-copy .copy .ensures)
-    (at-path-order .before .if1 .left) (at-path-order .path-order .result .order .rows)
-    (order-yes (at-path-order .path-order .result) (start .args .t .rows) (at-path-order .path-order .ensures .0) found
-    (at-path-order .path-order .ensures .1 found .0))
+    (at-path-order .before .if1 .left) (at-path-order .path-order .result .rows)
+    (order-yes (at-path-order .path-order .result) _ (at-path-order .path-order .ensures .is) found)
     (c .before .before .path-along .ensures))
 
 pub linear-solve-spec : {M : Type 1} → statement M
 linear-solve-spec =
     tie.close (tie.spec
-      (λ c κs. omega arith) (λ c κs. omega arith) least-squares-requires same-length returns path-order-requires
-      gradients-requires same-length-2 returns-2 path-along-requires same-length-3 returns-3)
+    (λ c κs. omega arith) (λ c κs. omega arith) least-squares-requires same-length returns path-order-requires
+    gradients-requires same-length-2 returns-2 path-along-requires same-length-3 returns-3)

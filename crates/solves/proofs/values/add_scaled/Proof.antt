@@ -40,7 +40,7 @@ returns c =
 pub add-scaled-spec : {M : Type 1} → statement M
 add-scaled-spec =
     tie.close (tie.spec
-      Inv-loop μ-loop (λ c. (omega arith, refl, filled-none _ _ _)) (λ c. omega arith) (λ c. omega arith)
-      (λ c. omega arith) (λ c. omega arith) (λ c. omega arith) (λ c. omega arith) (λ c. omega arith)
-      (λ c. omega arith) (λ c. omega arith) (λ c. omega arith) (λ c. omega arith) loop-again (λ c. omega arith)
-      returns)
+    Inv-loop μ-loop (λ c. (omega arith, refl, filled-none _ _ _)) (λ c. omega arith) (λ c. omega arith)
+    (λ c. omega arith) (λ c. omega arith) (λ c. omega arith) (λ c. omega arith) (λ c. omega arith)
+    (λ c. omega arith) (λ c. omega arith) (λ c. omega arith) (λ c. omega arith) loop-again (λ c. omega arith)
+    returns)
