@@ -9,7 +9,7 @@ use Rattle.arith.specs.Flow.{Turn, go, stop}
 use Rattle.rows.specs.declared.geometry.EqualityRow.{EqualityRow}
 use Rattle.rows.specs.Fault.{Result}
 use Rattle.rows.specs.View.{at, Out}
-use Rattle.solves.specs.declared.End.{End}
+use Rattle.rows.specs.declared.End.{End}
 use Rattle.solves.specs.declared.Table.{Table}
 use Rattle.solves.specs.declared.places.MassResponse.{MassResponse}
 use Rattle.solves.specs.declared.path.PathOrder.{PathOrder}
