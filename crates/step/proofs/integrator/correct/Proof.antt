@@ -18,13 +18,6 @@ linear-solve-requires c κs =
     let at-fill-rhs = c .before .before .before in let at-entry = at-fill-rhs .before .before .before in
     rows-at (at-entry .pre .ours .ready) (at-fill-rhs .fill-rhs .ensures (now (at-entry .args .ia)) (now (at-entry .args .ib)) .kept .size)
 
-same-length : tie.Need-same-length
-same-length c =
-    let at-linear-solve = c .before .before .before .before .before in let at-fill-rhs = at-linear-solve .before .before .before .before in
-    let at-entry = at-fill-rhs .before .before .before in
-    at-linear-solve .linear-solve .ensures .0 .kept .size ∙ at-fill-rhs .fill-rhs .ensures (now (at-entry .args .ia))
-    (now (at-entry .args .ib)) .kept .size
-
 returns : tie.Need-returns
 returns c =
     let at-linear-solve = c .before .before .before .before .before in let at-fill-rhs = at-linear-solve .before .before .before .before in
@@ -46,13 +39,6 @@ add-impulses-requires c κs =
       at-entry .pre .ours .ready .most,
     )
 
-same-length-2 : tie.Need-same-length-2
-same-length-2 c =
-    let at-add-impulses = c .before .before .before in let at-linear-solve = at-add-impulses .before .before .before .before .before .before in
-    let at-fill-rhs = at-linear-solve .before .before .before .before in let at-entry = at-fill-rhs .before .before .before in
-    at-add-impulses .add-impulses .ensures .kept .size ∙ at-linear-solve .linear-solve .ensures .0 .kept .size ∙ at-fill-rhs .fill-rhs .ensures
-    (now (at-entry .args .ia)) (now (at-entry .args .ib)) .kept .size
-
 returns-2 : tie.Need-returns-2
 returns-2 c =
     let at-add-impulses = c .before .before .before in let at-if1 = at-add-impulses .before .before in let at-done = at-if1 .before in
@@ -65,5 +51,5 @@ returns-2 c =
 pub correct-spec : {M : Type 1} → statement M
 correct-spec =
     tie.close (tie.spec
-      fill-rhs-requires linear-solve-requires (λ c κs. search needs) (λ c κs. search needs) same-length returns
-      add-impulses-requires (λ c κs. search needs) same-length-2 returns-2)
+      fill-rhs-requires linear-solve-requires (λ c κs. search needs) (λ c κs. search needs) (λ c. omega arith) returns
+      add-impulses-requires (λ c κs. search needs) (λ c. omega arith) returns-2)

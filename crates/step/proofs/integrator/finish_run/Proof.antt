@@ -16,11 +16,6 @@ prepare-masses-requires c κs =
     let at-entry = c .before .before .before in
     (at-entry .pre .0 .long, at-entry .pre .0 .ready .bodies)
 
-same-length : tie.Need-same-length
-same-length c =
-    let at-prepare-masses = c .before .before .before .before .before in
-    at-prepare-masses .prepare-masses .ensures .kept .size
-
 returns : tie.Need-returns
 returns c =
     let at-prepare-masses = c .before .before .before .before .before in let at-entry = at-prepare-masses .before .before .before .before in
@@ -36,12 +31,6 @@ velocity-loop-requires c κs =
       ready = rows-at (at-entry .pre .0 .ready) (at-prepare-masses .prepare-masses .ensures .kept .size);
       long = omega (arith, at-entry .pre .0 .long, at-prepare-masses .prepare-masses .ensures .kept .size);
     }
-
-same-length-2 : tie.Need-same-length-2
-same-length-2 c =
-    let at-velocity-loop = c .before .before .before .before in
-    let at-prepare-masses = at-velocity-loop .before .before .before .before .before .before in
-    at-velocity-loop .velocity-loop .ensures .kept .size ∙ at-prepare-masses .prepare-masses .ensures .kept .size
 
 returns-2 : tie.Need-returns-2
 returns-2 c =
@@ -63,13 +52,6 @@ make-states-requires c κs =
       at-entry .pre .0 .ready .bodies,
     )
 
-same-length-3 : tie.Need-same-length-3
-same-length-3 c =
-    let at-make-states = c .before .before .before in let at-velocity-loop = at-make-states .before .before .before .before .before .before in
-    let at-prepare-masses = at-velocity-loop .before .before .before .before .before .before in
-    at-make-states .make-states .ensures .kept .size ∙ at-velocity-loop .velocity-loop .ensures .kept .size ∙
-    at-prepare-masses .prepare-masses .ensures .kept .size
-
 returns-3 : tie.Need-returns-3
 returns-3 c =
     let at-make-states = c .before .before .before in let at-if2 = at-make-states .before .before in let at-done2 = at-if2 .before in
@@ -85,6 +67,6 @@ returns-3 c =
 pub finish-run-spec : {M : Type 1} → statement M
 finish-run-spec =
     tie.close (tie.spec
-      prepare-masses-requires (λ c κs. search needs) (λ c κs. search needs) same-length returns
-      velocity-loop-requires (λ c κs. search needs) same-length-2 returns-2 make-states-requires
-      (λ c κs. search needs) same-length-3 returns-3)
+      prepare-masses-requires (λ c κs. search needs) (λ c κs. search needs) (λ c. omega arith) returns
+      velocity-loop-requires (λ c κs. search needs) (λ c. omega arith) returns-2 make-states-requires
+      (λ c κs. search needs) (λ c. omega arith) returns-3)

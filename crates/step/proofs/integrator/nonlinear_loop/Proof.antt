@@ -67,12 +67,6 @@ add-run-ended c =
     let at-nonlinear-pass = c .before .before .before .before .before .before in let at-test = at-nonlinear-pass .before .before in
     omega (arith, at-test .loop-test .taken)
 
-same-length : tie.Need-same-length Inv-loop μ-loop
-same-length c =
-    let at-s2 = c .before .before .before .before .before .before in let at-nonlinear-pass = at-s2 .before in
-    let at-loop = at-nonlinear-pass .before .before .before in let at-clear = at-loop .before .before .before in
-    at-nonlinear-pass .nonlinear-pass .ensures .kept .size ∙ at-loop .loop .inv .1 ∙ at-clear .clear .ensures .kept .size
-
 returns : tie.Need-returns Inv-loop μ-loop
 returns c =
     let at-s2 = c .before .before .before .before .before .before in let at-nonlinear-pass = at-s2 .before in
@@ -120,11 +114,6 @@ loop-again c =
           (at-nonlinear-pass .nonlinear-pass .result) (at-nonlinear-pass .nonlinear-pass .ensures) (at-test .loop-test .taken) (c .enum-told .given .1),
     )
 
-same-length-2 : tie.Need-same-length-2 Inv-loop μ-loop
-same-length-2 c =
-    let at-clear = c .before .before .before .before .before in
-    c .before .before .loop .inv .1 ∙ at-clear .clear .ensures .kept .size
-
 returns-2 : tie.Need-returns-2 Inv-loop μ-loop
 returns-2 c =
     let at-loop = c .before .before in let at-clear = at-loop .before .before .before in let at-entry = at-clear .before .before .before in
@@ -140,5 +129,5 @@ pub nonlinear-loop-spec : {M : Type 1} → statement M
 nonlinear-loop-spec =
     tie.close (tie.spec
       Inv-loop μ-loop clear-requires loop-holds nonlinear-pass-requires add-linear (λ c. search needs)
-      add-run-ended (λ c κs. omega arith) same-length returns (λ c. search needs) add-k loop-less loop-again
-      (λ c κs. omega arith) same-length-2 returns-2)
+      add-run-ended (λ c κs. omega arith) (λ c. omega arith) returns (λ c. search needs) add-k loop-less loop-again
+      (λ c κs. omega arith) (λ c. omega arith) returns-2)

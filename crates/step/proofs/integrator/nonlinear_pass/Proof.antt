@@ -17,11 +17,6 @@ candidate-requires c κs =
       at-entry .pre .1,
     )
 
-same-length : tie.Need-same-length
-same-length c =
-    let at-candidate = c .before .before .before .before .before in
-    at-candidate .candidate .ensures .0 .kept .size
-
 returns : tie.Need-returns
 returns c =
     let at-candidate = c .before .before .before .before .before in let at-entry = at-candidate .before .before .before in
@@ -34,11 +29,6 @@ rows-met-requires : tie.Need-rows-met-requires
 rows-met-requires c κs =
     let at-candidate = c .before .before .before .before .before in let at-entry = at-candidate .before .before .before in
     (omega (arith, at-entry .pre .0 .ours .long, at-candidate .candidate .ensures .0 .kept .size), at-entry .pre .0 .ours .ready .most)
-
-same-length-2 : tie.Need-same-length-2
-same-length-2 c =
-    let at-slice-known2 = c .before .before .before .before .before .before in let at-candidate = at-slice-known2 .before .before in
-    at-candidate .candidate .ensures .0 .kept .size
 
 returns-2 : tie.Need-returns-2
 returns-2 c =
@@ -62,12 +52,6 @@ correct-requires c κs =
       apart = at-entry .pre .0 .apart;
     }
 
-same-length-3 : tie.Need-same-length-3
-same-length-3 c =
-    let at-rows-met-arg = c .before .before .before .before .before .before in
-    let at-candidate = at-rows-met-arg .before .before .before .before .before in
-    c .before .before .correct .ensures .kept .size ∙ at-candidate .candidate .ensures .0 .kept .size
-
 returns-3 : tie.Need-returns-3
 returns-3 c =
     let at-if2 = c .before .before .before .before in let at-rows-met = at-if2 .before in let at-if1 = at-rows-met .before .before in
@@ -79,5 +63,5 @@ returns-3 c =
 pub nonlinear-pass-spec : {M : Type 1} → statement M
 nonlinear-pass-spec =
     tie.close (tie.spec
-      candidate-requires (λ c κs. search needs) (λ c κs. search needs) same-length returns rows-met-requires
-      (λ c κs. search needs) same-length-2 returns-2 correct-requires same-length-3 returns-3)
+      candidate-requires (λ c κs. search needs) (λ c κs. search needs) (λ c. omega arith) returns rows-met-requires
+      (λ c κs. search needs) (λ c. omega arith) returns-2 correct-requires (λ c. omega arith) returns-3)

@@ -7,11 +7,6 @@ use Rattle.step.proofs.VelocityLaws.{rest-unsolved, rest-kicked}
 use Rattle.step.proofs.velocity.correct_velocities.Statement.{statement}
 use Rattle.step.proofs.velocity.correct_velocities.Tie as tie
 
-same-length : tie.Need-same-length
-same-length c =
-    let at-linear-solve = c .before .before .before .before .before in
-    at-linear-solve .linear-solve .ensures .0 .kept .size
-
 returns : tie.Need-returns
 returns c =
     let at-linear-solve = c .before .before .before .before .before in let at-entry = at-linear-solve .before .before .before in
@@ -26,11 +21,6 @@ apply-requires c κs =
       long = omega (arith, at-entry .pre .long, at-linear-solve .linear-solve .ensures .0 .kept .size);
     }
 
-same-length-2 : tie.Need-same-length-2
-same-length-2 c =
-    let at-apply = c .before .before .before in let at-linear-solve = at-apply .before .before .before .before .before .before in
-    at-apply .apply .ensures .kept .size ∙ at-linear-solve .linear-solve .ensures .0 .kept .size
-
 returns-2 : tie.Need-returns-2
 returns-2 c =
     let at-apply = c .before .before .before in let at-if1 = at-apply .before .before in let at-done = at-if1 .before in
@@ -42,5 +32,5 @@ returns-2 c =
 pub correct-velocities-spec : {M : Type 1} → statement M
 correct-velocities-spec =
     tie.close (tie.spec
-      (λ c κs. c .before .before .pre .ready) (λ c κs. search needs) (λ c κs. search needs) same-length returns
-      apply-requires (λ c κs. search needs) same-length-2 returns-2)
+      (λ c κs. c .before .before .pre .ready) (λ c κs. search needs) (λ c κs. search needs) (λ c. omega arith) returns
+      apply-requires (λ c κs. search needs) (λ c. omega arith) returns-2)

@@ -48,12 +48,6 @@ add-linear c =
           (at-entry .args .cyclic) _ (at-velocity-pass .velocity-pass .ensures .is),
     )
 
-same-length : tie.Need-same-length Inv-loop μ-loop
-same-length c =
-    let at-s = c .before .before .before .before .before .before in let at-velocity-pass = at-s .before in
-    let at-loop = at-velocity-pass .before .before .before in
-    at-velocity-pass .velocity-pass .ensures .kept .size ∙ at-loop .loop .inv .1
-
 returns : tie.Need-returns Inv-loop μ-loop
 returns c =
     let at-s = c .before .before .before .before .before .before in let at-velocity-pass = at-s .before in
@@ -106,5 +100,5 @@ pub velocity-loop-spec : {M : Type 1} → statement M
 velocity-loop-spec =
     tie.close (tie.spec
       Inv-loop μ-loop loop-holds velocity-pass-requires add-linear (λ c. search needs) (λ c κs. omega arith)
-      same-length returns (λ c. search needs) add-k loop-less loop-again (λ c κs. omega arith)
+      (λ c. omega arith) returns (λ c. search needs) add-k loop-less loop-again (λ c κs. omega arith)
       (λ c. c .before .before .loop .inv .1) returns-2)

@@ -14,11 +14,6 @@ velocity-rhs-requires c κs =
     let at-entry = c .before .before in
     record { ready = at-entry .pre .ready; long = at-entry .pre .long }
 
-same-length : tie.Need-same-length
-same-length c =
-    let at-velocity-rhs = c .before .before .before .before .before in
-    at-velocity-rhs .velocity-rhs .ensures .kept .size
-
 returns : tie.Need-returns
 returns c =
     let at-velocity-rhs = c .before .before .before .before .before in let at-entry = at-velocity-rhs .before .before .before in
@@ -30,11 +25,6 @@ compatible-requires : tie.Need-compatible-requires
 compatible-requires c κs =
     let at-velocity-rhs = c .before .before .before .before .before in let at-entry = at-velocity-rhs .before .before .before in
     (omega (arith, at-entry .pre .long, at-velocity-rhs .velocity-rhs .ensures .kept .size), at-entry .pre .ready .most)
-
-same-length-2 : tie.Need-same-length-2
-same-length-2 c =
-    let at-slice-known2 = c .before .before .before .before .before .before in let at-velocity-rhs = at-slice-known2 .before .before in
-    at-velocity-rhs .velocity-rhs .ensures .kept .size
 
 returns-2 : tie.Need-returns-2
 returns-2 c =
@@ -54,12 +44,6 @@ correct-velocities-requires c κs =
       long = omega (arith, at-entry .pre .long, at-velocity-rhs .velocity-rhs .ensures .kept .size);
     }
 
-same-length-3 : tie.Need-same-length-3
-same-length-3 c =
-    let at-compatible-arg = c .before .before .before .before .before .before in
-    let at-velocity-rhs = at-compatible-arg .before .before .before .before .before in
-    c .before .before .correct-velocities .ensures .kept .size ∙ at-velocity-rhs .velocity-rhs .ensures .kept .size
-
 returns-3 : tie.Need-returns-3
 returns-3 c =
     let at-if2 = c .before .before .before .before in let at-compatible = at-if2 .before in let at-if1 = at-compatible .before .before in
@@ -72,6 +56,6 @@ returns-3 c =
 pub velocity-pass-spec : {M : Type 1} → statement M
 velocity-pass-spec =
     tie.close (tie.spec
-      velocity-rhs-requires (λ c κs. search needs) (λ c κs. search needs) same-length returns
-      compatible-requires (λ c κs. search needs) same-length-2 returns-2 correct-velocities-requires
-      same-length-3 returns-3)
+      velocity-rhs-requires (λ c κs. search needs) (λ c κs. search needs) (λ c. omega arith) returns
+      compatible-requires (λ c κs. search needs) (λ c. omega arith) returns-2 correct-velocities-requires
+      (λ c. omega arith) returns-3)

@@ -64,12 +64,6 @@ motion-again-requires-2 c κs =
       at-loop .loop .inv .4,
     )
 
-same-length : tie.Need-same-length Inv-loop μ-loop
-same-length c =
-    let at-motion-again-arg = c .before .before .before .before .before .before in
-    let at-loop = at-motion-again-arg .before .before .before .before in
-    at-loop .loop .inv .1
-
 returns : tie.Need-returns Inv-loop μ-loop
 returns c =
     let at-motion-again2 = c .before .before .before in let at-motion-again = at-motion-again2 .before .before in
@@ -136,5 +130,5 @@ velocity-rhs-spec =
     tie.close (tie.spec
       Inv-loop μ-loop (λ c κs. omega arith) (λ c κs. omega arith) loop-holds load-row-requires
       motion-again-requires motion-again-requires-2 (λ c κs. omega arith) (λ c. search needs)
-      (λ c. search needs) same-length returns add-s mul-s slice-write-s add-k loop-less loop-again
+      (λ c. search needs) (λ c. omega arith) returns add-s mul-s slice-write-s add-k loop-less loop-again
       (λ c. omega arith) returns-2)
