@@ -20,7 +20,7 @@ use Rattle.rows.specs.declared.geometry.EqualityRow.{EqualityRow}
 use Rattle.rows.specs.Fault.{Fault, nonConvergent, arithmeticOverflow, Result, vectorOr}
 use Rattle.rows.specs.Body.{omegaOf, kickOf}
 use Rattle.rows.specs.View.{at, Out, Kept}
-use Rattle.rows.specs.Region.{tab-length, kept-refl, kept-set, kept-then, kept-more}
+use Rattle.rows.specs.Region.{tab-length, kept-refl, kept-set}
 use Rattle.rows.specs.AnswerLaws.{vector-go, vector-stop}
 use Rattle.solves.specs.declared.places.Generalized.{Generalized}
 use Rattle.solves.specs.Solver.{rowIn, generalizedIn, transpose}

@@ -25,11 +25,12 @@ returns c =
     (sym (within-at (c .before .within .ensures) (c .before .before .load3 .ensures) ground-is) ∙ not-yes _ (c .if1 .taken))
 
 loop-again : tie.Need-loop-again Inv-loop μ-loop
-loop-again c = (
-  omega arith,
-  every-more _ (c .before .before .before .before .loop .inv .1)
-      (sym (within-at (c .before .within .ensures) (c .before .before .load3 .ensures) ground-is) ∙ not-no _ (c .if1 .left)),
-)
+loop-again c =
+    let at-loop = c .before .before .before .before in (
+      omega arith,
+      every-more _ (at-loop .loop .inv .1)
+          (sym (within-at (c .before .within .ensures) (c .before .before .load3 .ensures) ground-is) ∙ not-no _ (c .if1 .left)),
+    )
 
 pub in-ground-spec : {M : Type 1} → statement M
 in-ground-spec =

@@ -1,10 +1,9 @@
 -- `checks::all_finite` meets its contract: `every` of the doubles tested so far, turn by turn.
 use mathlib.Core.Path.{_≡_, refl, sym, _∙_}
 use native.Mathlib.Omega.{arith}
-use Prim.Native.Nat.{ℕ, _≤_, _-_}
+use Prim.Native.Nat.{_≤_, _-_}
 use mathlib.Core.Bool.{true}
 use lib.ListN.{length}
-use denote.Ref.{now}
 use Rattle.arith.specs.Real.{isFinite}
 use Rattle.arith.specs.Flow.{every}
 use Rattle.arith.specs.FlowLaws.{not-yes, not-no, every-none, every-more, every-fail, every-end}
@@ -22,11 +21,12 @@ returns : tie.Need-returns Inv-loop μ-loop
 returns c = every-fail _ _ (omega arith) (sym (c .before .is-finite .ensures) ∙ not-yes _ (c .if1 .taken))
 
 loop-again : tie.Need-loop-again Inv-loop μ-loop
-loop-again c = (
-  omega arith,
-  omega arith,
-  every-more _ (c .before .before .before .before .loop .inv .2) (sym (c .before .is-finite .ensures) ∙ not-no _ (c .if1 .left)),
-)
+loop-again c =
+    let at-loop = c .before .before .before .before in (
+      omega arith,
+      omega arith,
+      every-more _ (at-loop .loop .inv .2) (sym (c .before .is-finite .ensures) ∙ not-no _ (c .if1 .left)),
+    )
 
 pub all-finite-spec : {M : Type 1} → statement M
 all-finite-spec =

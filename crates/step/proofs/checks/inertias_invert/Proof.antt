@@ -23,11 +23,12 @@ returns c =
     (test-no hasInverse (c .before .has-inverse .ensures) (c .before .before .load-record .ensures) (c .if1 .taken))
 
 loop-again : tie.Need-loop-again Inv-loop μ-loop
-loop-again c = (
-  omega arith,
-  every-more _ (c .before .before .before .before .loop .inv .1)
-      (test-yes hasInverse (c .before .has-inverse .ensures) (c .before .before .load-record .ensures) (c .if1 .left)),
-)
+loop-again c =
+    let at-loop = c .before .before .before .before in (
+      omega arith,
+      every-more _ (at-loop .loop .inv .1)
+          (test-yes hasInverse (c .before .has-inverse .ensures) (c .before .before .load-record .ensures) (c .if1 .left)),
+    )
 
 pub inertias-invert-spec : {M : Type 1} → statement M
 inertias-invert-spec =

@@ -20,7 +20,8 @@ returns c = every-fail _ _ (c .before .before .before .loop-test .taken) (sym (c
 
 loop-again : tie.Need-loop-again Inv-loop μ-loop
 loop-again c =
-    (omega arith, every-more _ (c .before .before .before .before .loop .inv .1) (sym (c .before .joint-ok .ensures) ∙ not-no _ (c .if1 .left)))
+    let at-loop = c .before .before .before .before in
+    (omega arith, every-more _ (at-loop .loop .inv .1) (sym (c .before .joint-ok .ensures) ∙ not-no _ (c .if1 .left)))
 
 pub joints-ok-spec : {M : Type 1} → statement M
 joints-ok-spec =

@@ -8,16 +8,6 @@ use Rattle.step.proofs.NonlinearLaws.{correct-unsolved, correct-added}
 use Rattle.step.proofs.integrator.correct.Statement.{statement}
 use Rattle.step.proofs.integrator.correct.Tie as tie
 
-fill-rhs-requires : tie.Need-fill-rhs-requires
-fill-rhs-requires c κs =
-    let at-entry = c .before .before in
-    (at-entry .pre .ours .long, at-entry .pre .ours .ready .most)
-
-linear-solve-requires : tie.Need-linear-solve-requires
-linear-solve-requires c κs =
-    let at-fill-rhs = c .before .before .before in let at-entry = at-fill-rhs .before .before .before in
-    rows-at (at-entry .pre .ours .ready) (at-fill-rhs .fill-rhs .ensures (now (at-entry .args .ia)) (now (at-entry .args .ib)) .kept .size)
-
 returns : tie.Need-returns
 returns c =
     let at-linear-solve = c .before .before .before .before .before in let at-fill-rhs = at-linear-solve .before .before .before .before in
@@ -25,19 +15,6 @@ returns c =
     correct-unsolved (at-entry .args .task) (at-entry .pre) (at-fill-rhs .fill-rhs .ensures (now (at-entry .args .ia)) (now (at-entry .args .ib)))
     (at-linear-solve .linear-solve .result) (at-linear-solve .linear-solve .ensures .0) (c .before .before .done .ensures) (c .before .if1 .taken)
     (c .pass-after .ensures)
-
-add-impulses-requires : tie.Need-add-impulses-requires
-add-impulses-requires c κs =
-    let at-linear-solve = c .before .before .before .before .before in let at-fill-rhs = at-linear-solve .before .before .before .before in
-    let at-entry = at-fill-rhs .before .before .before in (
-      omega (
-        arith,
-        at-entry .pre .ours .long,
-        at-linear-solve .linear-solve .ensures .0 .kept .size,
-        at-fill-rhs .fill-rhs .ensures (now (at-entry .args .ia)) (now (at-entry .args .ib)) .kept .size,
-      ),
-      at-entry .pre .ours .ready .most,
-    )
 
 returns-2 : tie.Need-returns-2
 returns-2 c =
@@ -51,5 +28,5 @@ returns-2 c =
 pub correct-spec : {M : Type 1} → statement M
 correct-spec =
     tie.close (tie.spec
-      fill-rhs-requires linear-solve-requires (λ c κs. search needs) (λ c κs. search needs) (λ c. omega arith) returns
-      add-impulses-requires (λ c κs. search needs) (λ c. omega arith) returns-2)
+      (λ c κs. search needs) (λ c κs. search needs) (λ c κs. search needs) (λ c κs. search needs)
+      (λ c. omega arith) returns (λ c κs. search needs) (λ c κs. search needs) (λ c. omega arith) returns-2)

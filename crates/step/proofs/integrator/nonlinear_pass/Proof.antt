@@ -10,13 +10,6 @@ use Rattle.step.proofs.NonlinearLaws.{not-found, found-met, found-unmet
 use Rattle.step.proofs.integrator.nonlinear_pass.Statement.{statement}
 use Rattle.step.proofs.integrator.nonlinear_pass.Tie as tie
 
-candidate-requires : tie.Need-candidate-requires
-candidate-requires c κs =
-    let at-entry = c .before .before in (
-      record { ours = record { ready = at-entry .pre .0 .ours .ready; long = at-entry .pre .0 .ours .long }; apart = at-entry .pre .0 .apart },
-      at-entry .pre .1,
-    )
-
 returns : tie.Need-returns
 returns c =
     let at-candidate = c .before .before .before .before .before in let at-entry = at-candidate .before .before .before in
@@ -24,11 +17,6 @@ returns c =
     (c .pass-ended .ensures)
     (not-found (jobFor (at-entry .args .joints) (at-entry .args .task)) (at-entry .pre .0) (at-candidate .candidate .result)
     (at-candidate .candidate .ensures) (c .before .before .done .ensures) (c .before .if1 .taken))
-
-rows-met-requires : tie.Need-rows-met-requires
-rows-met-requires c κs =
-    let at-candidate = c .before .before .before .before .before in let at-entry = at-candidate .before .before .before in
-    (omega (arith, at-entry .pre .0 .ours .long, at-candidate .candidate .ensures .0 .kept .size), at-entry .pre .0 .ours .ready .most)
 
 returns-2 : tie.Need-returns-2
 returns-2 c =
@@ -41,16 +29,7 @@ returns-2 c =
     (c .before .before .rows-met .ensures (now (at-entry .args .ia)) (now (at-entry .args .ib))) (c .before .if2 .taken))
 
 correct-requires : tie.Need-correct-requires
-correct-requires c κs =
-    let at-slice-known2 = c .before .before .before .before .before .before in let at-candidate = at-slice-known2 .before .before in
-    let at-entry = at-candidate .before .before .before in
-    record {
-      ours = record {
-        ready = rows-at (at-entry .pre .0 .ours .ready) (at-candidate .candidate .ensures .0 .kept .size);
-        long = omega (arith, at-entry .pre .0 .ours .long, at-candidate .candidate .ensures .0 .kept .size);
-      };
-      apart = at-entry .pre .0 .apart;
-    }
+correct-requires c κs = record { ours = record { ready = search needs; long = search needs }; apart = search needs }
 
 returns-3 : tie.Need-returns-3
 returns-3 c =
@@ -63,5 +42,6 @@ returns-3 c =
 pub nonlinear-pass-spec : {M : Type 1} → statement M
 nonlinear-pass-spec =
     tie.close (tie.spec
-      candidate-requires (λ c κs. search needs) (λ c κs. search needs) (λ c. omega arith) returns rows-met-requires
-      (λ c κs. search needs) (λ c. omega arith) returns-2 correct-requires (λ c. omega arith) returns-3)
+      (λ c κs. search needs) (λ c κs. search needs) (λ c κs. search needs) (λ c. omega arith) returns
+      (λ c κs. search needs) (λ c κs. search needs) (λ c. omega arith) returns-2 correct-requires
+      (λ c. omega arith) returns-3)

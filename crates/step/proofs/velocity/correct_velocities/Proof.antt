@@ -14,12 +14,7 @@ returns c =
     (at-linear-solve .linear-solve .ensures .0) (c .before .before .done .ensures) (c .before .if1 .taken) (c .pass-after .ensures)
 
 apply-requires : tie.Need-apply-requires
-apply-requires c κs =
-    let at-linear-solve = c .before .before .before .before .before in let at-entry = at-linear-solve .before .before .before in
-    record {
-      ready = rows-at (at-entry .pre .ready) (at-linear-solve .linear-solve .ensures .0 .kept .size);
-      long = omega (arith, at-entry .pre .long, at-linear-solve .linear-solve .ensures .0 .kept .size);
-    }
+apply-requires c κs = record { ready = search needs; long = search needs }
 
 returns-2 : tie.Need-returns-2
 returns-2 c =
