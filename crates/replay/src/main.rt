@@ -1,6 +1,7 @@
 // Answers each plan of data/plans.bin as `pose` would: a length in two bytes, the least first, then the plan.
 ghost use Prim.Native.Nat.{_<_};
 use libc::STDOUT_FILENO;
+use step::layout::SCRATCH;
 use streams::Got;
 
 // What a turn came to: a plan was answered, the file had ended, or it went no further.
@@ -42,7 +43,7 @@ fn stopped(last: Got, count: usize) -> Turn {
 }
 
 fn answer(fd: i32, file: &mut [u8]) -> Turn {
-    let mut scratch = [0.0f64; 6144];
+    let mut scratch = [0.0f64; SCRATCH];
     let mut out = [0u8; 4096];
     let got = streams::read_all(fd, file);
     if got.count < file.len() {

@@ -7,6 +7,7 @@ use lib.Ieee.{Float, ofBits, round}
 use mathlib.Core.Path.{_≡_, refl, sym, ap, _∙_}
 use mathlib.Core.Bool.{Bool, true, false, cond, not, _&&_, _||_}
 use Rattle.arith.specs.Real.{F, ratio}
+use Rattle.arith.specs.FlowLaws.{not-yes, not-no}
 use Rattle.vectors.specs.declared.vector.Vec3.{Vec3}
 use Rattle.vectors.specs.declared.matrix.Mat3.{Mat3}
 use Rattle.vectors.specs.declared.matrix.Inverted.{Inverted}
@@ -63,6 +64,13 @@ pub beyond : {A : Type 0} {p : Bool} (x : A) {r y : A} → p ≡ false → r ≡
 beyond x {r} {y} h q = q ∙ ap (λ (b : Bool). cond b x y) (sym h)
 
 -- a callee's test of what another callee gave
+module _ {A : Type 0} (f : A → Bool) {x y : A} {t : Bool} (e : t ≡ f x) (g : x ≡ y) where
+  pub test-yes : not t ≡ false → f y ≡ true
+  test-yes h = sym (ap f g) ∙ sym e ∙ not-no t h
+
+  pub test-no : not t ≡ true → f y ≡ false
+  test-no h = sym (ap f g) ∙ sym e ∙ not-yes t h
+
 pub under : {x y : Float} (limit : Float) → x ≡ y → Ieee.le x limit ≡ Ieee.le y limit
 under limit e = ap (λ (z : Float). Ieee.le z limit) e
 

@@ -8,9 +8,7 @@ use lib.ListN.{length, replicate, length-replicate, getD-replicate}
 use lib.Ieee.{Float, nan}
 use Rattle.arith.specs.Real.{ratio}
 use Rattle.arith.specs.Flow.{Turn, go, stop, tab}
-use Rattle.arith.specs.FlowLaws.{not-no}
 use Rattle.arith.specs.Run.{ran, over, upTo}
-use Rattle.arith.specs.RunLaws.{try-go, try-stop, leave-yes, leave-no}
 use Rattle.rows.specs.Fault.{nonConvergent, Result}
 use Rattle.rows.specs.View.{Kept}
 use Rattle.rows.specs.Region.{tab-length, is-tab, kept-then, kept-more}
@@ -23,105 +21,72 @@ use Rattle.solves.specs.RegionLaws.{kept-vec, filled-vec}
 use Rattle.solves.specs.System.{Counting}
 use Rattle.solves.specs.Search.{linearSolve}
 use Rattle.solves.specs.Answer.{ranAs, isDone, endedAs}
-use Rattle.solves.specs.DoesLaws.{ran-done, went, failed, fails-over}
+use Rattle.solves.specs.DoesLaws.{does-is}
 use Rattle.solves.specs.View.{ROWS, RHS, SOLUTION, Beside, Work, rowOn, rowsOn, systemOn}
 use Rattle.solves.specs.ViewLaws.{system-kept}
 use Rattle.step.specs.Layout.{IMPULSES}
 use Rattle.step.specs.Bodies.{Job, Found, rowsMet, rhsOf, addImpulses, candidateOf}
 use Rattle.step.specs.Step.{nonlinearPass, nonlinearLoop}
-use Rattle.step.specs.RunView.{impulsesAt, startedAt, foundAt, Trying, correction}
+use Rattle.solves.specs.Lent.{Slice}
+use Rattle.step.specs.declared.integrator.Task.{Task}
+use Rattle.step.specs.declared.passes.Passed.{Passed}
+use Rattle.step.specs.RunView.{impulsesAt, startedAt, foundAt, Starting, Trying, passedAs, passedAfter, correction, impulsesBy}
 use Rattle.step.proofs.LoopLaws.{kept-started}
-use Rattle.step.proofs.PassLaws.{begun, unsolved, corrected, not-made}
+use Rattle.step.proofs.PassLaws.{begun, unsolved, made, pass-fails, pass-met, pass-corrects}
 
 -- ---- correct
-module _ (dt : Float) (cyclic : Bool) (ia ib : List ℕ) (table : Table) (p : table .place + ROW-TABLE ≤ ROWS) (l : table .rows ≤ 96) (g : table .bodies ≤ 16)
-    {s s₁ s₂ : List Float} (d₁ : Does (Beside RHS) s s₁ (vecAt s₁ RHS (table .rows)) (rhsOf dt (rowsOn ia ib s ROWS (table .rows)))) (r : Ended)
-    (d₂ : Does Work s₁ s₂ (endedAs r (vecAt s₂ SOLUTION (table .rows))) (linearSolve cyclic (systemOn ia ib s₁ table) (vecAt s₁ RHS (table .rows))))
-    {b : Bool} (eb : b ≡ isDone (r .end)) where
-  abbrev solve : Counting (List Float)
-  solve = linearSolve cyclic (systemOn ia ib s table) (rhsOf dt (rowsOn ia ib s ROWS (table .rows)))
+module _ (task : Task) {S : Slice Float} {IA IB : Slice ℕ} {table : Table} (pre : Starting S IA IB table) {s s₁ s₂ : List Float}
+    (d₁ : Does (Beside RHS) s s₁ (vecAt s₁ RHS (table .rows)) (rhsOf (task .dt) (rowsOn (IA .now) (IB .now) s ROWS (table .rows)))) (r : Ended)
+    (d₂ : Does Work s₁ s₂ (endedAs r (vecAt s₂ SOLUTION (table .rows)))
+    (linearSolve (task .cyclic) (systemOn (IA .now) (IB .now) s₁ table) (vecAt s₁ RHS (table .rows)))) {b : Bool} (eb : b ≡ isDone (r .end)) where
+  abbrev Corrects : Passed → List Float → Type 0
+  Corrects p t = Does Trying s t (passedAs 0 p (impulsesAt t table) (foundAt (IA .now) (IB .now) t table))
+      (impulsesBy task (startedAt (IA .now) (IB .now) s table) (impulsesAt s table) (rowsOn (IA .now) (IB .now) s ROWS (table .rows)))
 
-  abbrev Corrects : List Float → Counting (Turn (List Float) Found) → Type 0
-  Corrects t x = Does Trying s t x (correction solve (addImpulses (impulsesAt s table)))
-
-  solved-is : endedAs r (vecAt s₂ SOLUTION (table .rows)) ≡ solve
-  solved-is = d₂ .is ∙ λ j. linearSolve cyclic (system-kept ia ib table (λ i a b. omega arith) (omega arith) l g (d₁ .kept) j) (d₁ .is j)
-
-  solving : Kept Trying s s₂
-  solving = kept-then (kept-more (d₁ .kept) (λ i x. omega (arith, x .1))) (d₂ .kept) (λ i x. omega (arith, x .1))
-
-  pub correct-unsolved : not b ≡ true → Corrects s₂ (ran (over (ranAs (r .end) (foundAt ia ib s₂ table))) 0 (r .linear))
-  correct-unsolved h = record {
-    kept = solving;
-    is = unsolved (addImpulses (impulsesAt s table)) r (vecAt s₂ SOLUTION (table .rows)) solved-is (foundAt ia ib s₂ table) eb h;
+  solved : Does Trying s s₂ (endedAs r (vecAt s₂ SOLUTION (table .rows)))
+      (linearSolve (task .cyclic) (systemOn (IA .now) (IB .now) s table) (rhsOf (task .dt) (rowsOn (IA .now) (IB .now) s ROWS (table .rows))))
+  solved = record {
+    kept = kept-then (kept-more (d₁ .kept) (λ i x. omega (arith, x .1))) (d₂ .kept) (λ i x. omega (arith, x .1));
+    is = d₂ .is ∙ λ j. linearSolve (task .cyclic) (system-kept (IA .now) (IB .now) table (λ i a b. omega (arith, pre .apart)) (omega (arith, pre .apart))
+        (pre .ours .ready .most) (pre .ours .ready .bodies) (d₁ .kept) j) (d₁ .is j);
   }
 
-  module _ (h : not b ≡ false) {s₃ : List Float} (q : End)
-      (d₃ : Does (Beside IMPULSES) s₂ s₃ (ranAs q (impulsesAt s₃ table)) (addImpulses (impulsesAt s₂ table) (vecAt s₂ SOLUTION (table .rows))))
-      {c : Bool} (ec : c ≡ isDone q) where
-    adding : Kept Trying s s₃
-    adding = kept-then solving (d₃ .kept) (λ i x. omega (arith, x .1))
+  pub correct-unsolved : {p : Passed} → not b ≡ true → p ≡ passedAfter (r .end) (r .linear) → Corrects p s₂
+  correct-unsolved h = unsolved (addImpulses (impulsesAt s table)) r _ solved eb _ _ h
 
-    added : ranAs q (impulsesAt s₃ table) ≡ addImpulses (impulsesAt s table) (vecAt s₂ SOLUTION (table .rows))
-    added = d₃ .is ∙ ap (λ (v : List Float). addImpulses v (vecAt s₂ SOLUTION (table .rows)))
-        (kept-vec (d₂ .kept) IMPULSES (table .rows) (λ i a b. omega arith) ∙ kept-vec (d₁ .kept) IMPULSES (table .rows) (λ i a b. omega arith))
-
-    pub correct-added : not c ≡ false → Corrects s₃ (ran (go (go (impulsesAt s₃ table))) 0 (r .linear))
-    correct-added k = record {
-      kept = adding;
-      is = corrected (addImpulses (impulsesAt s table)) r (vecAt s₂ SOLUTION (table .rows)) solved-is (foundAt ia ib s₃ table) eb h
-          (sym (ran-done (impulsesAt s₃ table) q (sym ec ∙ not-no c k)) ∙ added);
-    }
-
-    pub correct-not-added : not c ≡ true → Corrects s₃ (ran (over (ranAs q (foundAt ia ib s₃ table))) 0 (r .linear))
-    correct-not-added k = record {
-      kept = adding;
-      is = not-made (addImpulses (impulsesAt s table)) r (vecAt s₂ SOLUTION (table .rows)) solved-is (foundAt ia ib s₃ table) eb h
-          (impulsesAt s₃ table) q ec k added;
-    }
+  pub correct-added : {p : Passed} → not b ≡ false → {s₃ : List Float} (q : End)
+      → Does (Beside IMPULSES) s₂ s₃ (ranAs q (impulsesAt s₃ table)) (addImpulses (impulsesAt s₂ table) (vecAt s₂ SOLUTION (table .rows)))
+      → p ≡ passedAfter q (r .linear) → Corrects p s₃
+  correct-added h q d₃ = made (addImpulses (impulsesAt s table)) r _ solved eb _ h _ q (record {
+    kept = kept-more (d₃ .kept) (λ i x. omega (arith, x .1));
+    is = d₃ .is ∙ ap (λ (v : List Float). addImpulses v (vecAt s₂ SOLUTION (table .rows)))
+        (kept-vec (d₂ .kept) IMPULSES (table .rows) (λ i a b. omega (arith, pre .ours .ready .most))
+        ∙ kept-vec (d₁ .kept) IMPULSES (table .rows) (λ i a b. omega (arith, pre .ours .ready .most)));
+  })
 
 -- ---- nonlinear_pass
-module _ (job : Job) (ia ib : List ℕ) (table : Table) (p : table .place + ROW-TABLE ≤ ROWS) (l : table .rows ≤ 96) (g : table .bodies ≤ 16)
-    {s s₁ : List Float} (r : End)
-    (d : (Does Trying s s₁ (ranAs r (foundAt ia ib s₁ table)) (candidateOf job (startedAt ia ib s table) (impulsesAt s table)))
+module _ (job : Job) {S : Slice Float} {IA IB : Slice ℕ} {table : Table} (pre : Starting S IA IB table) {s s₁ : List Float} (r : End)
+    (d : (Does Trying s s₁ (ranAs r (foundAt (IA .now) (IB .now) s₁ table)) (candidateOf job (startedAt (IA .now) (IB .now) s table) (impulsesAt s table)))
     × (impulsesAt s₁ table ≡ impulsesAt s table)) {b : Bool} (eb : b ≡ isDone r) where
   abbrev Turns : List Float → Counting (Turn (List Float) Found) → Type 0
-  Turns t x = Does Trying s t x (nonlinearPass job (startedAt ia ib s table) (impulsesAt s table))
+  Turns t x = Does Trying s t x (nonlinearPass job (startedAt (IA .now) (IB .now) s table) (impulsesAt s table))
 
-  pub not-found : not b ≡ true → Turns s₁ (ran (over (ranAs r (foundAt ia ib s₁ table))) 1 0)
+  pub not-found : not b ≡ true → Turns s₁ (ran (over (ranAs r (foundAt (IA .now) (IB .now) s₁ table))) 1 0)
   unfolding nonlinearPass
-  not-found h = record {
-    kept = d .0 .kept;
-    is = begun (ap (λ (t : Result (Turn (List Float) Found)). ran t 0 0) (fails-over (foundAt ia ib s₁ table) r eb h)
-        ∙ try-stop _ (failed (foundAt ia ib s₁ table) r eb (d .0) h .is));
-  }
+  not-found h = begun (pass-fails (λ (f : Found). rowsMet (f .rows)) (λ f. f) _ _ r (d .0) eb _ h)
 
-  module _ (h : not b ≡ false) {c : Bool} (ec : c ≡ rowsMet (rowsOn ia ib s₁ ROWS (table .rows))) where
-    found : go (foundAt ia ib s₁ table) ≡ candidateOf job (startedAt ia ib s table) (impulsesAt s table)
-    found = went (foundAt ia ib s₁ table) r eb (d .0) h .is
-
-    pub found-met : c ≡ true → Turns s₁ (ran (go (stop (foundAt ia ib s₁ table))) 1 0)
+  module _ (h : not b ≡ false) {c : Bool} (ec : c ≡ rowsMet (rowsOn (IA .now) (IB .now) s₁ ROWS (table .rows))) where
+    pub found-met : c ≡ true → Turns s₁ (ran (go (stop (foundAt (IA .now) (IB .now) s₁ table))) 1 0)
     unfolding nonlinearPass
-    found-met k = record { kept = d .0 .kept; is = begun (leave-yes _ _ (sym ec ∙ k) ∙ try-go _ found) }
+    found-met k = begun (pass-met (λ (f : Found). rowsMet (f .rows)) (λ f. f) _ _ r (d .0) eb h ec k)
 
-    pub found-unmet : c ≡ false → {u : List Float} {t : Result (Turn (List Float) Found)} {n : ℕ}
-        → Does Trying s₁ u (ran t 0 n)
-        (correction (linearSolve (job .cyclic) (systemOn ia ib s₁ table) (rhsOf (job .dt) (rowsOn ia ib s₁ ROWS (table .rows))))
+    pub found-unmet : c ≡ false → {u : List Float} {t : Result (Turn (List Float) Found)} {n : ℕ} → Does Trying s₁ u (ran t 0 n)
+        (correction (linearSolve (job .cyclic) (systemOn (IA .now) (IB .now) s₁ table) (rhsOf (job .dt) (rowsOn (IA .now) (IB .now) s₁ ROWS (table .rows))))
         (addImpulses (impulsesAt s₁ table))) → Turns u (ran t 1 n)
     unfolding nonlinearPass
-    found-unmet k e = record {
-      kept = kept-then (d .0 .kept) (e .kept) (λ i x. x);
-      is = begun (e .is ∙ from ∙ leave-no _ _ (sym ec ∙ k) ∙ try-go _ found);
-    }
-      where
-        from : correction {B = Found} (linearSolve (job .cyclic) (systemOn ia ib s₁ table) (rhsOf (job .dt) (rowsOn ia ib s₁ ROWS (table .rows))))
-            (addImpulses (impulsesAt s₁ table))
-            ≡ correction (linearSolve (job .cyclic) (systemOn ia ib s table) (rhsOf (job .dt) (rowsOn ia ib s₁ ROWS (table .rows))))
-            (addImpulses (impulsesAt s table))
-        from = λ j. correction
-            (linearSolve (job .cyclic) (kept-started (d .0 .kept) ia ib table p l g (λ i x. x) j .system)
-            (rhsOf (job .dt) (rowsOn ia ib s₁ ROWS (table .rows))))
-            (addImpulses (d .1 j))
+    found-unmet k e = begun (pass-corrects (λ (f : Found). rowsMet (f .rows)) (λ f. f) _ _ r (d .0) eb h ec k (does-is e (λ j. correction
+        (linearSolve (job .cyclic) (kept-started (d .0 .kept) (IA .now) (IB .now) table (pre .apart) (pre .ours .ready .most) (pre .ours .ready .bodies)
+        (λ i x. x) j .system) (rhsOf (job .dt) (rowsOn (IA .now) (IB .now) s₁ ROWS (table .rows)))) (addImpulses (d .1 j)))))
 
 -- ---- nonlinear_loop
 -- the pass from what stands before the first one

@@ -7,29 +7,31 @@ use native.Mathlib.Omega.{arith}
 use native.Mathlib.Nat.{zero-add}
 use lib.Ieee.{Float}
 use Rattle.arith.specs.Flow.{Turn, go, stop}
-use Rattle.arith.specs.Run.{ran, after, over, try, begin, again, _>>=_, upTo}
-use Rattle.arith.specs.RunLaws.{run-is, then-go, then-stop, try-go, try-stop, Reached, reached-none, reached-again, reached-over, reached-spent}
+use Rattle.arith.specs.Run.{ran, after, over, try, begin, again, leaveIf, _>>=_, upTo}
+use Rattle.arith.specs.RunLaws.{run-is, then-go, then-stop, try-go, try-stop, leave-yes, leave-no, Reached, reached-none, reached-again, reached-over, reached-spent}
 use Rattle.rows.specs.Fault.{nonConvergent, Result}
 use Rattle.rows.specs.View.{Kept}
 use Rattle.rows.specs.Region.{kept-refl, kept-then}
 use Rattle.rows.specs.declared.End.{End}
+use Rattle.rows.specs.declared.End.the-variants as Ends
 use Rattle.solves.specs.declared.Ended.{Ended}
 use Rattle.solves.specs.declared.Pass.{Pass}
 use Rattle.solves.specs.declared.Pass.the-variants as Passes
 use Rattle.solves.specs.Region.{Does}
 use Rattle.solves.specs.System.{Counting}
 use Rattle.solves.specs.Answer.{ranAs, passAs, isDone, endedAs}
-use Rattle.solves.specs.DoesLaws.{ran-done, fails, fails-over}
-use Rattle.arith.specs.FlowLaws.{not-no}
+use Rattle.solves.specs.DoesLaws.{ran-done, fails, fails-over, went, failed}
+use Rattle.arith.specs.FlowLaws.{not-yes, not-no}
 use Rattle.step.specs.declared.passes.Passed.{Passed}
 use Rattle.step.specs.declared.passes.Ran.{Ran}
-use Rattle.step.specs.RunView.{passedAs, leftAs, correction}
+use Rattle.step.specs.RunView.{passedAs, passedAfter, leftAs, correction}
 
 -- ---- links
 -- a pass counts itself, and then does the rest
-pub begun : {A : Type 0} {t : Result A} {l : ℕ} {rest : Counting A} → ran t 0 l ≡ rest → ran t 1 l ≡ (begin >>= λ _. rest)
+pub begun : {A : Type 0} {P : ℕ → Type 0} {s u : List Float} {t : Result A} {l : ℕ} {rest : Counting A} → Does P s u (ran t 0 l) rest
+    → Does P s u (ran t 1 l) (begin >>= λ _. rest)
 unfolding _>>=_
-begun {A} {t} {l} e = run-is refl (sym (zero-add l)) ∙ ap (λ (r : Counting A). begin >>= λ _. r) e
+begun {A} {t = t} {l} d = record { kept = d .kept; is = run-is refl (sym (zero-add l)) ∙ ap (λ (r : Counting A). begin >>= λ _. r) (d .is) }
 
 -- what was not done fails alike, whatever it was to leave
 pub failed-as : {A B : Type 0} (x : A) (y : B) (end : End) {b : Bool} → b ≡ isDone end → not b ≡ true → {R : Result A} → ranAs end x ≡ R
@@ -37,31 +39,52 @@ pub failed-as : {A B : Type 0} (x : A) (y : B) (end : End) {b : Bool} → b ≡ 
     → ran (ranAs end y) 0 0 ≡ (try R >>= f)
 failed-as x y end eb h e f = ap (λ (t : Result _). ran t 0 0) (fails y end eb h) ∙ try-stop f (sym (fails x end eb h) ∙ e)
 
--- ---- a correction: `solve` answered r and left x
-module _ {A B : Type 0} {solve : Counting (List Float)} (make : List Float → Result A) (r : Ended) (x : List Float) (e : endedAs r x ≡ solve) (y : B)
-    {b : Bool} (eb : b ≡ isDone (r .end)) where
-  pub unsolved : not b ≡ true → ran (over (ranAs (r .end) y)) 0 (r .linear) ≡ correction {B = B} solve make
-  unsolved h =
-      ap (λ (t : Result (Turn A B)). ran t 0 (r .linear)) (fails-over y (r .end) eb h)
-      ∙ then-stop _ (sym (ap (λ (t : Result (List Float)). ran t 0 (r .linear)) (fails x (r .end) eb h)) ∙ e)
+-- ---- a correction: `solve` answered r and left x, and `make` made something of it
+module _ {A B : Type 0} {P : ℕ → Type 0} {s s₁ : List Float} {solve : Counting (List Float)} (make : List Float → Result A) (r : Ended) (x : List Float)
+    (d : Does P s s₁ (endedAs r x) solve) {b : Bool} (eb : b ≡ isDone (r .end)) {p : Passed} (y : B) where
+  pub unsolved : (a : A) → not b ≡ true → p ≡ passedAfter (r .end) (r .linear) → Does P s s₁ (passedAs 0 p a y) (correction solve make)
+  unsolved a h ep =
+      record { kept = d .kept; is = ap (λ (p : Passed). passedAs 0 p a y) ep ∙ here (r .end) (sym eb ∙ not-yes b h) (r .linear) (d .is) }
+    where
+      here : (q : End) → isDone q ≡ false → (l : ℕ) → ran (ranAs q x) 0 l ≡ solve → passedAs 0 (passedAfter q l) a y ≡ correction solve make
+      here Ends.Done f l e = absurd (let z : _≡_ {A = ℕ} 0 1 = cc in omega arith)
+      here Ends.NonConvergent f l e = then-stop _ e
+      here Ends.ArithmeticOverflow f l e = then-stop _ e
 
-  module _ (h : not b ≡ false) where
-    solved : ran (go x) 0 (r .linear) ≡ solve
-    solved = sym (ap (λ (t : Result (List Float)). ran t 0 (r .linear)) (ran-done x (r .end) (sym eb ∙ not-no b h))) ∙ e
+  pub made : not b ≡ false → {s₂ : List Float} (a : A) (q : End) → Does P s₁ s₂ (ranAs q a) (make x) → p ≡ passedAfter q (r .linear)
+      → Does P s s₂ (passedAs 0 p a y) (correction solve make)
+  made h a q e ep = record {
+    kept = kept-then (d .kept) (e .kept) (λ i x. x);
+    is = ap (λ (p : Passed). passedAs 0 p a y) ep ∙ run-is refl (let z : r .linear ≡ r .linear + 0 = omega arith in z)
+        ∙ ap (after 0 (r .linear)) (here q (e .is)) ∙ then-go (λ solution. try (make solution) >>= λ next. again next) solved;
+  }
+    where
+      here : (q : End) → ranAs q a ≡ make x → passedAs 0 (passedAfter q 0) a y ≡ (try (make x) >>= λ next. again next)
+      here Ends.Done e = try-go (λ next. again next) e
+      here Ends.NonConvergent e = try-stop (λ next. again next) e
+      here Ends.ArithmeticOverflow e = try-stop (λ next. again next) e
 
-    onto : {t : Result (Turn A B)} → ran t 0 0 ≡ (try (make x) >>= λ next. again next) → ran t 0 (r .linear) ≡ correction {B = B} solve make
-    onto {t} q =
-        run-is refl (let z : r .linear ≡ r .linear + 0 = omega arith in z) ∙ ap (after 0 (r .linear)) q
-        ∙ then-go (λ solution. try (make solution) >>= λ next. again next) solved
+      solved : ran (go x) 0 (r .linear) ≡ solve
+      solved = sym (ap (λ (t : Result (List Float)). ran t 0 (r .linear)) (ran-done x (r .end) (sym eb ∙ not-no b h))) ∙ d .is
 
-    pub corrected : {a : A} → go a ≡ make x → ran (go (go a)) 0 (r .linear) ≡ correction {B = B} solve make
-    corrected q = onto (try-go (λ next. again next) q)
+-- ---- a pass: what it looks for is not found, or meets its test, or is corrected
+module _ {X A B : Type 0} {P : ℕ → Type 0} {s s₁ : List Float} {R : Result X} (test : X → Bool) (out : X → B) (rest : X → Counting (Turn A B))
+    (x : X) (r : End) (d : Does P s s₁ (ranAs r x) R) {b : Bool} (eb : b ≡ isDone r) where
+  abbrev pass : Counting (Turn A B)
+  pass = try R >>= λ found. leaveIf (test found) (out found) (rest found)
 
-    pub not-made : (a : A) (end : End) {c : Bool} → c ≡ isDone end → not c ≡ true → ranAs end a ≡ make x
-        → ran (over (ranAs end y)) 0 (r .linear) ≡ correction {B = B} solve make
-    not-made a end ec g q =
-        ap (λ (t : Result (Turn A B)). ran t 0 (r .linear)) (fails-over y end ec g)
-        ∙ onto (try-stop (λ next. again next) (sym (fails a end ec g) ∙ q))
+  pub pass-fails : (y : B) → not b ≡ true → Does P s s₁ (ran (over (ranAs r y)) 0 0) pass
+  pass-fails y h = record {
+    kept = d .kept;
+    is = ap (λ (t : Result (Turn A B)). ran t 0 0) (fails-over y r eb h) ∙ try-stop _ (failed x r eb d h .is);
+  }
+
+  module _ (h : not b ≡ false) {c : Bool} (ec : c ≡ test x) where
+    pub pass-met : c ≡ true → Does P s s₁ (ran (go (stop (out x))) 0 0) pass
+    pass-met k = record { kept = d .kept; is = leave-yes _ _ (sym ec ∙ k) ∙ try-go _ (went x r eb d h .is) }
+
+    pub pass-corrects : c ≡ false → {u : List Float} {y : Counting (Turn A B)} → Does P s₁ u y (rest x) → Does P s u y pass
+    pass-corrects k e = record { kept = kept-then (d .kept) (e .kept) (λ i x. x); is = e .is ∙ leave-no _ _ (sym ec ∙ k) ∙ try-go _ (went x r eb d h .is) }
 
 -- ---- an answer that was put together
 module _ {A B : Type 0} {P : ℕ → Type 0} {s t : List Float} where

@@ -9,9 +9,8 @@ use lib.Ieee as Ieee
 use lib.Ieee.{Float, ofBits, round}
 use Rattle.arith.specs.Real.{F, ratio, isFinite, absOf, _⊕_}
 use Rattle.arith.specs.Flow.{Turn, go, stop, _>>=_, each, every}
-use Rattle.arith.specs.FlowLaws.{not-no, then-go, then-stop, every-fail, every-end}
+use Rattle.arith.specs.FlowLaws.{then-go, then-stop, every-fail, every-end}
 use Rattle.arith.specs.Run.{ran, over, leave, upTo}
-use Rattle.arith.specs.RunLaws.{try-go, try-stop, leave-yes, leave-no}
 use Rattle.vectors.specs.declared.vector.Vec3.{Vec3}
 use Rattle.vectors.specs.declared.vector.OptionVec3.{OptionVec3}
 use Rattle.vectors.specs.declared.vector.OptionVec3.the-variants.{Some, None}
@@ -21,7 +20,7 @@ use Rattle.rows.specs.declared.geometry.EqualityRow.{EqualityRow}
 use Rattle.rows.specs.Fault.{Fault, nonConvergent, arithmeticOverflow, Result, vectorOr}
 use Rattle.rows.specs.Body.{omegaOf, kickOf}
 use Rattle.rows.specs.View.{at, Out, Kept}
-use Rattle.rows.specs.Region.{tab-length, kept-refl, kept-set, kept-then, kept-more}
+use Rattle.rows.specs.Region.{tab-length, kept-refl, kept-set}
 use Rattle.rows.specs.AnswerLaws.{vector-go, vector-stop}
 use Rattle.solves.specs.declared.places.Generalized.{Generalized}
 use Rattle.solves.specs.Solver.{rowIn, generalizedIn, transpose}
@@ -34,11 +33,12 @@ use Rattle.solves.specs.Answer.{ranAs, isDone, endedAs}
 use Rattle.solves.specs.Region.{vecAt, Does}
 use Rattle.solves.specs.View.{RHS, SOLUTION, GENERALIZED, Rows, Shares, Work, Beside, rowOn, rowsOn, generalizedAt, generalizedsAt, sharesIn, systemOn}
 use Rattle.solves.specs.ViewLaws.{row-in, share-in, system-kept}
-use Rattle.solves.specs.DoesLaws.{number-yes, number-no, ran-done, went, failed, fails-over, does-stop, does-then, does-eq}
+use Rattle.solves.specs.DoesLaws.{number-yes, number-no, does-stop, does-then, does-eq, does-is, does-more}
 use Rattle.step.specs.Layout.{IMPULSES, CANDIDATE, STATES}
 use Rattle.step.specs.Bodies.{bodyIn, velocityOf, velocityRhs, compatibleOf, kickBodies, reactionOf}
 use Rattle.step.specs.Step.{velocityPass, velocityLoop}
-use Rattle.step.specs.RunView.{Moves, MotionAt, Remembers, Correcting, correction}
+use Rattle.step.specs.RunView.{Moves, MotionAt, Remembers, Correcting, passedAs, passedAfter, correction}
+use Rattle.step.specs.declared.passes.Passed.{Passed}
 use Rattle.solves.specs.RegionLaws.{vec-at}
 use Rattle.step.specs.View.{startBodyAt, candidateAt, candidatesAt, movedTo}
 use Rattle.step.specs.ViewLaws.{kept-candidate, kept-candidates}
@@ -46,7 +46,7 @@ use Rattle.step.specs.declared.velocity.Motion.{Motion}
 use Rattle.step.proofs.FrameLaws.{candidate-in}
 use Rattle.step.proofs.EachLaws.{so-none, so-more, so-put, so-stop, so-end}
 use Rattle.step.proofs.MotionLaws.{kick-moved}
-use Rattle.step.proofs.PassLaws.{unsolved, corrected, not-made}
+use Rattle.step.proofs.PassLaws.{unsolved, made, pass-fails, pass-met, pass-corrects}
 
 -- velocity: the rate of a row from the motions of its bodies
 module _ (row : EqualityRow) (x y : MomentumBody) {a b : Motion} (ma : Moves x a) (mb : Moves y b) where
@@ -285,46 +285,28 @@ module _ (cyclic : Bool) {s : List Float} {ia ib : List ℕ} (table : Table) (pr
   abbrev turn : Counting (Turn (List MomentumBody) (List MomentumBody))
   turn = passOver cyclic ia ib table s (candidatesAt s (table .bodies))
 
-  within : Kept Correcting s t
-  within = kept-more (d .kept) (λ i x. omega (arith, x .0))
+  within : Does Correcting s t (ranAs r (vecAt t RHS (table .rows))) (velocityRhs (rowsOn ia ib s (table .place) (table .rows)) (candidatesAt s (table .bodies)))
+  within = does-more (λ i x. omega (arith, x .0)) d
 
   -- the rates fail
   pub rates-fail : not b ≡ true → Does Correcting s t (ran (over (ranAs r (candidatesAt t (table .bodies)))) 0 0) turn
   unfolding velocityPass
-  rates-fail h = record {
-    kept = within;
-    is = ap (λ (t : Result (Turn (List MomentumBody) (List MomentumBody))). ran t 0 0) (fails-over (candidatesAt t (table .bodies)) r eb h)
-        ∙ try-stop _ (failed (vecAt t RHS (table .rows)) r eb d h .is);
-  }
+  rates-fail h = pass-fails compatibleOf (λ _. candidatesAt s (table .bodies)) _ _ r within eb _ h
 
   module _ (h : not b ≡ false) {c : Bool} (ec : c ≡ compatibleOf (vecAt t RHS (table .rows))) where
-    rated : go (vecAt t RHS (table .rows)) ≡ velocityRhs (rowsOn ia ib s (table .place) (table .rows)) (candidatesAt s (table .bodies))
-    rated = went (vecAt t RHS (table .rows)) r eb d h .is
-
     pub at-rest : c ≡ true → Does Correcting s t (ran (go (stop (candidatesAt t (table .bodies)))) 0 0) turn
     unfolding velocityPass
-    at-rest g = record {
-      kept = within;
-      is = ap (λ (l : List MomentumBody). leave l) (same-candidates (d .kept) table pre (λ i x. omega (arith, x)))
-          ∙ leave-yes _ _ (sym ec ∙ g) ∙ try-go _ rated;
-    }
+    at-rest g = does-eq (ap (λ (l : List MomentumBody). leave l) (same-candidates (d .kept) table pre (λ i x. omega (arith, x))))
+        (pass-met compatibleOf (λ _. candidatesAt s (table .bodies)) _ _ r within eb h ec g)
 
     pub kicked-on : c ≡ false → {u : List Float} {y : Counting (Turn (List MomentumBody) (List MomentumBody))}
         → Does Correcting t u y (correction (linearSolve cyclic (systemOn ia ib t table) (vecAt t RHS (table .rows)))
         (reactionOf (systemOn ia ib t table .rows) (candidatesAt t (table .bodies)))) → Does Correcting s u y turn
     unfolding velocityPass
-    kicked-on g {u} {y} e = record {
-      kept = kept-then within (e .kept) (λ i x. x);
-      is = e .is ∙ moved ∙ leave-no _ _ (sym ec ∙ g) ∙ try-go _ rated;
-    }
-      where
-        moved : correction (linearSolve cyclic (systemOn ia ib t table) (vecAt t RHS (table .rows)))
-            (reactionOf (systemOn ia ib t table .rows) (candidatesAt t (table .bodies)))
-            ≡ correction {B = List MomentumBody} (linearSolve cyclic (systemOn ia ib s table) (vecAt t RHS (table .rows)))
-            (reactionOf (systemOn ia ib s table .rows) (candidatesAt s (table .bodies)))
-        moved = λ j. correction (linearSolve cyclic (same-system (d .kept) table pre (λ i x. omega (arith, x .0)) j) (vecAt t RHS (table .rows)))
-            (reactionOf (same-system (d .kept) table pre (λ i x. omega (arith, x .0)) j .rows)
-            (same-candidates (d .kept) table pre (λ i x. omega (arith, x)) j))
+    kicked-on g e = pass-corrects compatibleOf (λ _. candidatesAt s (table .bodies)) _ _ r within eb h ec g
+        (does-is e (λ j. correction (linearSolve cyclic (same-system (d .kept) table pre (λ i x. omega (arith, x .0)) j) (vecAt t RHS (table .rows)))
+        (reactionOf (same-system (d .kept) table pre (λ i x. omega (arith, x .0)) j .rows)
+        (same-candidates (d .kept) table pre (λ i x. omega (arith, x)) j))))
 
 -- velocity_loop: the pass is over the same system, however far the loop has come
 pub same-pass : (cyclic : Bool) {s : List Float} {ia ib : List ℕ} (table : Table) → Rows s ia ib (table .place) (table .rows) (table .bodies)
@@ -344,37 +326,16 @@ module _ (cyclic : Bool) {s s₁ : List Float} {ia ib : List ℕ} (table : Table
   abbrev react : List Float → Result (List MomentumBody)
   react = reactionOf (systemOn ia ib s table .rows) (candidatesAt s (table .bodies))
 
-  abbrev Corrects : List Float → Counting (Turn (List MomentumBody) (List MomentumBody)) → Type 0
-  Corrects u x = Does Correcting s u x (correction (linearSolve cyclic (systemOn ia ib s table) (vecAt s RHS (table .rows))) react)
+  abbrev Corrects : Passed → List Float → Type 0
+  Corrects p u = Does Correcting s u (passedAs 0 p (candidatesAt u (table .bodies)) (candidatesAt u (table .bodies)))
+      (correction (linearSolve cyclic (systemOn ia ib s table) (vecAt s RHS (table .rows))) react)
 
-  solving : Kept Correcting s s₁
-  solving = kept-more (d .kept) (λ i x. omega (arith, x .0))
+  pub rest-unsolved : {p : Passed} → not b ≡ true → p ≡ passedAfter (r .end) (r .linear) → Corrects p s₁
+  rest-unsolved h = unsolved react r _ (does-more (λ i x. omega (arith, x .0)) d) eb _ _ h
 
-  pub rest-unsolved : not b ≡ true → Corrects s₁ (ran (over (ranAs (r .end) (candidatesAt s₁ (table .bodies)))) 0 (r .linear))
-  rest-unsolved h = record { kept = solving; is = unsolved react r (vecAt s₁ SOLUTION (table .rows)) (d .is) (candidatesAt s₁ (table .bodies)) eb h }
-
-  module _ (h : not b ≡ false) {s₂ : List Float} (q : End)
-      (e : Does Correcting s₁ s₂ (ranAs q (candidatesAt s₂ (table .bodies)))
-      (reactionOf (systemOn ia ib s₁ table .rows) (candidatesAt s₁ (table .bodies)) (vecAt s₁ SOLUTION (table .rows))))
-      {c : Bool} (ec : c ≡ isDone q) where
-    reacting : Kept Correcting s s₂
-    reacting = kept-then solving (e .kept) (λ i x. x)
-
-    reacted : ranAs q (candidatesAt s₂ (table .bodies)) ≡ react (vecAt s₁ SOLUTION (table .rows))
-    reacted = e .is ∙ λ j. reactionOf (same-system (d .kept) table pre (λ i x. omega (arith, x .0)) j .rows)
-        (same-candidates (d .kept) table pre (λ i x. omega (arith, x)) j) (vecAt s₁ SOLUTION (table .rows))
-
-    pub rest-kicked : not c ≡ false → Corrects s₂ (ran (go (go (candidatesAt s₂ (table .bodies)))) 0 (r .linear))
-    rest-kicked k = record {
-      kept = reacting;
-      is = corrected react r (vecAt s₁ SOLUTION (table .rows)) (d .is) (candidatesAt s₂ (table .bodies)) eb h
-          (sym (ran-done (candidatesAt s₂ (table .bodies)) q (sym ec ∙ not-no c k)) ∙ reacted);
-    }
-
-    pub rest-not-kicked : not c ≡ true → Corrects s₂ (ran (over (ranAs q (candidatesAt s₂ (table .bodies)))) 0 (r .linear))
-    rest-not-kicked k = record {
-      kept = reacting;
-      is =
-          not-made react r (vecAt s₁ SOLUTION (table .rows)) (d .is) (candidatesAt s₂ (table .bodies)) eb h (candidatesAt s₂ (table .bodies)) q ec k
-          reacted;
-    }
+  pub rest-kicked : {p : Passed} → not b ≡ false → {s₂ : List Float} (q : End) → Does Correcting s₁ s₂ (ranAs q (candidatesAt s₂ (table .bodies)))
+      (reactionOf (systemOn ia ib s₁ table .rows) (candidatesAt s₁ (table .bodies)) (vecAt s₁ SOLUTION (table .rows)))
+      → p ≡ passedAfter q (r .linear) → Corrects p s₂
+  rest-kicked h q e = made react r _ (does-more (λ i x. omega (arith, x .0)) d) eb _ h _ q (does-is e (λ j.
+      reactionOf (same-system (d .kept) table pre (λ i x. omega (arith, x .0)) j .rows)
+      (same-candidates (d .kept) table pre (λ i x. omega (arith, x)) j) (vecAt s₁ SOLUTION (table .rows))))

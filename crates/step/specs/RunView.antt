@@ -15,6 +15,8 @@ use Rattle.rows.specs.Fault.{arithmeticOverflow, Result, vectorOr}
 use Rattle.rows.specs.Body.{omegaOf}
 use Rattle.rows.specs.Geometry.{rowCount}
 use Rattle.rows.specs.View.{Out}
+use Rattle.rows.specs.declared.End.{End}
+use Rattle.solves.specs.declared.Pass.the-variants as Passes
 use Rattle.solves.specs.declared.Table.{Table}
 use Rattle.solves.specs.declared.places.MassResponse.{MassResponse}
 use Rattle.solves.specs.Layout.{ROW-TABLE}
@@ -22,7 +24,7 @@ use Rattle.solves.specs.Lent.{Slice}
 use Rattle.solves.specs.Region.{vecAt}
 use Rattle.solves.specs.System.{System, Counting}
 use Rattle.solves.specs.Search.{linearSolve}
-use Rattle.solves.specs.Answer.{ranAs, passAs}
+use Rattle.solves.specs.Answer.{ranAs, passAs, isDone}
 use Rattle.solves.specs.View.{ROWS, RHS, rowsOn, systemOn, Ready}
 use Rattle.step.specs.declared.integrator.MassAnswer.{MassAnswer}
 use Rattle.step.specs.declared.integrator.Task.{Task}
@@ -118,6 +120,10 @@ massAs r = cond (r .some) (go (r .mass)) (stop arithmeticOverflow)
 -- a pass that counted n nonlinear ones, and left a for the next, or b
 abbrev pub passedAs : {A B : Type 0} → ℕ → Passed → A → B → Counting (Turn A B)
 passedAs n r a b = ran (passAs (r .pass) a b) n (r .linear)
+
+-- a pass after a call that ended so: over where it failed, else again
+abbrev pub passedAfter : End → ℕ → Passed
+passedAfter end linear = record { pass = cond (isDone end) Passes.Again (Passes.Over end); linear = linear }
 
 -- a loop or a run that left x
 abbrev pub leftAs : {A : Type 0} → Ran → A → Counting A

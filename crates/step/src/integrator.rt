@@ -12,6 +12,7 @@ use crate::layout::MOVING;
 use crate::layout::RECORD;
 use crate::passes::Passed;
 use crate::passes::Ran;
+use crate::passes::pass_after;
 use crate::passes::pass_ended;
 use crate::passes::run_ended;
 use crate::velocity::velocity_loop;
@@ -292,13 +293,10 @@ fn correct(s: &mut [f64], ia: &[usize; 96], ib: &[usize; 96], t: Table, task: Ta
     let solved = linear_solve(s, ia, ib, t, task.cyclic);
     let end = solved.end;
     if !done(end) {
-        return pass_ended(Pass::Over(end), solved.linear);
+        return pass_after(end, solved.linear);
     }
     let added = add_impulses(s, t.rows);
-    if !done(added) {
-        return pass_ended(Pass::Over(added), solved.linear);
-    }
-    pass_ended(Pass::Again, solved.linear)
+    pass_after(added, solved.linear)
 }
 
 // The first half: the candidates and their rows.

@@ -1,7 +1,9 @@
 // How a pass of the step's two loops ends, and how a loop or the run: with the passes that were counted.
 use solves::End;
 use solves::Pass;
+use solves::done;
 ghost use mathlib.Core.Path.{_≡_};
+ghost use Rattle.step.specs.RunView.{passedAfter};
 
 // The end of a pass, with the linear passes of its solve.
 pub(crate) struct Passed {
@@ -20,6 +22,16 @@ pub(crate) fn pass_ended(pass: Pass, linear: usize) -> Passed
     ensures { λ r. ⌜ r ≡ record { pass = pass; linear = linear } ⌝ }
 {
     Passed { pass, linear }
+}
+
+// The end of a pass after a call that ended so: over where it failed, else again.
+pub(crate) fn pass_after(end: End, linear: usize) -> Passed
+    ensures { λ r. ⌜ r ≡ passedAfter end linear ⌝ }
+{
+    if done(end) {
+        return pass_ended(Pass::Again, linear);
+    }
+    pass_ended(Pass::Over(end), linear)
 }
 
 pub(crate) fn run_ended(end: End, nonlinear: usize, linear: usize) -> Ran

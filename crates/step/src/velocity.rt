@@ -2,6 +2,7 @@
 use crate::bodies::load_candidate;
 use crate::bodies::store_candidate;
 use crate::passes::Passed;
+use crate::passes::pass_after;
 use crate::passes::pass_ended;
 use arith::number::abs;
 use arith::number::is_finite;
@@ -177,13 +178,10 @@ fn correct_velocities(
     let solved = linear_solve(s, ia, ib, t, cyclic);
     let end = solved.end;
     if !done(end) {
-        return pass_ended(Pass::Over(end), solved.linear);
+        return pass_after(end, solved.linear);
     }
     let applied = apply(s, ia, ib, t);
-    if !done(applied) {
-        return pass_ended(Pass::Over(applied), solved.linear);
-    }
-    pass_ended(Pass::Again, solved.linear)
+    pass_after(applied, solved.linear)
 }
 
 fn velocity_pass(

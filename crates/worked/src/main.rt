@@ -5,6 +5,7 @@ use libc::STDOUT_FILENO;
 use rows::geometry::Joint;
 use rows::geometry::JointFrame;
 use rows::geometry::Kind;
+use step::layout::SCRATCH;
 use vectors::quaternion::Quat;
 use vectors::vector::Vec3;
 
@@ -47,7 +48,7 @@ fn balls() -> [Joint; 16] {
 
 // Whether the report could be written whole.
 fn show(bodies: &mut [f64], joints: usize, dt: f64) -> bool {
-    let mut scratch = [0.0; 6144];
+    let mut scratch = [0.0; SCRATCH];
     let mut out = [0u8; 4096];
     let answer = step::solve(bodies, balls(), joints, dt, &mut scratch);
     let outcome = answer.outcome;

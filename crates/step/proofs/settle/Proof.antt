@@ -7,16 +7,6 @@ use Rattle.step.proofs.FinishLaws.{settle-accepts, settle-grounds, sett
 use Rattle.step.proofs.settle.Statement.{statement}
 use Rattle.step.proofs.settle.Tie as tie
 
-in-ground-requires : tie.Need-in-ground-requires
-in-ground-requires c κs =
-    let at-entry = c .before .before .before .before in
-    (at-entry .pre .2, at-entry .pre .3)
-
-write-states-requires : tie.Need-write-states-requires
-write-states-requires c κs =
-    let at-slice-known = c .before .before .before .before .before .before in let at-entry = at-slice-known .before in
-    (omega arith, at-entry .pre .2, at-entry .pre .3)
-
 returns : tie.Need-returns
 returns c =
     let at-if1 = c .before .before .before .before in let at-in-ground = at-if1 .before in let at-enum-told = at-in-ground .before in
@@ -46,5 +36,5 @@ returns-4 c =
 pub settle-spec : {M : Type 1} → statement M
 settle-spec =
     tie.close (tie.spec
-      (λ c. search needs) in-ground-requires write-states-requires (λ c. search needs) returns
+      (λ c. search needs) (λ c κs. search needs) (λ c κs. search needs) (λ c. search needs) returns
       (λ c. search needs) (λ c. search needs) returns-2 returns-3 returns-4)

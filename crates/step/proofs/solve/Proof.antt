@@ -1,4 +1,5 @@
 -- `solve` meets `Answered`: an early refusal by the checks' contract, else by `solve_in` and the laws of the definition (AnsweredLaws).
+use native.Mathlib.Omega.{arith}
 use Rattle.step.specs.Layout.{SCRATCH}
 use Rattle.step.specs.Step.{runFor}
 use lib.ListN.{length}

@@ -8,16 +8,6 @@ use Rattle.step.proofs.FinishLaws.{all-zero, solved-in}
 use Rattle.step.proofs.solve_in.Statement.{statement}
 use Rattle.step.proofs.solve_in.Tie as tie
 
-run-requires : tie.Need-run-requires
-run-requires c κs =
-    let at-entry = c .before .before .before .before in
-    (omega arith, at-entry .pre .2)
-
-settle-requires : tie.Need-settle-requires
-settle-requires c κs =
-    let at-run-arg = c .before .before .before .before .before .before in let at-entry = at-run-arg .before .before .before in
-    (at-entry .pre .1, refl, omega arith, at-entry .pre .2 .small)
-
 returns : tie.Need-returns
 returns c =
     let at-settle = c .before .before .before .before .before .before in let at-run = at-settle .before .before .before .before .before in
@@ -30,4 +20,5 @@ returns c =
 pub solve-in-spec : {M : Type 1} → statement M
 solve-in-spec =
     tie.close (tie.spec
-      run-requires settle-requires (λ c κs. omega arith) (λ c. search needs) (λ c. search needs) returns)
+      (λ c κs. search needs) (λ c κs. search needs) (λ c κs. omega arith) (λ c. search needs)
+      (λ c. search needs) returns)

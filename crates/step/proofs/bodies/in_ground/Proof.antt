@@ -2,9 +2,8 @@
 use mathlib.Core.Path.{_≡_, sym, _∙_}
 use Rattle.step.proofs.CheckWays.{ground-is, within-at}
 use native.Mathlib.Omega.{arith}
-use Prim.Native.Nat.{ℕ, _+_, _*_, _≤_, _-_}
+use Prim.Native.Nat.{_+_, _*_, _≤_, _-_}
 use mathlib.Core.Bool.{true}
-use denote.Ref.{now}
 use Rattle.arith.specs.Real.{ratio}
 use Rattle.arith.specs.Flow.{every}
 use Rattle.arith.specs.FlowLaws.{not-yes, not-no, every-none, every-more, every-fail, every-end}
@@ -22,27 +21,20 @@ abbrev μ-loop : tie.MeasureT-loop
 
 returns : tie.Need-returns Inv-loop μ-loop
 returns c =
-    let at-entry = c .before .before .before .before .before .before in
-    every-fail (λ (j : ℕ). withinOf (vec3At (now (at-entry .args .s)) (CANDIDATE + 13 * j)) (ratio 8192 1)) _ (omega arith)
+    every-fail _ _ (c .before .before .before .loop-test .taken)
     (sym (within-at (c .before .within .ensures) (c .before .before .load3 .ensures) ground-is) ∙ not-yes _ (c .if1 .taken))
 
 loop-again : tie.Need-loop-again Inv-loop μ-loop
 loop-again c =
-    let at-loop = c .before .before .before .before in let at-entry = at-loop .before .before in (
+    let at-loop = c .before .before .before .before in (
       omega arith,
-      every-more (λ (j : ℕ). withinOf (vec3At (now (at-entry .args .s)) (CANDIDATE + 13 * j)) (ratio 8192 1)) (at-loop .loop .inv .1)
+      every-more _ (at-loop .loop .inv .1)
           (sym (within-at (c .before .within .ensures) (c .before .before .load3 .ensures) ground-is) ∙ not-no _ (c .if1 .left)),
     )
-
-returns-2 : tie.Need-returns-2 Inv-loop μ-loop
-returns-2 c =
-    let at-entry = c .before .before .before in
-    every-end (λ (j : ℕ). withinOf (vec3At (now (at-entry .args .s)) (CANDIDATE + 13 * j)) (ratio 8192 1)) (omega arith) (omega arith)
-    (c .before .loop .inv .1)
 
 pub in-ground-spec : {M : Type 1} → statement M
 in-ground-spec =
     tie.close (tie.spec
       Inv-loop μ-loop (λ c. (omega arith, every-none _)) (λ c. omega arith) (λ c. omega arith)
       (λ c κs. omega arith) (λ c κs. omega arith) returns (λ c. omega arith) (λ c. omega arith) loop-again
-      returns-2)
+      (λ c. every-end _ (omega arith) (omega arith) (c .before .loop .inv .1)))

@@ -1,10 +1,9 @@
 -- `checks::all_finite` meets its contract: `every` of the doubles tested so far, turn by turn.
 use mathlib.Core.Path.{_≡_, refl, sym, _∙_}
 use native.Mathlib.Omega.{arith}
-use Prim.Native.Nat.{ℕ, _≤_, _-_}
+use Prim.Native.Nat.{_≤_, _-_}
 use mathlib.Core.Bool.{true}
 use lib.ListN.{length}
-use denote.Ref.{now}
 use Rattle.arith.specs.Real.{isFinite}
 use Rattle.arith.specs.Flow.{every}
 use Rattle.arith.specs.FlowLaws.{not-yes, not-no, every-none, every-more, every-fail, every-end}
@@ -19,26 +18,19 @@ abbrev μ-loop : tie.MeasureT-loop
 μ-loop bodies k₀ k-end k = k-end - k
 
 returns : tie.Need-returns Inv-loop μ-loop
-returns c =
-    let at-test = c .before .before .before in
-    let at-start = at-test .before .before .before in
-    every-fail (λ (j : ℕ). isFinite (at (now (at-start .args .bodies)) j)) _ (omega arith) (sym (c .before .is-finite .ensures) ∙ not-yes _ (c .if1 .taken))
+returns c = every-fail _ _ (omega arith) (sym (c .before .is-finite .ensures) ∙ not-yes _ (c .if1 .taken))
 
 loop-again : tie.Need-loop-again Inv-loop μ-loop
 loop-again c =
-    let at-loop = c .before .before .before .before in
-    let at-start = at-loop .before .before in (
+    let at-loop = c .before .before .before .before in (
       omega arith,
       omega arith,
-      every-more (λ (j : ℕ). isFinite (at (now (at-start .args .bodies)) j)) (at-loop .loop .inv .2)
-          (sym (c .before .is-finite .ensures) ∙ not-no _ (c .if1 .left)),
+      every-more _ (at-loop .loop .inv .2) (sym (c .before .is-finite .ensures) ∙ not-no _ (c .if1 .left)),
     )
-
-returns-2 : tie.Need-returns-2 Inv-loop μ-loop
-returns-2 c = every-end (λ (j : ℕ). isFinite (at (now (c .before .before .before .args .bodies)) j)) (omega arith) (omega arith) (c .before .loop .inv .2)
 
 pub all-finite-spec : {M : Type 1} → statement M
 all-finite-spec =
     tie.close (tie.spec
       Inv-loop μ-loop (λ c. (omega arith, refl, every-none _)) (λ c. omega arith) (λ c. omega arith)
-      (λ c κs. omega arith) returns (λ c. omega arith) (λ c. omega arith) loop-again returns-2)
+      (λ c κs. omega arith) returns (λ c. omega arith) (λ c. omega arith) loop-again
+      (λ c. every-end _ (omega arith) (omega arith) (c .before .loop .inv .2)))

@@ -1,7 +1,7 @@
 -- `checks::joints_ok` meets its contract: `every` of the joints tested so far, turn by turn.
 use mathlib.Core.Path.{_≡_, sym, _∙_}
 use native.Mathlib.Omega.{arith}
-use Prim.Native.Nat.{ℕ, _≤_, _-_}
+use Prim.Native.Nat.{_≤_, _-_}
 use mathlib.Core.Bool.{true}
 use Rattle.arith.specs.Flow.{every}
 use Rattle.arith.specs.FlowLaws.{not-yes, not-no, every-none, every-more, every-fail, every-end}
@@ -16,26 +16,16 @@ abbrev μ-loop : tie.MeasureT-loop
 μ-loop count joints k₀ k = count - k
 
 returns : tie.Need-returns Inv-loop μ-loop
-returns c =
-    let at-loop = c .before .before .before .before in
-    let at-start = at-loop .before in
-    every-fail (λ (j : ℕ). jointOk (jointIn (at-start .args .t1) j)) _ (omega arith) (sym (c .before .joint-ok .ensures) ∙ not-yes _ (c .if1 .taken))
+returns c = every-fail _ _ (c .before .before .before .loop-test .taken) (sym (c .before .joint-ok .ensures) ∙ not-yes _ (c .if1 .taken))
 
 loop-again : tie.Need-loop-again Inv-loop μ-loop
 loop-again c =
     let at-loop = c .before .before .before .before in
-    let at-start = at-loop .before in (
-      omega arith,
-      every-more (λ (j : ℕ). jointOk (jointIn (at-start .args .t1) j)) (at-loop .loop .inv .1) (sym (c .before .joint-ok .ensures) ∙ not-no _ (c .if1 .left)),
-    )
-
-returns-2 : tie.Need-returns-2 Inv-loop μ-loop
-returns-2 c =
-    let at-start = c .before .before in
-    every-end (λ (j : ℕ). jointOk (jointIn (at-start .args .t1) j)) (omega arith) (omega arith) (c .before .loop .inv .1)
+    (omega arith, every-more _ (at-loop .loop .inv .1) (sym (c .before .joint-ok .ensures) ∙ not-no _ (c .if1 .left)))
 
 pub joints-ok-spec : {M : Type 1} → statement M
 joints-ok-spec =
     tie.close (tie.spec
       Inv-loop μ-loop (λ c. (omega arith, every-none _)) (λ c. omega arith) (λ c. omega arith)
-      (λ c κs. omega arith) returns (λ c. omega arith) (λ c. omega arith) loop-again returns-2)
+      (λ c κs. omega arith) returns (λ c. omega arith) (λ c. omega arith) loop-again
+      (λ c. every-end _ (omega arith) (omega arith) (c .before .loop .inv .1)))

@@ -10,32 +10,12 @@ use Rattle.step.proofs.LoopLaws.{not-pushed, not-moved, all-tried}
 use Rattle.step.proofs.integrator.candidate.Statement.{statement}
 use Rattle.step.proofs.integrator.candidate.Tie as tie
 
-transpose-requires : tie.Need-transpose-requires
-transpose-requires c κs =
-    let at-entry = c .before .before in
-    (at-entry .pre .0 .ours .ready, record { low = omega arith; apart = omega arith; there = omega (arith, at-entry .pre .0 .ours .long) })
-
-same-length : tie.Need-same-length
-same-length c =
-    let at-transpose = c .before .before .before .before in
-    at-transpose .transpose .ensures .0 .kept .size
-
 returns : tie.Need-returns
 returns c =
     let at-transpose = c .before .before .before .before in let at-entry = at-transpose .before .before .before in
     not-pushed (jobFor (at-entry .args .joints) (at-entry .args .task)) (now (at-entry .args .ia)) (now (at-entry .args .ib)) (at-entry .args .t)
     (at-entry .pre .0 .ours .ready .most) (at-entry .pre .0 .ours .ready .bodies) _ _ (at-transpose .transpose .result) (c .before .done .ensures)
     (c .if1 .taken) (at-transpose .transpose .ensures .0) _
-
-move-bodies-requires : tie.Need-move-bodies-requires
-move-bodies-requires c κs =
-    let at-transpose = c .before .before .before .before .before in let at-entry = at-transpose .before .before .before in
-    (omega (arith, at-entry .pre .0 .ours .long, at-transpose .transpose .ensures .0 .kept .size), at-entry .pre .0 .ours .ready .bodies)
-
-same-length-2 : tie.Need-same-length-2
-same-length-2 c =
-    let at-move-bodies = c .before .before .before .before in let at-transpose = at-move-bodies .before .before .before .before .before .before in
-    at-move-bodies .move-bodies .ensures .kept .size ∙ at-transpose .transpose .ensures .0 .kept .size
 
 returns-2 : tie.Need-returns-2
 returns-2 c =
@@ -55,14 +35,6 @@ write-rows-requires c κs =
       joined-sixteen (at-entry .pre .1 .joined),
     )
 
-same-length-3 : tie.Need-same-length-3
-same-length-3 c =
-    let at-slice-known3 = c .before .before .before .before .before .before in let at-move-bodies = at-slice-known3 .before .before in
-    let at-transpose = at-move-bodies .before .before .before .before .before .before in let at-entry = at-transpose .before .before .before in
-    c .before .before .write-rows .ensures (at-entry .args .t .bodies) (at-entry .pre .1 .joined) (now (at-entry .args .ia))
-    (now (at-entry .args .ib)) (at-entry .pre .1 .sides) .kept .size ∙ at-move-bodies .move-bodies .ensures .kept .size ∙
-    at-transpose .transpose .ensures .0 .kept .size
-
 returns-3 : tie.Need-returns-3
 returns-3 c =
     let at-write-rows = c .before .before in let at-if2 = at-write-rows .before .before in let at-done2 = at-if2 .before in
@@ -79,5 +51,5 @@ returns-3 c =
 pub candidate-spec : {M : Type 1} → statement M
 candidate-spec =
     tie.close (tie.spec
-      transpose-requires (λ c κs. search needs) same-length returns move-bodies-requires (λ c κs. search needs)
-      same-length-2 returns-2 write-rows-requires same-length-3 returns-3)
+      (λ c κs. search needs) (λ c κs. search needs) (λ c. omega arith) returns (λ c κs. search needs)
+      (λ c κs. search needs) (λ c. omega arith) returns-2 write-rows-requires (λ c. omega arith) returns-3)

@@ -3,99 +3,30 @@ use borrow.Author.Needs.{needs}
 use native.Mathlib.Omega.{arith}
 use mathlib.Core.Path.{_∙_}
 use denote.Ref.{now}
-use Rattle.step.specs.RunView.{impulsesAt, foundAt}
 use Rattle.step.proofs.StepLaws.{rows-at}
-use Rattle.step.proofs.PassLaws.{passed-is}
-use Rattle.step.proofs.NonlinearLaws.{correct-unsolved, correct-added, correct-not-added}
+use Rattle.step.proofs.NonlinearLaws.{correct-unsolved, correct-added}
 use Rattle.step.proofs.integrator.correct.Statement.{statement}
 use Rattle.step.proofs.integrator.correct.Tie as tie
-
-fill-rhs-requires : tie.Need-fill-rhs-requires
-fill-rhs-requires c κs =
-    let at-entry = c .before .before in
-    (at-entry .pre .ours .long, at-entry .pre .ours .ready .most)
-
-linear-solve-requires : tie.Need-linear-solve-requires
-linear-solve-requires c κs =
-    let at-fill-rhs = c .before .before .before in let at-entry = at-fill-rhs .before .before .before in
-    rows-at (at-entry .pre .ours .ready) (at-fill-rhs .fill-rhs .ensures (now (at-entry .args .ia)) (now (at-entry .args .ib)) .kept .size)
-
-same-length : tie.Need-same-length
-same-length c =
-    let at-linear-solve = c .before .before .before .before .before in let at-fill-rhs = at-linear-solve .before .before .before .before in
-    let at-entry = at-fill-rhs .before .before .before in
-    at-linear-solve .linear-solve .ensures .0 .kept .size ∙ at-fill-rhs .fill-rhs .ensures (now (at-entry .args .ia))
-    (now (at-entry .args .ib)) .kept .size
 
 returns : tie.Need-returns
 returns c =
     let at-linear-solve = c .before .before .before .before .before in let at-fill-rhs = at-linear-solve .before .before .before .before in
     let at-entry = at-fill-rhs .before .before .before in
-    passed-is 0 (λ x. impulsesAt x (at-entry .args .t)) (λ x. foundAt (now (at-entry .args .ia)) (now (at-entry .args .ib)) x (at-entry .args .t))
-    (c .pass-ended .ensures)
-    (correct-unsolved (at-entry .args .task .dt) (at-entry .args .task .cyclic) (now (at-entry .args .ia)) (now (at-entry .args .ib))
-    (at-entry .args .t) (at-entry .pre .apart) (at-entry .pre .ours .ready .most) (at-entry .pre .ours .ready .bodies)
-    (at-fill-rhs .fill-rhs .ensures (now (at-entry .args .ia)) (now (at-entry .args .ib))) (at-linear-solve .linear-solve .result)
-    (at-linear-solve .linear-solve .ensures .0) (c .before .before .done .ensures) (c .before .if1 .taken))
-
-add-impulses-requires : tie.Need-add-impulses-requires
-add-impulses-requires c κs =
-    let at-linear-solve = c .before .before .before .before .before in let at-fill-rhs = at-linear-solve .before .before .before .before in
-    let at-entry = at-fill-rhs .before .before .before in (
-      omega (
-        arith,
-        at-entry .pre .ours .long,
-        at-linear-solve .linear-solve .ensures .0 .kept .size,
-        at-fill-rhs .fill-rhs .ensures (now (at-entry .args .ia)) (now (at-entry .args .ib)) .kept .size,
-      ),
-      at-entry .pre .ours .ready .most,
-    )
-
-same-length-2 : tie.Need-same-length-2
-same-length-2 c =
-    let at-add-impulses = c .before .before .before .before .before in
-    let at-linear-solve = at-add-impulses .before .before .before .before .before .before in
-    let at-fill-rhs = at-linear-solve .before .before .before .before in let at-entry = at-fill-rhs .before .before .before in
-    at-add-impulses .add-impulses .ensures .kept .size ∙ at-linear-solve .linear-solve .ensures .0 .kept .size ∙ at-fill-rhs .fill-rhs .ensures
-    (now (at-entry .args .ia)) (now (at-entry .args .ib)) .kept .size
+    correct-unsolved (at-entry .args .task) (at-entry .pre) (at-fill-rhs .fill-rhs .ensures (now (at-entry .args .ia)) (now (at-entry .args .ib)))
+    (at-linear-solve .linear-solve .result) (at-linear-solve .linear-solve .ensures .0) (c .before .before .done .ensures) (c .before .if1 .taken)
+    (c .pass-after .ensures)
 
 returns-2 : tie.Need-returns-2
 returns-2 c =
-    let at-add-impulses = c .before .before .before .before .before in let at-if1 = at-add-impulses .before .before in
-    let at-done = at-if1 .before in let at-linear-solve = at-done .before .before .before in
-    let at-fill-rhs = at-linear-solve .before .before .before .before in let at-entry = at-fill-rhs .before .before .before in
-    passed-is 0 (λ x. impulsesAt x (at-entry .args .t)) (λ x. foundAt (now (at-entry .args .ia)) (now (at-entry .args .ib)) x (at-entry .args .t))
-    (c .pass-ended2 .ensures)
-    (correct-not-added (at-entry .args .task .dt) (at-entry .args .task .cyclic) (now (at-entry .args .ia)) (now (at-entry .args .ib))
-    (at-entry .args .t) (at-entry .pre .apart) (at-entry .pre .ours .ready .most) (at-entry .pre .ours .ready .bodies)
-    (at-fill-rhs .fill-rhs .ensures (now (at-entry .args .ia)) (now (at-entry .args .ib))) (at-linear-solve .linear-solve .result)
-    (at-linear-solve .linear-solve .ensures .0) (at-done .done .ensures) (at-if1 .if1 .left) (at-add-impulses .add-impulses .result)
-    (at-add-impulses .add-impulses .ensures) (c .before .before .done2 .ensures) (c .before .if2 .taken))
-
-same-length-3 : tie.Need-same-length-3
-same-length-3 c =
-    let at-add-impulses = c .before .before .before .before .before in
-    let at-linear-solve = at-add-impulses .before .before .before .before .before .before in
-    let at-fill-rhs = at-linear-solve .before .before .before .before in let at-entry = at-fill-rhs .before .before .before in
-    at-add-impulses .add-impulses .ensures .kept .size ∙ at-linear-solve .linear-solve .ensures .0 .kept .size ∙ at-fill-rhs .fill-rhs .ensures
-    (now (at-entry .args .ia)) (now (at-entry .args .ib)) .kept .size
-
-returns-3 : tie.Need-returns-3
-returns-3 c =
-    let at-add-impulses = c .before .before .before .before .before in let at-if1 = at-add-impulses .before .before in
-    let at-done = at-if1 .before in let at-linear-solve = at-done .before .before .before in
-    let at-fill-rhs = at-linear-solve .before .before .before .before in let at-entry = at-fill-rhs .before .before .before in
-    passed-is 0 (λ x. impulsesAt x (at-entry .args .t)) (λ x. foundAt (now (at-entry .args .ia)) (now (at-entry .args .ib)) x (at-entry .args .t))
-    (c .pass-ended3 .ensures)
-    (correct-added (at-entry .args .task .dt) (at-entry .args .task .cyclic) (now (at-entry .args .ia)) (now (at-entry .args .ib))
-    (at-entry .args .t) (at-entry .pre .apart) (at-entry .pre .ours .ready .most) (at-entry .pre .ours .ready .bodies)
-    (at-fill-rhs .fill-rhs .ensures (now (at-entry .args .ia)) (now (at-entry .args .ib))) (at-linear-solve .linear-solve .result)
-    (at-linear-solve .linear-solve .ensures .0) (at-done .done .ensures) (at-if1 .if1 .left) (at-add-impulses .add-impulses .result)
-    (at-add-impulses .add-impulses .ensures) (c .before .before .done2 .ensures) (c .before .if2 .left))
+    let at-add-impulses = c .before .before .before in let at-if1 = at-add-impulses .before .before in let at-done = at-if1 .before in
+    let at-linear-solve = at-done .before .before .before in let at-fill-rhs = at-linear-solve .before .before .before .before in
+    let at-entry = at-fill-rhs .before .before .before in
+    correct-added (at-entry .args .task) (at-entry .pre) (at-fill-rhs .fill-rhs .ensures (now (at-entry .args .ia)) (now (at-entry .args .ib)))
+    (at-linear-solve .linear-solve .result) (at-linear-solve .linear-solve .ensures .0) (at-done .done .ensures) (at-if1 .if1 .left)
+    (at-add-impulses .add-impulses .result) (at-add-impulses .add-impulses .ensures) (c .pass-after2 .ensures)
 
 pub correct-spec : {M : Type 1} → statement M
 correct-spec =
     tie.close (tie.spec
-      fill-rhs-requires linear-solve-requires (λ c κs. search needs) (λ c κs. search needs) same-length returns
-      add-impulses-requires (λ c κs. search needs) (λ c κs. search needs) same-length-2 returns-2
-      (λ c κs. search needs) same-length-3 returns-3)
+      (λ c κs. search needs) (λ c κs. search needs) (λ c κs. search needs) (λ c κs. search needs)
+      (λ c. omega arith) returns (λ c κs. search needs) (λ c κs. search needs) (λ c. omega arith) returns-2)

@@ -15,9 +15,6 @@ Inv-loop index₀ from n body k₀ k-end index k =
 abbrev μ-loop : tie.MeasureT-loop
 μ-loop index₀ from n body k₀ k-end index k = k-end - k
 
-loop-holds : tie.Need-loop-holds Inv-loop μ-loop
-loop-holds c = (omega arith, omega arith, omega arith, refl, spread-none _ _ _ _ (omega arith))
-
 loop-again : tie.Need-loop-again Inv-loop μ-loop
 loop-again c = (
   omega arith,
@@ -33,5 +30,5 @@ returns c = spread-end (omega arith) (omega arith) (omega arith) (c .before .loo
 pub fill-spec : {M : Type 1} → statement M
 fill-spec =
     tie.close (tie.spec
-      Inv-loop μ-loop (λ c. omega arith) loop-holds (λ c. omega arith) (λ c. omega arith) (λ c. omega arith)
-      (λ c. omega arith) loop-again (λ c. omega arith) returns)
+      Inv-loop μ-loop (λ c. omega arith) (λ c. omega arith) (λ c. omega arith) (λ c. omega arith)
+      (λ c. omega arith) (λ c. omega arith) loop-again (λ c. omega arith) returns)

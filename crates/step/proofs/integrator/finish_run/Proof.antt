@@ -11,16 +11,6 @@ use Rattle.step.proofs.FinishLaws.{not-weighed, not-rested, all-finishe
 use Rattle.step.proofs.integrator.finish_run.Statement.{statement}
 use Rattle.step.proofs.integrator.finish_run.Tie as tie
 
-prepare-masses-requires : tie.Need-prepare-masses-requires
-prepare-masses-requires c κs =
-    let at-entry = c .before .before .before in
-    (at-entry .pre .0 .long, at-entry .pre .0 .ready .bodies)
-
-same-length : tie.Need-same-length
-same-length c =
-    let at-prepare-masses = c .before .before .before .before .before in
-    at-prepare-masses .prepare-masses .ensures .kept .size
-
 returns : tie.Need-returns
 returns c =
     let at-prepare-masses = c .before .before .before .before .before in let at-entry = at-prepare-masses .before .before .before .before in
@@ -30,18 +20,7 @@ returns c =
     (at-prepare-masses .prepare-masses .ensures) (c .before .before .done .ensures) (c .before .if1 .taken))
 
 velocity-loop-requires : tie.Need-velocity-loop-requires
-velocity-loop-requires c κs =
-    let at-prepare-masses = c .before .before .before .before .before in let at-entry = at-prepare-masses .before .before .before .before in
-    record {
-      ready = rows-at (at-entry .pre .0 .ready) (at-prepare-masses .prepare-masses .ensures .kept .size);
-      long = omega (arith, at-entry .pre .0 .long, at-prepare-masses .prepare-masses .ensures .kept .size);
-    }
-
-same-length-2 : tie.Need-same-length-2
-same-length-2 c =
-    let at-velocity-loop = c .before .before .before .before in
-    let at-prepare-masses = at-velocity-loop .before .before .before .before .before .before in
-    at-velocity-loop .velocity-loop .ensures .kept .size ∙ at-prepare-masses .prepare-masses .ensures .kept .size
+velocity-loop-requires c κs = record { ready = search needs; long = search needs }
 
 returns-2 : tie.Need-returns-2
 returns-2 c =
@@ -51,24 +30,6 @@ returns-2 c =
     (at-entry .args .t) (at-entry .pre .0 .ready .most) (at-entry .pre .0 .ready .bodies) (at-prepare-masses .prepare-masses .result)
     (at-prepare-masses .prepare-masses .ensures) (at-done .done .ensures) (at-if1 .if1 .left) (at-velocity-loop .velocity-loop .result)
     (at-velocity-loop .velocity-loop .ensures) (c .before .done2 .ensures) (c .if2 .taken)
-
-make-states-requires : tie.Need-make-states-requires
-make-states-requires c κs =
-    let at-velocity-loop = c .before .before .before .before .before in
-    let at-prepare-masses = at-velocity-loop .before .before .before .before .before .before in
-    let at-entry = at-prepare-masses .before .before .before .before in (
-      omega
-          (arith, at-entry .pre .0 .long, at-velocity-loop .velocity-loop .ensures .kept .size, at-prepare-masses .prepare-masses .ensures .kept .size),
-      at-entry .pre .1,
-      at-entry .pre .0 .ready .bodies,
-    )
-
-same-length-3 : tie.Need-same-length-3
-same-length-3 c =
-    let at-make-states = c .before .before .before in let at-velocity-loop = at-make-states .before .before .before .before .before .before in
-    let at-prepare-masses = at-velocity-loop .before .before .before .before .before .before in
-    at-make-states .make-states .ensures .kept .size ∙ at-velocity-loop .velocity-loop .ensures .kept .size ∙
-    at-prepare-masses .prepare-masses .ensures .kept .size
 
 returns-3 : tie.Need-returns-3
 returns-3 c =
@@ -85,6 +46,6 @@ returns-3 c =
 pub finish-run-spec : {M : Type 1} → statement M
 finish-run-spec =
     tie.close (tie.spec
-      prepare-masses-requires (λ c κs. search needs) (λ c κs. search needs) same-length returns
-      velocity-loop-requires (λ c κs. search needs) same-length-2 returns-2 make-states-requires
-      (λ c κs. search needs) same-length-3 returns-3)
+      (λ c κs. search needs) (λ c κs. search needs) (λ c κs. search needs) (λ c. omega arith) returns
+      velocity-loop-requires (λ c κs. search needs) (λ c. omega arith) returns-2 (λ c κs. search needs)
+      (λ c κs. search needs) (λ c. omega arith) returns-3)

@@ -21,11 +21,6 @@ Inv-loop s₀ ia ib t joints task linear₀ k₀ s linear k =
 abbrev μ-loop : tie.MeasureT-loop
 μ-loop s₀ ia ib t joints task linear₀ k₀ s linear k = 32 - k
 
-clear-requires : tie.Need-clear-requires Inv-loop μ-loop
-clear-requires c κs =
-    let at-entry = c .before .before in
-    omega (arith, at-entry .pre .0 .ours .long, at-entry .pre .0 .ours .ready .most)
-
 loop-holds : tie.Need-loop-holds Inv-loop μ-loop
 loop-holds c =
     let at-entry = c .before .before .before .before .before in (
@@ -38,17 +33,7 @@ loop-holds c =
     )
 
 nonlinear-pass-requires : tie.Need-nonlinear-pass-requires Inv-loop μ-loop
-nonlinear-pass-requires c κs =
-    let at-loop = c .before .before in let at-clear = at-loop .before .before .before in let at-entry = at-clear .before .before .before in (
-      record {
-        ours = record {
-          ready = rows-at (at-entry .pre .0 .ours .ready) (at-loop .loop .inv .1 ∙ at-clear .clear .ensures .kept .size);
-          long = omega (arith, at-entry .pre .0 .ours .long, at-loop .loop .inv .1, at-clear .clear .ensures .kept .size);
-        };
-        apart = at-entry .pre .0 .apart;
-      },
-      at-entry .pre .1,
-    )
+nonlinear-pass-requires c κs = (record { ours = record { ready = search needs; long = search needs }; apart = search needs }, search needs)
 
 add-linear : tie.Need-add-linear Inv-loop μ-loop
 add-linear c =
@@ -61,17 +46,6 @@ add-linear c =
       nonlinear-few (now (at-entry .args .ia)) (now (at-entry .args .ib)) (at-loop .loop .s) (at-entry .args .t) (at-entry .pre .0 .ours .ready .most)
           (jobFor (at-entry .args .joints) (at-entry .args .task)) _ (at-nonlinear-pass .nonlinear-pass .ensures .is),
     )
-
-add-run-ended : tie.Need-add-run-ended Inv-loop μ-loop
-add-run-ended c =
-    let at-nonlinear-pass = c .before .before .before .before .before .before in let at-test = at-nonlinear-pass .before .before in
-    omega (arith, at-test .loop-test .taken)
-
-same-length : tie.Need-same-length Inv-loop μ-loop
-same-length c =
-    let at-s2 = c .before .before .before .before .before .before in let at-nonlinear-pass = at-s2 .before in
-    let at-loop = at-nonlinear-pass .before .before .before in let at-clear = at-loop .before .before .before in
-    at-nonlinear-pass .nonlinear-pass .ensures .kept .size ∙ at-loop .loop .inv .1 ∙ at-clear .clear .ensures .kept .size
 
 returns : tie.Need-returns Inv-loop μ-loop
 returns c =
@@ -88,16 +62,6 @@ returns c =
     (at-entry .pre .0 .apart) (at-entry .pre .0 .ours .ready .most) (at-entry .pre .0 .ours .ready .bodies)) (at-loop .loop .inv .3)
     (at-nonlinear-pass .nonlinear-pass .result) (at-nonlinear-pass .nonlinear-pass .ensures) (at-test .loop-test .taken)
     (c .before .before .pass .given .1)))
-
-add-k : tie.Need-add-k Inv-loop μ-loop
-add-k c =
-    let at-nonlinear-pass-arg = c .before .before .before .before .before .before in let at-test = at-nonlinear-pass-arg .before in
-    omega (arith, at-test .loop-test .taken)
-
-loop-less : tie.Need-loop-less Inv-loop μ-loop
-loop-less c =
-    let at-nonlinear-pass-arg = c .before .before .before .before .before .before in let at-test = at-nonlinear-pass-arg .before in
-    omega (arith, at-test .loop-test .taken)
 
 loop-again : tie.Need-loop-again Inv-loop μ-loop
 loop-again c =
@@ -120,11 +84,6 @@ loop-again c =
           (at-nonlinear-pass .nonlinear-pass .result) (at-nonlinear-pass .nonlinear-pass .ensures) (at-test .loop-test .taken) (c .enum-told .given .1),
     )
 
-same-length-2 : tie.Need-same-length-2 Inv-loop μ-loop
-same-length-2 c =
-    let at-clear = c .before .before .before .before .before in
-    c .before .before .loop .inv .1 ∙ at-clear .clear .ensures .kept .size
-
 returns-2 : tie.Need-returns-2 Inv-loop μ-loop
 returns-2 c =
     let at-loop = c .before .before in let at-clear = at-loop .before .before .before in let at-entry = at-clear .before .before .before in
@@ -139,6 +98,6 @@ returns-2 c =
 pub nonlinear-loop-spec : {M : Type 1} → statement M
 nonlinear-loop-spec =
     tie.close (tie.spec
-      Inv-loop μ-loop clear-requires loop-holds nonlinear-pass-requires add-linear (λ c. search needs)
-      add-run-ended (λ c κs. omega arith) same-length returns (λ c. search needs) add-k loop-less loop-again
-      (λ c κs. omega arith) same-length-2 returns-2)
+      Inv-loop μ-loop (λ c κs. search needs) loop-holds nonlinear-pass-requires add-linear (λ c. search needs)
+      (λ c. omega arith) (λ c κs. omega arith) (λ c. omega arith) returns (λ c. search needs) (λ c. omega arith)
+      (λ c. omega arith) loop-again (λ c κs. omega arith) (λ c. omega arith) returns-2)

@@ -14,11 +14,6 @@ use Rattle.step.proofs.FinishLaws.{started-as, not-started, not-met, al
 use Rattle.step.proofs.integrator.run.Statement.{statement}
 use Rattle.step.proofs.integrator.run.Tie as tie
 
-same-length : tie.Need-same-length
-same-length c =
-    let at-start = c .before .before .before .before .before in let at-row-bodies = at-start .before .before .before .before in
-    (at-start .start .ensures _ _ (at-row-bodies .row-bodies .ensures .1)) .kept .size
-
 returns : tie.Need-returns
 returns c =
     let at-start = c .before .before .before .before .before in let at-row-bodies = at-start .before .before .before .before in
@@ -47,13 +42,6 @@ nonlinear-loop-requires c κs =
       },
       record { joined = at-entry .pre .1; sides = at-row-bodies .row-bodies .ensures .1; rows-are = at-row-bodies .row-bodies .ensures .2 },
     )
-
-same-length-2 : tie.Need-same-length-2
-same-length-2 c =
-    let at-nonlinear-loop = c .before .before .before .before in
-    let at-slice-known2 = at-nonlinear-loop .before .before .before .before .before .before in let at-start = at-slice-known2 .before .before in
-    let at-row-bodies = at-start .before .before .before .before in
-    at-nonlinear-loop .nonlinear-loop .ensures .kept .size ∙ (at-start .start .ensures _ _ (at-row-bodies .row-bodies .ensures .1)) .kept .size
 
 returns-2 : tie.Need-returns-2
 returns-2 c =
@@ -144,6 +132,6 @@ pub run-spec : {M : Type 1} → statement M
 run-spec =
     tie.close (tie.spec
       (λ c. search needs) (λ c. search needs) (λ c κs. search needs) (λ c κs. search needs)
-      (λ c κs. search needs) (λ c κs. search needs) same-length returns nonlinear-loop-requires
-      (λ c κs. search needs) same-length-2 returns-2 finish-run-requires add-run-ended (λ c κs. search needs)
-      same-length-3 returns-3)
+      (λ c κs. search needs) (λ c κs. search needs) (λ c. omega arith) returns nonlinear-loop-requires
+      (λ c κs. search needs) (λ c. omega arith) returns-2 finish-run-requires add-run-ended
+      (λ c κs. search needs) same-length-3 returns-3)

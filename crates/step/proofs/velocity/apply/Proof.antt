@@ -8,32 +8,12 @@ use Rattle.step.proofs.VelocityLaws.{apply-stops, apply-then}
 use Rattle.step.proofs.velocity.apply.Statement.{statement}
 use Rattle.step.proofs.velocity.apply.Tie as tie
 
-transpose-requires : tie.Need-transpose-requires
-transpose-requires c κs =
-    let at-entry = c .before .before in
-    (at-entry .pre .ready, record { low = omega arith; apart = omega arith; there = omega (arith, at-entry .pre .long) })
-
-same-length : tie.Need-same-length
-same-length c =
-    let at-transpose = c .before .before .before .before in
-    at-transpose .transpose .ensures .0 .kept .size
-
 returns : tie.Need-returns
 returns c =
     let at-transpose = c .before .before .before .before in let at-entry = at-transpose .before .before .before in
     apply-stops (at-entry .args .t) (at-entry .pre .ready) (at-transpose .transpose .ensures .0)
     (fails _ (at-transpose .transpose .result) (c .before .done .ensures) (c .if1 .taken))
     (fails _ (at-transpose .transpose .result) (c .before .done .ensures) (c .if1 .taken))
-
-kick-candidates-requires : tie.Need-kick-candidates-requires
-kick-candidates-requires c κs =
-    let at-transpose = c .before .before .before .before .before in let at-entry = at-transpose .before .before .before in
-    (omega (arith, at-entry .pre .long, at-transpose .transpose .ensures .0 .kept .size), at-entry .pre .ready .bodies)
-
-same-length-2 : tie.Need-same-length-2
-same-length-2 c =
-    let at-slice-known2 = c .before .before .before .before .before .before in let at-transpose = at-slice-known2 .before .before in
-    c .before .before .kick-candidates .ensures .kept .size ∙ at-transpose .transpose .ensures .0 .kept .size
 
 returns-2 : tie.Need-returns-2
 returns-2 c =
@@ -46,5 +26,5 @@ returns-2 c =
 pub apply-spec : {M : Type 1} → statement M
 apply-spec =
     tie.close (tie.spec
-      transpose-requires (λ c κs. search needs) same-length returns kick-candidates-requires same-length-2
-      returns-2)
+      (λ c κs. search needs) (λ c κs. search needs) (λ c. omega arith) returns (λ c κs. search needs)
+      (λ c. omega arith) returns-2)

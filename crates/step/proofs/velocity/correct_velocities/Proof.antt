@@ -2,64 +2,30 @@
 use borrow.Author.Needs.{needs}
 use native.Mathlib.Omega.{arith}
 use mathlib.Core.Path.{_∙_}
-use Rattle.step.specs.View.{candidatesAt}
 use Rattle.step.proofs.StepLaws.{rows-at}
-use Rattle.step.proofs.PassLaws.{passed-is}
-use Rattle.step.proofs.VelocityLaws.{rest-unsolved, rest-kicked, rest-not-kicked}
+use Rattle.step.proofs.VelocityLaws.{rest-unsolved, rest-kicked}
 use Rattle.step.proofs.velocity.correct_velocities.Statement.{statement}
 use Rattle.step.proofs.velocity.correct_velocities.Tie as tie
-
-same-length : tie.Need-same-length
-same-length c =
-    let at-linear-solve = c .before .before .before .before .before in
-    at-linear-solve .linear-solve .ensures .0 .kept .size
 
 returns : tie.Need-returns
 returns c =
     let at-linear-solve = c .before .before .before .before .before in let at-entry = at-linear-solve .before .before .before in
-    passed-is 0 (λ x. candidatesAt x (at-entry .args .t .bodies)) (λ x. candidatesAt x (at-entry .args .t .bodies)) (c .pass-ended .ensures)
-    (rest-unsolved (at-entry .args .cyclic) (at-entry .args .t) (at-entry .pre .ready) (at-linear-solve .linear-solve .result)
-    (at-linear-solve .linear-solve .ensures .0) (c .before .before .done .ensures) (c .before .if1 .taken))
+    rest-unsolved (at-entry .args .cyclic) (at-entry .args .t) (at-entry .pre .ready) (at-linear-solve .linear-solve .result)
+    (at-linear-solve .linear-solve .ensures .0) (c .before .before .done .ensures) (c .before .if1 .taken) (c .pass-after .ensures)
 
 apply-requires : tie.Need-apply-requires
-apply-requires c κs =
-    let at-linear-solve = c .before .before .before .before .before in let at-entry = at-linear-solve .before .before .before in
-    record {
-      ready = rows-at (at-entry .pre .ready) (at-linear-solve .linear-solve .ensures .0 .kept .size);
-      long = omega (arith, at-entry .pre .long, at-linear-solve .linear-solve .ensures .0 .kept .size);
-    }
-
-same-length-2 : tie.Need-same-length-2
-same-length-2 c =
-    let at-apply = c .before .before .before .before .before in let at-linear-solve = at-apply .before .before .before .before .before .before in
-    at-apply .apply .ensures .kept .size ∙ at-linear-solve .linear-solve .ensures .0 .kept .size
+apply-requires c κs = record { ready = search needs; long = search needs }
 
 returns-2 : tie.Need-returns-2
 returns-2 c =
-    let at-apply = c .before .before .before .before .before in let at-if1 = at-apply .before .before in let at-done = at-if1 .before in
+    let at-apply = c .before .before .before in let at-if1 = at-apply .before .before in let at-done = at-if1 .before in
     let at-linear-solve = at-done .before .before .before in let at-entry = at-linear-solve .before .before .before in
-    passed-is 0 (λ x. candidatesAt x (at-entry .args .t .bodies)) (λ x. candidatesAt x (at-entry .args .t .bodies)) (c .pass-ended2 .ensures)
-    (rest-not-kicked (at-entry .args .cyclic) (at-entry .args .t) (at-entry .pre .ready) (at-linear-solve .linear-solve .result)
+    rest-kicked (at-entry .args .cyclic) (at-entry .args .t) (at-entry .pre .ready) (at-linear-solve .linear-solve .result)
     (at-linear-solve .linear-solve .ensures .0) (at-done .done .ensures) (at-if1 .if1 .left) (at-apply .apply .result) (at-apply .apply .ensures)
-    (c .before .before .done2 .ensures) (c .before .if2 .taken))
-
-same-length-3 : tie.Need-same-length-3
-same-length-3 c =
-    let at-apply = c .before .before .before .before .before in let at-linear-solve = at-apply .before .before .before .before .before .before in
-    at-apply .apply .ensures .kept .size ∙ at-linear-solve .linear-solve .ensures .0 .kept .size
-
-returns-3 : tie.Need-returns-3
-returns-3 c =
-    let at-apply = c .before .before .before .before .before in let at-if1 = at-apply .before .before in let at-done = at-if1 .before in
-    let at-linear-solve = at-done .before .before .before in let at-entry = at-linear-solve .before .before .before in
-    passed-is 0 (λ x. candidatesAt x (at-entry .args .t .bodies)) (λ x. candidatesAt x (at-entry .args .t .bodies)) (c .pass-ended3 .ensures)
-    (rest-kicked (at-entry .args .cyclic) (at-entry .args .t) (at-entry .pre .ready) (at-linear-solve .linear-solve .result)
-    (at-linear-solve .linear-solve .ensures .0) (at-done .done .ensures) (at-if1 .if1 .left) (at-apply .apply .result) (at-apply .apply .ensures)
-    (c .before .before .done2 .ensures) (c .before .if2 .left))
+    (c .pass-after2 .ensures)
 
 pub correct-velocities-spec : {M : Type 1} → statement M
 correct-velocities-spec =
     tie.close (tie.spec
-      (λ c κs. c .before .before .pre .ready) (λ c κs. search needs) (λ c κs. search needs) same-length returns
-      apply-requires (λ c κs. search needs) (λ c κs. search needs) same-length-2 returns-2
-      (λ c κs. search needs) same-length-3 returns-3)
+      (λ c κs. c .before .before .pre .ready) (λ c κs. search needs) (λ c κs. search needs) (λ c. omega arith) returns
+      apply-requires (λ c κs. search needs) (λ c. omega arith) returns-2)

@@ -32,9 +32,7 @@ loop-holds c = (
 )
 
 velocity-pass-requires : tie.Need-velocity-pass-requires Inv-loop μ-loop
-velocity-pass-requires c κs =
-    let at-loop = c .before .before in let at-entry = at-loop .before .before in
-    record { ready = rows-at (at-entry .pre .ready) (at-loop .loop .inv .1); long = omega (arith, at-entry .pre .long, at-loop .loop .inv .1) }
+velocity-pass-requires c κs = record { ready = search needs; long = search needs }
 
 add-linear : tie.Need-add-linear Inv-loop μ-loop
 add-linear c =
@@ -48,12 +46,6 @@ add-linear c =
           (at-entry .args .cyclic) _ (at-velocity-pass .velocity-pass .ensures .is),
     )
 
-same-length : tie.Need-same-length Inv-loop μ-loop
-same-length c =
-    let at-s = c .before .before .before .before .before .before in let at-velocity-pass = at-s .before in
-    let at-loop = at-velocity-pass .before .before .before in
-    at-velocity-pass .velocity-pass .ensures .kept .size ∙ at-loop .loop .inv .1
-
 returns : tie.Need-returns Inv-loop μ-loop
 returns c =
     let at-s = c .before .before .before .before .before .before in let at-velocity-pass = at-s .before in
@@ -65,16 +57,6 @@ returns c =
     (same-pass (at-entry .args .cyclic) (at-entry .args .t) (at-entry .pre .ready)) (at-loop .loop .inv .3)
     (at-velocity-pass .velocity-pass .result) (at-velocity-pass .velocity-pass .ensures) (at-test .loop-test .taken)
     (c .before .before .pass .given .1)))
-
-add-k : tie.Need-add-k Inv-loop μ-loop
-add-k c =
-    let at-velocity-pass-arg = c .before .before .before .before .before .before in let at-test = at-velocity-pass-arg .before in
-    omega (arith, at-test .loop-test .taken)
-
-loop-less : tie.Need-loop-less Inv-loop μ-loop
-loop-less c =
-    let at-velocity-pass-arg = c .before .before .before .before .before .before in let at-test = at-velocity-pass-arg .before in
-    omega (arith, at-test .loop-test .taken)
 
 loop-again : tie.Need-loop-again Inv-loop μ-loop
 loop-again c =
@@ -106,5 +88,5 @@ pub velocity-loop-spec : {M : Type 1} → statement M
 velocity-loop-spec =
     tie.close (tie.spec
       Inv-loop μ-loop loop-holds velocity-pass-requires add-linear (λ c. search needs) (λ c κs. omega arith)
-      same-length returns (λ c. search needs) add-k loop-less loop-again (λ c κs. omega arith)
-      (λ c. c .before .before .loop .inv .1) returns-2)
+      (λ c. omega arith) returns (λ c. search needs) (λ c. omega arith) (λ c. omega arith) loop-again
+      (λ c κs. omega arith) (λ c. c .before .before .loop .inv .1) returns-2)

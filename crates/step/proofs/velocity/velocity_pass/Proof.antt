@@ -9,32 +9,12 @@ use Rattle.step.proofs.VelocityLaws.{rates-fail, at-rest, kicked-on}
 use Rattle.step.proofs.velocity.velocity_pass.Statement.{statement}
 use Rattle.step.proofs.velocity.velocity_pass.Tie as tie
 
-velocity-rhs-requires : tie.Need-velocity-rhs-requires
-velocity-rhs-requires c κs =
-    let at-entry = c .before .before in
-    record { ready = at-entry .pre .ready; long = at-entry .pre .long }
-
-same-length : tie.Need-same-length
-same-length c =
-    let at-velocity-rhs = c .before .before .before .before .before in
-    at-velocity-rhs .velocity-rhs .ensures .kept .size
-
 returns : tie.Need-returns
 returns c =
     let at-velocity-rhs = c .before .before .before .before .before in let at-entry = at-velocity-rhs .before .before .before in
     passed-is 0 (λ x. candidatesAt x (at-entry .args .t .bodies)) (λ x. candidatesAt x (at-entry .args .t .bodies)) (c .pass-ended .ensures)
     (rates-fail (at-entry .args .cyclic) (at-entry .args .t) (at-entry .pre .ready) (at-velocity-rhs .velocity-rhs .result)
     (at-velocity-rhs .velocity-rhs .ensures) (c .before .before .done .ensures) (c .before .if1 .taken))
-
-compatible-requires : tie.Need-compatible-requires
-compatible-requires c κs =
-    let at-velocity-rhs = c .before .before .before .before .before in let at-entry = at-velocity-rhs .before .before .before in
-    (omega (arith, at-entry .pre .long, at-velocity-rhs .velocity-rhs .ensures .kept .size), at-entry .pre .ready .most)
-
-same-length-2 : tie.Need-same-length-2
-same-length-2 c =
-    let at-slice-known2 = c .before .before .before .before .before .before in let at-velocity-rhs = at-slice-known2 .before .before in
-    at-velocity-rhs .velocity-rhs .ensures .kept .size
 
 returns-2 : tie.Need-returns-2
 returns-2 c =
@@ -46,19 +26,7 @@ returns-2 c =
     (c .before .if2 .taken))
 
 correct-velocities-requires : tie.Need-correct-velocities-requires
-correct-velocities-requires c κs =
-    let at-slice-known2 = c .before .before .before .before .before .before in let at-velocity-rhs = at-slice-known2 .before .before in
-    let at-entry = at-velocity-rhs .before .before .before in
-    record {
-      ready = rows-at (at-entry .pre .ready) (at-velocity-rhs .velocity-rhs .ensures .kept .size);
-      long = omega (arith, at-entry .pre .long, at-velocity-rhs .velocity-rhs .ensures .kept .size);
-    }
-
-same-length-3 : tie.Need-same-length-3
-same-length-3 c =
-    let at-compatible-arg = c .before .before .before .before .before .before in
-    let at-velocity-rhs = at-compatible-arg .before .before .before .before .before in
-    c .before .before .correct-velocities .ensures .kept .size ∙ at-velocity-rhs .velocity-rhs .ensures .kept .size
+correct-velocities-requires c κs = record { ready = search needs; long = search needs }
 
 returns-3 : tie.Need-returns-3
 returns-3 c =
@@ -72,6 +40,6 @@ returns-3 c =
 pub velocity-pass-spec : {M : Type 1} → statement M
 velocity-pass-spec =
     tie.close (tie.spec
-      velocity-rhs-requires (λ c κs. search needs) (λ c κs. search needs) same-length returns
-      compatible-requires (λ c κs. search needs) same-length-2 returns-2 correct-velocities-requires
-      same-length-3 returns-3)
+      (λ c κs. search needs) (λ c κs. search needs) (λ c κs. search needs) (λ c. omega arith) returns
+      (λ c κs. search needs) (λ c κs. search needs) (λ c. omega arith) returns-2 correct-velocities-requires
+      (λ c. omega arith) returns-3)

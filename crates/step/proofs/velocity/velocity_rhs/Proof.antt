@@ -27,18 +27,6 @@ loop-holds c =
       no-body-remembered _ (c .no-motion2 .ensures),
     )
 
-load-row-requires : tie.Need-load-row-requires Inv-loop μ-loop
-load-row-requires c κs =
-    let at-entry = c .before .before .before .before .before .before in
-    omega (
-      arith,
-      c .before .loop-test .taken,
-      at-entry .pre .ready .most,
-      at-entry .pre .ready .table,
-      at-entry .pre .long,
-      c .before .before .loop .inv .1,
-    )
-
 motion-again-requires : tie.Need-motion-again-requires Inv-loop μ-loop
 motion-again-requires c κs =
     let at-test = c .before .before .before in let at-loop = at-test .before in let at-entry = at-loop .before .before .before .before in (
@@ -63,12 +51,6 @@ motion-again-requires-2 c κs =
       ),
       at-loop .loop .inv .4,
     )
-
-same-length : tie.Need-same-length Inv-loop μ-loop
-same-length c =
-    let at-motion-again-arg = c .before .before .before .before .before .before in
-    let at-loop = at-motion-again-arg .before .before .before .before in
-    at-loop .loop .inv .1
 
 returns : tie.Need-returns Inv-loop μ-loop
 returns c =
@@ -104,11 +86,6 @@ add-k c =
     let at-entry = at-test .before .before .before .before .before in
     omega (arith, at-test .loop-test .taken, at-entry .pre .ready .most)
 
-loop-less : tie.Need-loop-less Inv-loop μ-loop
-loop-less c =
-    let at-motion-again = c .before .before .before .before .before .before in let at-test = at-motion-again .before .before .before .before in
-    omega (arith, at-test .loop-test .taken)
-
 loop-again : tie.Need-loop-again Inv-loop μ-loop
 loop-again c =
     let at-velocity = c .before .before .before in let at-motion-again2 = at-velocity .before in
@@ -134,7 +111,7 @@ returns-2 c =
 pub velocity-rhs-spec : {M : Type 1} → statement M
 velocity-rhs-spec =
     tie.close (tie.spec
-      Inv-loop μ-loop (λ c κs. omega arith) (λ c κs. omega arith) loop-holds load-row-requires
+      Inv-loop μ-loop (λ c κs. omega arith) (λ c κs. omega arith) loop-holds (λ c κs. search needs)
       motion-again-requires motion-again-requires-2 (λ c κs. omega arith) (λ c. search needs)
-      (λ c. search needs) same-length returns add-s mul-s slice-write-s add-k loop-less loop-again
-      (λ c. omega arith) returns-2)
+      (λ c. search needs) (λ c. omega arith) returns add-s mul-s slice-write-s add-k (λ c. omega arith)
+      loop-again (λ c. omega arith) returns-2)
