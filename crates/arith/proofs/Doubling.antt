@@ -7,8 +7,7 @@ use lib.Pow.{pow-add, shl-exact}
 
 pub mod-times : (a b d : ℕ) → a % d * b % d ≡ a * b % d
 mod-times a b d =
-    let q = a / d in
-    let r = a % d in
+    let q = a / d in let r = a % d in
     sym (ap (λ (x : ℕ). x * b % d) (sym (div-add-mod' a d))
     ∙ ap (λ (x : ℕ). x % d) (add-mul (q * d) r b ∙ ap (λ (x : ℕ). x + r * b) (mul-right-comm q d b))
     ∙ mul-add-mod-self-right (q * b) d (r * b))

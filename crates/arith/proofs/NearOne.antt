@@ -48,10 +48,7 @@ pub checked : (m q : ℕ) → q / 67108864 * (q / 67108864) ≤ m
     → difference m q * 134217728 ≤ q % 67108864 * (q % 67108864) + 9007199254740992 + q
     → NearRoot (m * 4503599627370496) q
 checked m q i j h k =
-    let a = q / 67108864 in
-    let b = q % 67108864 in
-    let d = m - a * a in
-    let u = difference m q in
+    let a = q / 67108864 in let b = q % 67108864 in let d = m - a * a in let u = difference m q in
     let q-is : a * 67108864 + b ≡ q = div-add-mod' q 67108864 in
     let z = b * b + 9007199254740992 in
     let n : NearRoot ((a * a + d) * 4503599627370496) (a * 67108864 + b) =
@@ -89,8 +86,7 @@ put-back n e = omega arith
 root-of-bits : (b n : ℕ) → b / 4503599627370496 ≡ 1023 → n / 4503599627370496 ≡ 1023
     → NearRoot ((b - 4602678819172646912) * 2 ^ 52) (n - 4602678819172646912) → ofBits binary64 n ≡ sqrt binary64 (ofBits binary64 b)
 root-of-bits b n e i near =
-    let m = b - 4602678819172646912 in
-    let q = n - 4602678819172646912 in
+    let m = b - 4602678819172646912 in let q = n - 4602678819172646912 in
     ap (ofBits binary64) (sym (put-back n i))
     ∙ joined m 1022 q (digits-low b e) (digits-high b e) (lit< tt) near .1
     ∙ ap (λ (x : ℕ). roundRoot binary64 (m * 2 ^ (x + 1073))) (sym e)

@@ -102,8 +102,7 @@ no-nan x e h = no-nan-at x (ap (lt x) (sym e) ∙ h)
 bits-lt : (m : ℕ) (e : ℤ) → T (fits binary64 (fin false m e)) → toBits binary64 (fin false m e) < 9218868437227405312
 unfolding toBits
 bits-lt m e f =
-    let n = m * up e * 2 ^ 1074 / down e in
-    let k = size n - 53 in
+    let n = m * up e * 2 ^ 1074 / down e in let k = size n - 53 in
     let n-lt : n < 2 ^ 2098 =
     div-lt-iff-lt-mul (down-pos e) .1
     (lt-of-lt-of-le (mul-lt-mul-of-pos-right (fits-below binary64 false m e f) (pow-pos 1074))
@@ -152,8 +151,7 @@ module _ (x : Float) (t : ℕ) (s : t < 2 ^ 52) (least : (A : ℕ) → HasValue 
   some : (g : ℕ) → HasValue x false ((4503599627370496 + t) * 2 ^ g) (2 ^ 1074)
       → (1025 ≤ suc g) × HasValue x false (doublings (suc g) t * 2 ^ 1024) (2 ^ 1074)
   some g v =
-      let q = 4503599627370496 + t in
-      let n = suc g - 1025 in
+      let q = 4503599627370496 + t in let n = suc g - 1025 in
       let h : 1024 ≤ g = far q g (room t s) (least (q * 2 ^ g) v) in
       let same : q * 2 ^ g ≡ doublings (suc g) t * 2 ^ 1024 =
       ap (λ (z : ℕ). q * 2 ^ z) (split g h)
@@ -180,11 +178,8 @@ module _ (x : Float) (t : ℕ) (s : t < 2 ^ 52) (least : (A : ℕ) → HasValue 
 located-bits : (m : ℕ) (e : ℤ) → T (fits binary64 (fin false m e)) → core * 1 * down e ≤ m * up e * 2 ^ 47
     → Located (fin false m e) (toBits binary64 (fin false m e))
 located-bits m e f h =
-    let x = fin false m e in
-    let b = toBits binary64 x in
-    let g = b / 4503599627370496 in
-    let t = b % 4503599627370496 in
-    let l = bits-lt m e f in
+    let x = fin false m e in let b = toBits binary64 x in let g = b / 4503599627370496 in
+    let t = b % 4503599627370496 in let l = bits-lt m e f in
     let is : x ≡ ofFields binary64 false g t = sym (ofBits-toBits binary64 x f) ∙ fields b l in
     let least : (A : ℕ) → HasValue x false A (2 ^ 1074) → digits * 2 ^ 1024 ≤ A =
     λ A v. at-least (m * up e) (down e) A (down-pos e) h (v .1) in
@@ -198,8 +193,7 @@ located-of (inf true) f h k = absurd (true≢false h)
 located-of (inf false) f h k = no k
 located-of (fin false m e) f h k = located-bits m e f (no-lt (m * up e * 2 ^ 47) (core * 1 * down e) h)
 located-of (fin true m e) f h k =
-    let a = m * up e * 2 ^ 47 in
-    let b = core * 1 * down e in
+    let a = m * up e * 2 ^ 47 in let b = core * 1 * down e in
     absurd (not-le-of-lt (lt-of-lt-of-le (tau-pos (down e) (down-pos e)) (le-add-left b a)) (no-lt 0 (a + b) h))
 
 pub located : (x : Float) {big : Float} → big ≡ inf false → T (fits binary64 x) → lt x TAU ≡ false → lt x big ≡ true
@@ -227,8 +221,7 @@ product r h =
 pub reduced : (x : Float) (n r : ℕ) → HasValue x false (n * 2 ^ 1024) (2 ^ 1074) → r ≡ n % digits
     → mul binary64 (ofInt binary64 (pos r)) unit ≡ rem binary64 x TAU
 reduced x n r v e =
-    let k = 2 ^ 1024 in
-    let K = pow-pos 1024 in
+    let k = 2 ^ 1024 in let K = pow-pos 1024 in
     product r (subst (λ (z : ℕ). z ≤ 2 ^ 53) (sym e) (remainder-lt n))
     ∙ round-same binary64 false r (2 ^ 50) (r * k) (2 ^ 1074) (pow-pos 50) (pow-pos 1074) (sym (mul-assoc r k (2 ^ 50)))
     ∙ ap (λ (z : ℕ). round binary64 false (z * k) (2 ^ 1074)) e

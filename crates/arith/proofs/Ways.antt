@@ -77,8 +77,7 @@ within-four nan = refl
 within-four (inf true) = refl
 within-four (inf false) = refl
 within-four (fin s m e) =
-    let h = fin s m e in
-    let test = Ieee.le h (F 0x4010_0000_0000_0000) in
+    let h = fin s m e in let test = Ieee.le h (F 0x4010_0000_0000_0000) in
     let low : not (Ieee.lt h (F 0)) ≡ Ieee.le (F 0) h = ap not (lt-val h (F 0) tt tt) ∙ Bool·not-not _ ∙ sym (le-val (F 0) h tt tt) in
     ap (λ (b : Bool). b && test) low
 

@@ -67,8 +67,7 @@ Near h n den g = (g * den * (h * 2) ≤ n * (h * 2) + (n + h * den)) × (n * (h 
 
 join : (h n den c k w : ℕ) → Half n (den * k) c → k * h ≤ w + h → w * den ≤ n → Near h n den (c * k)
 join h n den c k w x d e =
-    let a = mul-le-mul-right h (x .0) in
-    let b = mul-le-mul-right h (x .1) in
+    let a = mul-le-mul-right h (x .0) in let b = mul-le-mul-right h (x .1) in
     let f = mul-le-mul-right den d in
     (omega arith, omega arith)
 

@@ -111,8 +111,7 @@ imp₂ P Q h x y =
 
 trans-mk : (a b c : Fr) → T (leq (mk a) (mk b) && leq (mk b) (mk c)) → mk a ≤q mk c
 trans-mk a b c t =
-    let ab = leq (mk a) (mk b) in
-    let bc = leq (mk b) (mk c) in
+    let ab = leq (mk a) (mk b) in let bc = leq (mk b) (mk c) in
     ≤-mk a c (le-transF a b c (mk-≤ a b (and-l ab bc t)) (mk-≤ b c (and-r ab bc t)))
 
 pub ≤q-trans : (x y z : ℚ) → x ≤q y → y ≤q z → x ≤q z
@@ -122,8 +121,7 @@ pub ≤q-trans : (x y z : ℚ) → x ≤q y → y ≤q z → x ≤q z
 
 antisymm-mk : (a b : Fr) → T (leq (mk a) (mk b) && leq (mk b) (mk a)) → mk a ≡ mk b
 antisymm-mk a b t =
-    let ab = leq (mk a) (mk b) in
-    let ba = leq (mk b) (mk a) in
+    let ab = leq (mk a) (mk b) in let ba = leq (mk b) (mk a) in
     Quot·sound (le-antisymm (mk-≤ a b (and-l ab ba t)) (mk-≤ b a (and-r ab ba t)))
 
 pub ≤q-antisymm : (x y : ℚ) → x ≤q y → y ≤q x → x ≡ y
@@ -173,8 +171,7 @@ nn-mul : (a b : Fr) → LeF (whole 0 0) a → LeF (whole 0 0) b → LeF (whole 0
 nn-mul a b h k =
     let h' : a .n ≤ a .p = omega arith in
     let k' : b .n ≤ b .p = omega arith in
-    let u = le-dest h' in
-    let v = le-dest k' in
+    let u = le-dest h' in let v = le-dest k' in
     let w : a .p * b .n + a .n * b .p ≤ a .p * b .p + a .n * b .n = subst (λ (x : ℕ). x * b .n + a .n * b .p ≤ x * b .p + a .n * b .n) (u .1)
     (subst (λ (x : ℕ). (a .n + u .0) * b .n + a .n * x ≤ (a .n + u .0) * x + a .n * b .n) (v .1) (four (a .n) (u .0) (b .n) (v .0))) in
     omega arith

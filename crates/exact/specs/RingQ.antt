@@ -204,10 +204,8 @@ unfolding same
 abs-quot D v w R Dp e h =
     let c = R / D + 1 in
     let l : R ≤ D * c = le-up (R / D) (lt-div-mul-add Dp) in
-    let k = ≤q-sub (iv R) (iv (D * c)) (iv-le R (D * c) l) in
-    let ρ = iv R ∷ iv (D * c) ∷ w ∷ [] in
-    let σ = qn D ∷ iv c ∷ v ∷ [] in
-    let t = qn-pos D Dp in
+    let k = ≤q-sub (iv R) (iv (D * c)) (iv-le R (D * c) l) in let ρ = iv R ∷ iv (D * c) ∷ w ∷ [] in
+    let σ = qn D ∷ iv c ∷ v ∷ [] in let t = qn-pos D Dp in
     let below = ring ρ ((var 1 :- var 0) :+ (var 0 :- var 2)) (var 1 :- var 2) tt
     ∙ ap₂ (λ a b. a -q b) (sym (iv-scale D c)) (sym e) ∙ ring σ (var 0 :* var 1 :- var 0 :* var 2) (var 0 :* (var 1 :- var 2)) tt in
     let above = ring ρ ((var 1 :- var 0) :+ (var 0 :+ var 2)) (var 1 :+ var 2) tt

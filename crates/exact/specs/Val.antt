@@ -30,10 +30,8 @@ has→val (fin t m e) s a c C h = (tt, ap (λ b. sg b (m * up e) (down e) (down-
 -- ---- `round` in whole numbers
 small : (h n den g P O : ℕ) → Near h n den g → n ≤ P * den → 0 < den → 0 < h → 0 < P → P * 4 ≤ O → g < O
 small h n den g P O x a D H Pp o =
-    let b = mul-le-mul-right (h * 2) a in
-    let c = mul-le-mul-right (P * den) H in
-    let d = mul-le-mul-right (h * den) Pp in
-    let e = mul-le-mul-right (den * (h * 2)) o in
+    let b = mul-le-mul-right (h * 2) a in let c = mul-le-mul-right (P * den) H in
+    let d = mul-le-mul-right (h * den) Pp in let e = mul-le-mul-right (den * (h * 2)) o in
     let z : 0 < P * den * h = mul-pos (mul-pos Pp D) H in
     let x0 = x .0 in
     lt-of-mul-lt-mul-right (den * (h * 2))
@@ -52,10 +50,8 @@ rnd-ge M = omega arith
 within : (h num den g L u M e : ℕ) → Near h (num * L) den g → num * u ≤ M * den → M + h * 2 ≤ e * (h * 2) → u ≤ L → 0 < h
     → (g * den * u ≤ num * L * u + e * (den * L)) × (num * L * u ≤ g * den * u + e * (den * L))
 within h num den g L u M e x m k l H =
-    let a = mul-le-mul-right u (x .0) in
-    let b = mul-le-mul-right u (x .1) in
-    let c = mul-le-mul-right L m in
-    let d = mul-le-mul-right (den * L) k in
+    let a = mul-le-mul-right u (x .0) in let b = mul-le-mul-right u (x .1) in
+    let c = mul-le-mul-right L m in let d = mul-le-mul-right (den * L) k in
     let f = mul-le-mul-right (h * den) l in
     let H2 : 0 < h * 2 = omega arith in
     let p : g * den * u * (h * 2) ≤ (num * L * u + e * (den * L)) * (h * 2) = omega arith in
@@ -160,8 +156,7 @@ sum-rounds true a false b c C = go (ltb a b) (ltb→lt a b) (nltb→le a b) (ltb
     go true p q y r = let p' = p tt in record { sign = false; num = b - a; den = c; den-pos = C; is = refl; value = less a b (b - a) c C (omega arith) .1 }
     go false p q true r = let q' = q tt in record { sign = true; num = a - b; den = c; den-pos = C; is = refl; value = more a b (a - b) c C (omega arith) .1 }
     go false p q false r =
-        let q' = q tt in
-        let r' = r tt in
+        let q' = q tt in let r' = r tt in
         record { sign = false; num = a - b; den = c; den-pos = C; is = refl; value = less a b (a - b) c C (omega arith) .1 }
 
 -- ±a / x and ±b / y over the common denominator
@@ -221,12 +216,8 @@ mul-rounds (inf s) y p q = absurd p
 mul-rounds (fin s m e) nan p q = absurd q
 mul-rounds (fin s m e) (inf t) p q = absurd q
 mul-rounds (fin s m e) (fin t n d) p q = record {
-  sign = unlike s t;
-  num = m * up e * (n * up d);
-  den = down e * down d;
-  den-pos = mul-pos (down-pos e) (down-pos d);
-  is = refl;
-  value = times s t (m * up e) (n * up d) (down e) (down d) (down-pos e) (down-pos d);
+  sign = unlike s t; num = m * up e * (n * up d); den = down e * down d; den-pos = mul-pos (down-pos e) (down-pos d);
+  is = refl; value = times s t (m * up e) (n * up d) (down e) (down d) (down-pos e) (down-pos d);
 }
 
 pub mul-err : (x y : Float) (M : ℕ) → T (finite x) → T (finite y) → Abs (val x *q val y) M → M ≤ U * huge

@@ -64,9 +64,7 @@ units-fit q k a h = subst (λ (x : Float). T (fits binary64 x)) (sym (units-is q
 
 pub bits-are : (q k : ℕ) → 2 ^ 52 ≤ q → q < 2 ^ 53 → k < 2046 → ofBits binary64 (k * 4503599627370496 + q) ≡ units binary64 false q k
 bits-are q k a b c =
-    let v = units binary64 false q k in
-    let h = fine q k b c in
-    let A = q * 2 ^ k in
+    let v = units binary64 false q k in let h = fine q k b c in let A = q * 2 ^ k in
     let e : toBits binary64 v ≡ k * 4503599627370496 + q =
     toBits-at binary64 v A (units-val binary64 false q k h)
     ∙ ap (λ (x : ℕ). 0 + x * 4503599627370496 + A / 2 ^ x) (size-of q k a b)
@@ -88,8 +86,7 @@ pub joined : (M k q : ℕ) → 2 ^ 52 ≤ M → M + 2 ≤ 2 ^ 54 → k < 2046 �
     → (k * 4503599627370496 + q < 9218868437227405312) × (ofBits binary64 (k * 4503599627370496 + q) ≡ roundRoot binary64 (M * 2 ^ (52 + (k + k))))
 joined M k q a b c n =
     let lo : 2 ^ 104 ≤ M * 2 ^ 52 = mul-le-mul-right (2 ^ 52) a in
-    let hi = room M b in
-    let q-lo = near-lo (M * 2 ^ 52) q lo n in
+    let hi = room M b in let q-lo = near-lo (M * 2 ^ 52) q lo n in
     let q-hi = near-hi (M * 2 ^ 52) q hi n in (
       small k q c q-hi,
       bits-are q k q-lo q-hi c ∙ sym (round-at (M * 2 ^ 52) k q lo (under-room (M * 2 ^ 52) hi) n)
@@ -231,11 +228,8 @@ shifted t p h =
         let same' : t * 2 ^ (z - 11) * 2 ^ (1085 - z) ≡ t * 2 ^ 1074 = mul-assoc t (2 ^ (z - 11)) (2 ^ (1085 - z))
         ∙ ap (λ (x : ℕ). t * x) (sym (pow-add 2 (z - 11) (1085 - z))) ∙ ap (λ (x : ℕ). t * 2 ^ x) (whole j z s l) in
         record {
-          z-lo = omega arith;
-          z-hi = omega arith;
-          lo = subst (λ (x : ℕ). 2 ^ 52 ≤ x) (sym exact) lo';
-          hi = subst (λ (x : ℕ). x < 2 ^ 53) (sym exact) hi';
-          same = ap (λ (x : ℕ). x * 2 ^ (1085 - z)) exact ∙ same';
+          z-lo = omega arith; z-hi = omega arith; lo = subst (λ (x : ℕ). 2 ^ 52 ≤ x) (sym exact) lo';
+          hi = subst (λ (x : ℕ). x < 2 ^ 53) (sym exact) hi'; same = ap (λ (x : ℕ). x * 2 ^ (1085 - z)) exact ∙ same';
         }
       where
         up-to : (j z : ℕ) → z + suc j ≡ 64 → j < 52 → 52 ≡ j + (z - 11)

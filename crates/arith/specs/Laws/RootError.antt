@@ -119,23 +119,18 @@ widen-high x r h a b c d =
 
 pub root-ok : (x : Float) → T (fits binary64 x) → T (finite x) → mk quarter ≤q val x → val x <q qn 4 → Root x (sqrt binary64 x)
 root-ok x f p a b =
-    let R = root-units x f (positive-of x p (above-quarter (val x) a)) in
-    let L = 2 ^ 1074 in
+    let R = root-units x f (positive-of x p (above-quarter (val x) a)) in let L = 2 ^ 1074 in
     let P = pow-pos 1074 in
     let P2 : 0 < 2 * 2 ^ 1074 = lit< tt in
-    let W = 2 ^ R .k in
-    let B = R .q * W in
-    let v = has→val x false (R .A) L P (R .value) .1 in
-    let w = has→val (sqrt binary64 x) false B L P (R .root) in
-    let r = sg false B L P in
+    let W = 2 ^ R .k in let B = R .q * W in let v = has→val x false (R .A) L P (R .value) .1 in
+    let w = has→val (sqrt binary64 x) false B L P (R .root) in let r = sg false B L P in
     let h = sg false W (2 * L) P2 in
     let k : R .k < 1023 = last-place (R .n) (R .k) (R .A) (R .square) (R .n-low) (four-in (R .A) L P (subst (λ z. z <q qn 4) v b)) in
     let small : h ≤q mk u = place-out W L P2 (fine (R .k) k) in
     let big : mk quarter ≤q r = quarter-out B L P (large-whole (R .n) (R .q) W (R .near) (R .A) L (R .square)
     (le-trans (lit≤ tt) (R .q-low)) (quarter-in (R .A) L P (subst (λ z. mk quarter ≤q z) v a))) in
     record {
-      is-finite = w .0;
-      not-neg = subst 0≤ (sym (w .1)) (sg-nn B L P);
+      is-finite = w .0; not-neg = subst 0≤ (sym (w .1)) (sg-nn B L P);
       low = subst₂ (λ r x. (r -q mk u) *q (r -q mk u) ≤q x) (sym (w .1)) (sym v)
           (widen-low (sg false (R .A) L P) r h (low-frac (R .A) B W L P P2 (low-whole (R .n) (R .q) W (R .near) (R .A) L (R .square))) small big);
       high = subst₂ (λ r x. x ≤q (r +q mk u) *q (r +q mk u)) (sym (w .1)) (sym v) (widen-high (sg false (R .A) L P) r h

@@ -30,8 +30,7 @@ gap-fine m j k q a b h = le-of-suc-le-suc (lt-of-not-le (λ (g : suc j ≤ k). c
 
     clash : suc j ≤ k → ⊥
     clash g =
-        let s = split k j g in
-        let d = s .0 in
+        let s = split k j g in let d = s .0 in
         let e : 2 ^ k ≡ 2 ^ suc d * 2 ^ j = ap (λ (x : ℕ). 2 ^ x) (sym (s .1)) ∙ pow-add 2 (suc d) j in
         let l : q * 2 ^ suc d * 2 ^ j < m * 2 ^ j = lt-of-le-of-lt (le-of-eq (mul-assoc q (2 ^ suc d) (2 ^ j) ∙ ap (λ (x : ℕ). q * x) (sym e))) h in
         let l' = lt-of-mul-lt-mul-right (2 ^ j) l in
@@ -107,8 +106,6 @@ grid (fin false m e) f p h =
     let u = in-units false m e f in
     record { m = u .m; j = u .j; digits = u .digits; is = has→val (fin false m e) false (u .m * 2 ^ u .j) (2 ^ 1074) (pow-pos 1074) (u .value) .1 }
 grid (fin true m e) f p h = record {
-  m = 0;
-  j = 0;
-  digits = pow-pos 53;
+  m = 0; j = 0; digits = pow-pos 53;
   is = zero-both true (m * up e) (down e) (2 ^ 1074) (down-pos e) (pow-pos 1074) (no-less (m * up e) (down e) (down-pos e) h);
 }
