@@ -253,20 +253,14 @@ absUp-ok x = (
     h : ((x .p - x .n) + (x .n - x .p)) * U < c * x .d + x .d
     h = lt-div-mul-add (x .dp)
 
-    le₁ : (p n : ℕ) → p ≤ n + ((p - n) + (n - p))
-    le₁ p n = omega arith
-
-    le₂ : (p n : ℕ) → n ≤ p + ((p - n) + (n - p))
-    le₂ p n = omega arith
-
     core₁ : (p n d u c : ℕ) → ((p - n) + (n - p)) * u < c * d + d → 0 * (u * d) + (0 * d + p * u) * 1 ≤ ((c + 1) * d + n * u) * 1 + 0 * (u * d)
-    core₁ p n d u c h = go ((p - n) + (n - p)) h (mul-le-mul-right u (le₁ p n))
+    core₁ p n d u c h = go ((p - n) + (n - p)) h (mul-le-mul-right u (omega arith))
       where
         go : (k : ℕ) → k * u < c * d + d → p * u ≤ (n + k) * u → 0 * (u * d) + (0 * d + p * u) * 1 ≤ ((c + 1) * d + n * u) * 1 + 0 * (u * d)
         go k h l = omega arith
 
     core₂ : (p n d u c : ℕ) → ((p - n) + (n - p)) * u < c * d + d → 0 * (u * d) + (0 * d + n * u) * 1 ≤ ((c + 1) * d + p * u) * 1 + 0 * (u * d)
-    core₂ p n d u c h = go ((p - n) + (n - p)) h (mul-le-mul-right u (le₂ p n))
+    core₂ p n d u c h = go ((p - n) + (n - p)) h (mul-le-mul-right u (omega arith))
       where
         go : (k : ℕ) → k * u < c * d + d → n * u ≤ (p + k) * u → 0 * (u * d) + (0 * d + n * u) * 1 ≤ ((c + 1) * d + p * u) * 1 + 0 * (u * d)
         go k h l = omega arith
