@@ -107,11 +107,7 @@ bits-lt m e f =
     div-lt-iff-lt-mul (down-pos e) .1
     (lt-of-lt-of-le (mul-lt-mul-of-pos-right (fits-below binary64 false m e f) (pow-pos 1074))
     (le-of-eq (mul-right-comm (2 ^ 1024) (down e) (2 ^ 1074)))) in
-    room (size n) (n / 2 ^ k) (size-le n 2098 n-lt) (kept-lt 53 n)
-  where
-    room : (z q : ℕ) → z ≤ 2098 → q < 2 ^ 53 → 0 + (z - 53) * 4503599627370496 + q < 9218868437227405312
-    room z q a b = omega arith
-
+    omega (arith, size-le n 2098 n-lt, kept-lt 53 n)
 -- an x of A units that is TAU or more has as many units
 at-least : (u d A : ℕ) → 0 < d → core * 1 * d ≤ u * 2 ^ 47 → u * 2 ^ 1074 ≡ A * d → digits * 2 ^ 1024 ≤ A
 at-least u d A D h e =
@@ -152,23 +148,13 @@ module _ (x : Float) (t : ℕ) (s : t < 2 ^ 52) (least : (A : ℕ) → HasValue 
       → (1025 ≤ suc g) × HasValue x false (doublings (suc g) t * 2 ^ 1024) (2 ^ 1074)
   some g v =
       let q = 4503599627370496 + t in let n = suc g - 1025 in
-      let h : 1024 ≤ g = far q g (room t s) (least (q * 2 ^ g) v) in
+      let h : 1024 ≤ g = far q g (omega arith) (least (q * 2 ^ g) v) in
       let same : q * 2 ^ g ≡ doublings (suc g) t * 2 ^ 1024 =
-      ap (λ (z : ℕ). q * 2 ^ z) (split g h)
+      ap (λ (z : ℕ). q * 2 ^ z) (omega arith)
       ∙ ap (λ (z : ℕ). q * z) (pow-add 2 n 1024)
       ∙ sym (mul-assoc q (2 ^ n) (2 ^ 1024))
       ∙ ap (λ (z : ℕ). z * 2 ^ n * 2 ^ 1024) (add-comm 4503599627370496 t) in
-      (up-one g h, subst (λ (A : ℕ). HasValue x false A (2 ^ 1074)) same v)
-    where
-      room : (t : ℕ) → t < 2 ^ 52 → 4503599627370496 + t < 2 ^ 53
-      room t h = omega arith
-
-      split : (g : ℕ) → 1024 ≤ g → g ≡ suc g - 1025 + 1024
-      split g h = omega arith
-
-      up-one : (g : ℕ) → 1024 ≤ g → 1025 ≤ suc g
-      up-one g h = omega arith
-
+      (omega arith, subst (λ (A : ℕ). HasValue x false A (2 ^ 1074)) same v)
   by-field : (g : ℕ) → x ≡ ofFields binary64 false g t → g < 2047
       → (1025 ≤ g) × HasValue x false (doublings g t * 2 ^ 1024) (2 ^ 1074)
   by-field zero is l = absurd (none (subst (λ (z : Float). HasValue z false (t * 2 ^ 0) (2 ^ 1074)) (sym is) (low-value t)))

@@ -49,7 +49,7 @@ drop-le p w P = go (eq-zero-or-pos (size w - p))
     go : (size w - p ≡ 0) ⊎ (0 < size w - p) → 2 ^ (size w - p) * 2 ^ (p - 1) ≤ w + 2 ^ (p - 1)
     go (inl e) = subst (λ (k : ℕ). 2 ^ k * 2 ^ (p - 1) ≤ w + 2 ^ (p - 1)) (sym e) (omega arith)
     go (inr h) =
-        omega (arith, (le-trans (le-of-eq (sym (pow-add 2 (size w - p) (p - 1)))) (size-reaches w (size w - p + (p - 1)) (omega arith))))
+        omega (arith, le-trans (le-of-eq (sym (pow-add 2 (size w - p) (p - 1)))) (size-reaches w (size w - p + (p - 1)) (omega arith)))
 
 -- the result, g = kept * 2 ^ drop, times den is within n / 2 ^ p + den / 2 of n
 abbrev pub Near : ℕ → ℕ → ℕ → ℕ → Type 0

@@ -136,7 +136,7 @@ pub ≤q-sub : (x y : ℚ) → x ≤q y → qn 0 ≤q y -q x
 
 mk-sub : (a b : Fr) → qn 0 ≤q mk b -q mk a → mk a ≤q mk b
 unfolding _+q_ negq
-mk-sub a b t = ≤-mk a b (omega (arith, (mk-≤ (whole 0 0) (addF b (negF a)) t)))
+mk-sub a b t = ≤-mk a b (omega (arith, mk-≤ (whole 0 0) (addF b (negF a)) t))
 
 pub sub-≤q : (x y : ℚ) → qn 0 ≤q y -q x → x ≤q y
 sub-≤q = imp₂ (λ x y. leq (qn 0) (y -q x)) leq mk-sub
@@ -246,7 +246,7 @@ cancelF a b t u =
     let e : a .n + suc (k .0) ≡ a .p = omega (arith, k .1) in
     let w : a .p * b .n + a .n * b .p ≤ a .n * b .n + a .p * b .p = omega arith in
     ≤-mk (whole 0 0) b
-    (omega (arith, (cancel-ℕ (a .n) (k .0) (b .p) (b .n) (subst (λ (x : ℕ). x * b .n + a .n * b .p ≤ a .n * b .n + x * b .p) (sym e) w))))
+    (omega (arith, cancel-ℕ (a .n) (k .0) (b .p) (b .n) (subst (λ (x : ℕ). x * b .n + a .n * b .p ≤ a .n * b .n + x * b .p) (sym e) w)))
 -- what a positive factor times gives a number that is not negative is not negative
 pub cancel-nn : (x y : ℚ) → T (not (leq x (qn 0))) → qn 0 ≤q x *q y → qn 0 ≤q y
 cancel-nn x y h k = imp₂ (λ x y. not (leq x (qn 0)) && leq (qn 0) (x *q y)) (λ x y. leq (qn 0) y) can x y (and-i (not (leq x (qn 0))) (leq (qn 0) (x *q y)) h k)

@@ -239,7 +239,7 @@ unlike-false true = refl
 unlike-false false = refl
 
 first-pos : (n u : ℕ) → 0 < n * u → n ≡ 0 → ⊥
-first-pos n u h e = omega (arith, (subst (λ (k : ℕ). 0 < k * u) e h))
+first-pos n u h e = omega (arith, subst (λ (k : ℕ). 0 < k * u) e h)
 div-rounds : (x y : Float) → T (finite x) → T (finite y) → T (not (leq (val y) (qn 0))) → Rounds (div binary64 x y) (val x *q inv (val y))
 unfolding div
 div-rounds nan y p q o = absurd p

@@ -32,13 +32,10 @@ module _ (n q W : ℕ) (r : NearRoot n q) where
 
   -- x ≥ 1/4 gives r ≥ 1/4
   large-whole : (A L : ℕ) → A * L ≡ n * (W * W) → 1 ≤ q → L ≤ 4 * A → L ≤ 4 * (q * W)
-  large-whole A L e o h = le-of-suc-le-suc (square-lt L (suc (4 * (q * W))) (lt-of-le-of-lt below (less (q * W * (q * W)))))
+  large-whole A L e o h = le-of-suc-le-suc (square-lt L (suc (4 * (q * W))) (lt-of-le-of-lt below (omega arith)))
     where
       below : L * L ≤ 8 * (q * W * (q * W))
       below = let a = mul-le-mul-right L h in let b = mul-le-mul-right (W * W) (r .1) in let c = mul-le-mul-right (q * (W * W)) o in omega arith
-
-      less : (s : ℕ) → 8 * (q * W * (q * W)) < suc (4 * (q * W)) * suc (4 * (q * W))
-      less s = omega arith
 
 -- x < 4 gives W / 2 ≤ L / 2 ^ 53
 last-place : (n k A : ℕ) → A * 2 ^ 1074 ≡ n * (2 ^ k * 2 ^ k) → 2 ^ 104 ≤ n → A < 4 * 2 ^ 1074 → k < 1023
@@ -95,11 +92,7 @@ place-out W L P h = ≤-mk (sgF false W (2 * L) P) u (omega arith)
 
 -- what is at least 1/4 is above 0
 pub above-quarter : (z : ℚ) → mk quarter ≤q z → qn 0 <q z
-above-quarter z h = T-not (leq z (qn 0)) (λ t. no (mk-≤ quarter (whole 0 0) (≤q-trans (mk quarter) z (qn 0) h t)))
-  where
-    no : 1 * 1 + 0 * 4 ≤ 0 * 4 + 0 * 1 → ⊥
-    no h = omega arith
-
+above-quarter z h = T-not (leq z (qn 0)) (λ t. omega (arith, mk-≤ quarter (whole 0 0) (≤q-trans (mk quarter) z (qn 0) h t)))
 -- ---- half a last place, h, is at most u: the bounds with h give those with u
 widen-low : (x r h : ℚ) → (r -q h) *q (r -q h) ≤q x → h ≤q mk u → mk quarter ≤q r → (r -q mk u) *q (r -q mk u) ≤q x
 unfolding sameQ den comb

@@ -85,16 +85,13 @@ pub record RootUnits (x : Float) : Type 0 where
   pub root : HasValue (sqrt binary64 x) false (q * 2 ^ k) (2 ^ 1074)
   pub root-fits : T (fits binary64 (sqrt binary64 x))
 
-positive-n : (n : ℕ) → 20282409603651670423947251286016 ≤ n → 0 < n
-positive-n n h = omega arith
-
 -- x is A units, and that times 2 ^ 1074 is M * 2 ^ 52 times 4 ^ k, as `join` has it
 rooted-at : (x : Float) (A M k : ℕ) → HasValue x false A (2 ^ 1074) → sqrt binary64 x ≡ roundRoot binary64 (A * 2 ^ 1074)
     → A * 2 ^ 1074 ≡ M * 2 ^ 52 * (2 ^ k * 2 ^ k) → 2 ^ 52 ≤ M → M + 2 ≤ 2 ^ 54 → k < 2046 → RootUnits x
 rooted-at x A M k v s e a b c =
     let n = M * 2 ^ 52 in
     let lo : 2 ^ 104 ≤ n = mul-le-mul-right (2 ^ 52) a in
-    let hi = room M b in let w = near-exists n (positive-n n lo) in let q = w .0 in let h = w .1 in
+    let hi = room M b in let w = near-exists n (omega arith) in let q = w .0 in let h = w .1 in
     let q-hi = near-hi n q hi h in
     let is : sqrt binary64 x ≡ units binary64 false q k = s ∙ ap (λ (z : ℕ). roundRoot binary64 z) e ∙ round-at n k q lo (under-room n hi) h in
     record {
@@ -111,12 +108,9 @@ scaled m s l a b = (low-part, subst (λ (z : ℕ). m * 2 ^ (53 - s) < 2 ^ z) (fi
     fill : (s : ℕ) → s ≤ 53 → s + (53 - s) ≡ 53
     fill s l = omega arith
 
-    half : (z : ℕ) → 9007199254740992 ≤ 2 * z → 4503599627370496 ≤ z
-    half z h = omega arith
-
     low-part : 2 ^ 52 ≤ m * 2 ^ (53 - s)
     low-part =
-        half (m * 2 ^ (53 - s)) (le-trans (le-of-eq (ap (λ (z : ℕ). 2 ^ z) (sym (fill s l)) ∙ pow-add 2 s (53 - s)))
+        omega (arith, le-trans (le-of-eq (ap (λ (z : ℕ). 2 ^ z) (sym (fill s l)) ∙ pow-add 2 s (53 - s)))
         (le-trans (mul-le-mul-right (2 ^ (53 - s)) a) (le-of-eq (mul-assoc 2 m (2 ^ (53 - s))))))
 
 rooted-even : (x : Float) (A M h : ℕ) → HasValue x false A (2 ^ 1074) → sqrt binary64 x ≡ roundRoot binary64 (A * 2 ^ 1074)
@@ -145,9 +139,9 @@ rooted-units x m j p q l val =
     let sc = scaled m s s-hi (top-digit m s refl (size-pos m p)) (size-lt m) in
     let M = m * 2 ^ (53 - s) in let h = j + 1021 + s in
     let e : A * 2 ^ 1074 ≡ M * 2 ^ h = mul-assoc m (2 ^ j) (2 ^ 1074)
-    ∙ ap (λ (z : ℕ). m * z) (sym (pow-add 2 j 1074) ∙ ap (λ (z : ℕ). 2 ^ z) (whole j s s-hi) ∙ pow-add 2 (53 - s) h)
+    ∙ ap (λ (z : ℕ). m * z) (sym (pow-add 2 j 1074) ∙ ap (λ (z : ℕ). 2 ^ z) (omega arith) ∙ pow-add 2 (53 - s) h)
     ∙ sym (mul-assoc m (2 ^ (53 - s)) (2 ^ h)) in
-    go A M h (ℕ-discrete (h % 2) 0) val (sqrt-at binary64 x A (mul-pos p (pow-pos j)) val) e (sc .0) (sc .1) (reach j s) (bounded j s l s-hi)
+    go A M h (ℕ-discrete (h % 2) 0) val (sqrt-at binary64 x A (mul-pos p (pow-pos j)) val) e (sc .0) (sc .1) (omega arith) (omega arith)
   where
     size-pos : (m : ℕ) → 0 < m → 0 < size m
     size-pos m p = lt-of-not-le (λ (g : size m ≤ 0). not-le-of-lt (lt-of-lt-of-le (size-lt m) (pow-mono g)) p)
@@ -155,15 +149,6 @@ rooted-units x m j p q l val =
     top-digit : (m s : ℕ) → size m ≡ s → 0 < s → 2 ^ s ≤ 2 * m
     top-digit m zero e h = absurd (lt-irrefl 0 h)
     top-digit m (suc t) e h = le-trans (le-of-eq (pow-succ' 2 t)) (mul-le-mul-left 2 (size-reaches m t (le-of-eq (sym e))))
-
-    whole : (j s : ℕ) → s ≤ 53 → j + 1074 ≡ 53 - s + (j + 1021 + s)
-    whole j s h = omega arith
-
-    reach : (j s : ℕ) → 52 ≤ j + 1021 + s
-    reach j s = omega arith
-
-    bounded : (j s : ℕ) → j ≤ 2098 → s ≤ 53 → j + 1021 + s < 4000
-    bounded j s a b = omega arith
 
     go : (A M h : ℕ) → Dec (h % 2 ≡ 0) → HasValue x false A (2 ^ 1074) → sqrt binary64 x ≡ roundRoot binary64 (A * 2 ^ 1074)
         → A * 2 ^ 1074 ≡ M * 2 ^ h → 2 ^ 52 ≤ M → M < 2 ^ 53 → 52 ≤ h → h < 4000 → RootUnits x

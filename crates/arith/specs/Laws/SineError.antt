@@ -135,11 +135,7 @@ all3 P a b c d zero h = a
 all3 P a b c d (suc zero) h = b
 all3 P a b c d (suc (suc zero)) h = c
 all3 P a b c d (suc (suc (suc zero))) h = d
-all3 P a b c d (suc (suc (suc (suc k)))) h = absurd (no k h)
-  where
-    no : (k : ℕ) → suc (suc (suc (suc k))) ≤ 3 → ⊥
-    no k h = omega arith
-
+all3 P a b c d (suc (suc (suc (suc k)))) h = absurd (omega arith)
 bx-ok : (k : ℕ) → k ≤ 3 → T (ok (bx k))
 unfolding bx
 bx-ok = all3 (λ k. ok (bx k)) tt tt tt tt
@@ -268,16 +264,9 @@ stops-here h x k l m r = record { K = k; i = 0; sum = zero-add k; few = l; angle
 
 stops-later : (h : ℚ) (t : Turn) (k : ℕ) → Stops h (suc k) t → Stops h k (doubled t)
 stops-later h t k s = record {
-  K = s .K; i = suc (s .i); sum = step (s .i) (s .K) (s .sum); few = s .few; angle = s .angle;
-  turned = again h t (s .K) (s .i) (s .few) (under (s .i) (s .K) (s .sum) (s .few)) (s .turned);
+  K = s .K; i = suc (s .i); sum = omega (arith, s .sum); few = s .few; angle = s .angle;
+  turned = again h t (s .K) (s .i) (s .few) (omega (arith, s .sum, s .few)) (s .turned);
 }
-  where
-    step : (i n : ℕ) → i + suc k ≡ n → suc i + k ≡ n
-    step i n e = omega arith
-
-    under : (i n : ℕ) → i + suc k ≡ n → n ≤ 3 → suc i ≤ 3
-    under i n e l = omega arith
-
 stops : (h : ℚ) → 0≤ h → 0≤ (qn 4 -q h) → (j k : ℕ) → j + k ≡ 3 → (x : Float) → Rel x (X h k) (bx k) → Stops h k (turnOf j x)
 unfolding turnOf
 stops h a b zero k e x r = stops-here h x k (omega arith) (subst (λ n. Abs (X h n) xmax) (sym e ∙ zero-add k) (X-third h a b)) r

@@ -35,40 +35,23 @@ gap-fine m j k q a b h = le-of-suc-le-suc (lt-of-not-le (λ (g : suc j ≤ k). c
         let l : q * 2 ^ suc d * 2 ^ j < m * 2 ^ j = lt-of-le-of-lt (le-of-eq (mul-assoc q (2 ^ suc d) (2 ^ j) ∙ ap (λ (x : ℕ). q * x) (sym e))) h in
         let l' = lt-of-mul-lt-mul-right (2 ^ j) l in
         let t : 2 ^ 52 * 2 ^ suc d ≤ q * 2 ^ suc d = mul-le-mul-right (2 ^ suc d) b in
-        no (2 ^ suc d) (q * 2 ^ suc d) (two d) t l'
-      where
-        no : (p x : ℕ) → 2 * 2 ^ 52 ≤ p * 2 ^ 52 → 2 ^ 52 * p ≤ x → x < m → ⊥
-        no p x u v w = omega arith
-
+        omega (arith, two d)
 pub above-next : (m j k q : ℕ) → m < 2 ^ 53 → 2 ^ 52 ≤ q → q * 2 ^ k < m * 2 ^ j → (q + 1) * 2 ^ k ≤ m * 2 ^ j
 above-next m j k q a b h = whole (gap-fine m j k q a b h)
   where
     whole : k ≤ j → (q + 1) * 2 ^ k ≤ m * 2 ^ j
     whole g =
-        let e : m * 2 ^ j ≡ m * 2 ^ (j - k) * 2 ^ k = ap (λ (x : ℕ). m * 2 ^ x) (back g)
+        let e : m * 2 ^ j ≡ m * 2 ^ (j - k) * 2 ^ k = ap (λ (x : ℕ). m * 2 ^ x) (omega arith)
         ∙ ap (λ (x : ℕ). m * x) (pow-add 2 (j - k) k) ∙ sym (mul-assoc m (2 ^ (j - k)) (2 ^ k)) in
         let l = lt-of-mul-lt-mul-right (2 ^ k) (lt-of-lt-of-le h (le-of-eq e)) in
-        le-trans (mul-le-mul-right (2 ^ k) (next (m * 2 ^ (j - k)) l)) (le-of-eq (sym e))
-      where
-        back : k ≤ j → j ≡ j - k + k
-        back g = omega arith
-
-        next : (x : ℕ) → q < x → q + 1 ≤ x
-        next x h = omega arith
-
+        le-trans (mul-le-mul-right (2 ^ k) (omega arith)) (le-of-eq (sym e))
 -- below it: z is at most (q - 1) * 2 ^ k, unless q is the least of its binade
 pub below-next : (m j k q : ℕ) → m < 2 ^ 53 → 2 ^ 52 < q → m * 2 ^ j < q * 2 ^ k → m * 2 ^ j ≤ (q - 1) * 2 ^ k
 below-next m j k q a b h = go (decLe (m * 2 ^ j) ((q - 1) * 2 ^ k))
   where
-    less : 2 ^ 52 < q → 2 ^ 52 ≤ q - 1
-    less h = omega arith
-
-    back : 2 ^ 52 < q → q - 1 + 1 ≡ q
-    back h = omega arith
-
     go : Dec (m * 2 ^ j ≤ (q - 1) * 2 ^ k) → m * 2 ^ j ≤ (q - 1) * 2 ^ k
     go (yes l) = l
-    go (no f) = absurd (not-le-of-lt h (subst (λ (x : ℕ). x * 2 ^ k ≤ m * 2 ^ j) (back b) (above-next m j k (q - 1) a (less b) (lt-of-not-le f))))
+    go (no f) = absurd (not-le-of-lt h (subst (λ (x : ℕ). x * 2 ^ k ≤ m * 2 ^ j) (omega arith) (above-next m j k (q - 1) a (omega arith) (lt-of-not-le f))))
 
 -- ---- in fractions
 abbrev pub L : 0 < 2 ^ 1074

@@ -160,11 +160,7 @@ same-double (fin false m i) (fin false n j) p q f g e =
     let x-is = sgF false a (down i) (down-pos i) in let y-is = sgF false b (down j) (down-pos j) in
     let le = mk-≤ x-is y-is (subst (λ z. val x ≤q z) e (≤q-refl (val x))) in
     let ge = mk-≤ y-is x-is (subst (λ z. z ≤q val x) e (≤q-refl (val x))) in
-    value-unique binary64 x (fin false n j) false a (down i) (down-pos i) f g (refl, refl) (refl, cross a b (down i) (down j) le ge)
-  where
-    cross : (a b c d : ℕ) → a * d + 0 * c ≤ b * c + 0 * d → b * c + 0 * d ≤ a * d + 0 * c → b * c ≡ a * d
-    cross a b c d h k = omega arith
-
+    value-unique binary64 x (fin false n j) false a (down i) (down-pos i) f g (refl, refl) (refl, omega arith)
 nearest-unique : (x : ℚ) (r s : Float) → Nearest x r → Nearest x s → r ≡ s
 nearest-unique x r s R S =
     same-double r s (positive-of r (R .double .0) (R .above-zero)) (positive-of s (S .double .0) (S .above-zero))
