@@ -53,9 +53,6 @@ unit-value : HasValue unit false 1 (2 ^ 50)
 unfolding ofBits
 unit-value = (refl, refl)
 
-yes-lt : (a b : ℕ) → ltb a b ≡ true → a < b
-yes-lt a b h = ltb→lt a b (subst T (sym h) tt)
-
 no-lt : (a b : ℕ) → ltb a b ≡ false → b ≤ a
 no-lt a b h = nltb→le a b (subst (λ (x : Bool). T (not x)) (sym h) tt)
 
@@ -69,7 +66,7 @@ small-at nan f p h = no h
 small-at (inf true) f p h = absurd (true≢false p)
 small-at (inf false) f p h = no h
 small-at (fin false m e) f p h =
-    sym (rem-small binary64 false false m core e (negsuc 46) f (yes-lt (m * up e * 2 ^ 47) (core * 1 * down e) h))
+    sym (rem-small binary64 false false m core e (negsuc 46) f (ltb→lt (m * up e * 2 ^ 47) (core * 1 * down e) (subst T (sym h) tt)))
 small-at (fin true zero e) f p h =
     sym (rem-small binary64 true false 0 core e (negsuc 46) f
     (subst (λ (x : ℕ). x < core * 1 * down e) (sym (ap (λ (x : ℕ). x * 2 ^ 47) (zero-mul (up e)))) (tau-pos (down e) (down-pos e))))

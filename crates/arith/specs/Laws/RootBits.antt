@@ -16,8 +16,6 @@ use Rattle.arith.specs.Root.{roundRoot, sqrt, NearRoot}
 use Rattle.arith.specs.Laws.RootLaws.{round-at, near-lo, near-hi, sqrt-at}
 
 -- ---- the bits of q * 2 ^ k units, for a q of 53 digits
-cut : (f : Format) (m A : ℕ) (e : _) → m * up e * 2 ^ low f ≡ A * down e → m * up e * 2 ^ low f / down e ≡ A
-cut f m A e h = ap (λ (x : ℕ). x / down e) h ∙ mul-div-cancel A (down-pos e)
 
 toBits-at : (f : Format) (x : Float) (A : ℕ) → HasValue x false A (2 ^ low f) → toBits f x ≡ 0 + (size A - prec f) * hid f + A / 2 ^ (size A - prec f)
 unfolding toBits
@@ -26,7 +24,7 @@ toBits-at f (inf s) A v = absurd v
 toBits-at f (fin s m e) A v =
     ap (λ (b : Bool). cond b (top f) 0 + (size (m * up e * 2 ^ low f / down e) - prec f) * hid f
     + m * up e * 2 ^ low f / down e / 2 ^ (size (m * up e * 2 ^ low f / down e) - prec f)) (v .0)
-    ∙ ap (λ (n : ℕ). 0 + (size n - prec f) * hid f + n / 2 ^ (size n - prec f)) (cut f m A e (v .1))
+    ∙ ap (λ (n : ℕ). 0 + (size n - prec f) * hid f + n / 2 ^ (size n - prec f)) (ap (λ (x : ℕ). x / down e) (v .1) ∙ mul-div-cancel A (down-pos e))
 
 size-is : (n j : ℕ) → 2 ^ j ≤ n → n < 2 ^ suc j → size n ≡ suc j
 size-is n j a b = le-antisymm (size-le n (suc j) b) (lt-of-not-le (λ (g : size n ≤ j). not-le-of-lt (lt-of-lt-of-le (size-lt n) (pow-mono g)) a))
@@ -115,8 +113,6 @@ join-odd m h q a b c d e n =
     )
 
 -- ---- the value of the bits b, which are neither 0 nor those of an infinity or more
-no-sign : (b : ℕ) → b < 9218868437227405312 → b % top binary64 ≡ b
-no-sign b h = mod-eq-of-lt (lt-of-lt-of-le h (lit≤ tt))
 
 plus : (b : ℕ) → b < 9218868437227405312 → leb (top binary64) b ≡ false
 plus b h = is-false (leb (top binary64) b) (not-T (leb (top binary64) b) (λ t. not-le-of-lt (lt-of-lt-of-le h (lit≤ tt)) (leb→le (top binary64) b t)))
@@ -125,7 +121,7 @@ pub fields : (b : ℕ) → b < 9218868437227405312 → ofBits binary64 b ≡ ofF
 unfolding ofBits
 fields b h =
     ap (λ (s : Bool). ofFields binary64 s (b % top binary64 / 4503599627370496) (b % 4503599627370496)) (plus b h)
-    ∙ ap (λ (x : ℕ). ofFields binary64 false (x / 4503599627370496) (b % 4503599627370496)) (no-sign b h)
+    ∙ ap (λ (x : ℕ). ofFields binary64 false (x / 4503599627370496) (b % 4503599627370496)) (mod-eq-of-lt (lt-of-lt-of-le h (lit≤ tt)))
 
 pub exponent-lt : (b : ℕ) → b < 9218868437227405312 → b / 4503599627370496 < 2047
 exponent-lt b h = omega arith

@@ -41,15 +41,6 @@ root-is n = rootIn-is (size n) n (lt-of-lt-of-le (size-lt n) (pow-mono (omega ar
 
 -- ---- the root rounded
 
-lower : (n p q : ℕ) → 0 < p → 4 * (n * p) < (2 * q + 1) * (2 * q + 1) * p → 4 * n < (2 * q + 1) * (2 * q + 1)
-lower n p q h k = lt-of-mul-lt-mul-right p (lt-of-le-of-lt (le-of-eq (mul-assoc 4 n p)) k)
-
-upper : (n p q : ℕ) → 0 < p → (2 * q + 1) * (2 * q + 1) * p < 4 * (n * p) → (2 * q + 1) * (2 * q + 1) < 4 * n
-upper n p q h k = lt-of-mul-lt-mul-right p (lt-of-lt-of-le k (le-of-eq (sym (mul-assoc 4 n p))))
-
-level : (n p q : ℕ) → 0 < p → 4 * (n * p) ≡ (2 * q + 1) * (2 * q + 1) * p → 4 * n ≡ (2 * q + 1) * (2 * q + 1)
-level n p q h k = eq-of-mul-eq-mul-right p h (4 * n) ((2 * q + 1) * (2 * q + 1)) (mul-assoc 4 n p ∙ k)
-
 -- of the two numbers around the root, the nearer
 near-low : (n w : ℕ) → w * w ≤ n → 4 * n < (2 * w + 1) * (2 * w + 1) → 0 < n → NearRoot n w
 near-low n zero a b h = (omega arith, omega arith)
@@ -73,9 +64,9 @@ chosen : (n p : ℕ) → 0 < p → 0 < n → NearRoot n (nearest (root n) (compa
 chosen n p P N = go (compare (4 * (n * p)) ((2 * root n + 1) * (2 * root n + 1) * p)) (cmp (4 * (n * p)) ((2 * root n + 1) * (2 * root n + 1) * p))
   where
     go : (o : Ordering) → Cmp o (4 * (n * p)) ((2 * root n + 1) * (2 * root n + 1) * p) → NearRoot n (nearest (root n) o)
-    go Ordering·lt c = near-low n (root n) (root-is n .0) (lower n p (root n) P c) N
-    go Ordering·eq c = absurd (omega (arith, level n p (root n) P c))
-    go Ordering·gt c = near-high n (root n) (root-is n .1) (upper n p (root n) P c)
+    go Ordering·lt c = near-low n (root n) (root-is n .0) (lt-of-mul-lt-mul-right p (lt-of-le-of-lt (le-of-eq (mul-assoc 4 n p)) c)) N
+    go Ordering·eq c = absurd (omega (arith, eq-of-mul-eq-mul-right p P (4 * n) ((2 * (root n) + 1) * (2 * (root n) + 1)) (mul-assoc 4 n p ∙ c)))
+    go Ordering·gt c = near-high n (root n) (root-is n .1) (lt-of-mul-lt-mul-right p (lt-of-lt-of-le c (le-of-eq (sym (mul-assoc 4 n p)))))
 
 pub near-exists : (n : ℕ) → 0 < n → (q : ℕ) × NearRoot n q
 near-exists n N = (nearest (root n) (compare (4 * (n * 1)) ((2 * root n + 1) * (2 * root n + 1) * 1)), chosen n 1 (pow-pos 0) N)

@@ -381,9 +381,6 @@ sin-cos-accepts h f a b =
     ap (λ c. cond c Sines.Refused (cond (le h (ratio 4 1)) (Sines.Value (turnOf 3 h)) Sines.Refused)) p
     ∙ ap (λ c. cond c (Sines.Value (turnOf 3 h)) Sines.Refused) q
 
-same-value : (a t : Turn) → Sines.Value a ≡ Sines.Value t → a ≡ t
-same-value a t e = cc
-
 no-value : (t : Turn) → Sines.Refused ≡ Sines.Value t → ⊥
 no-value t e = let z : _≡_ {A = ℕ} 0 1 = cc in omega arith
 
@@ -406,7 +403,7 @@ sin-cos-accepted h t e = go (lt h (ratio 0 1)) (le h (ratio 4 1)) refl refl e
         record {
           is-finite = f; low = subst (λ z. z ≤q val h) zero-val (lt-no h (ratio 0 1) f (small-finite 0 (inl refl)) p);
           high = subst (λ z. val h ≤q z) four-val (subst T (sym q ∙ le-val h (ratio 4 1) f (small-finite 4 (inr refl))) tt);
-          is = same-value (turnOf 3 h) t e;
+          is = cc;
         }
 
 -- ---- for every angle that `sinCosOf` accepts

@@ -52,9 +52,6 @@ clash : (b : Bool) → T b → T (not b) → ⊥
 clash true t n = n
 clash false t n = t
 
-le-then-less : (a b c : ℚ) → a ≤q b → b <q c → a <q c
-le-then-less a b c h k = T-not (leq c a) (λ t. clash (leq c b) (≤q-trans c a b t h) k)
-
 -- a middle of a d below 0 and r is nearer to 0 than the middle of 0 and r
 smaller-middle : (d r : ℚ) → d ≤q qn 0 → 0≤ (d +q r) → (d +q r) *q (d +q r) ≤q (qn 0 +q r) *q (qn 0 +q r)
 unfolding sameQ den comb
@@ -79,7 +76,7 @@ module _ (x : Float) (f : T (fits binary64 x)) (p : T (finite x)) (a : qn 0 <q v
       (subst (λ z. z <q val r) (sym zero-val) r-positive))
 
   below-zero-nearer : (d : Float) → val d ≤q qn 0 → qn 0 ≤q val d +q val r → (val d +q val r) *q (val d +q val r) <q qn 4 *q val x
-  below-zero-nearer d h k = le-then-less _ _ _ (smaller-middle (val d) (val r) h k) zero-nearer
+  below-zero-nearer d h k = T-not (leq _ _) (λ t. clash (leq _ _) (≤q-trans _ _ _ t (smaller-middle (val d) (val r) h k)) zero-nearer)
 
   nearest : Nearest (val x) r
   nearest = record {
