@@ -48,10 +48,7 @@ pub checked : (m q : ℕ) → q / 67108864 * (q / 67108864) ≤ m
     → difference m q * 134217728 ≤ q % 67108864 * (q % 67108864) + 9007199254740992 + q
     → NearRoot (m * 4503599627370496) q
 checked m q i j h k =
-    let a = q / 67108864 in
-    let b = q % 67108864 in
-    let d = m - a * a in
-    let u = difference m q in
+    let a = q / 67108864 in let b = q % 67108864 in let d = m - a * a in let u = difference m q in
     let q-is : a * 67108864 + b ≡ q = div-add-mod' q 67108864 in
     let z = b * b + 9007199254740992 in
     let n : NearRoot ((a * a + d) * 4503599627370496) (a * 67108864 + b) =
@@ -67,35 +64,18 @@ at-least-one nan h = no h
 at-least-one (inf s) h = tt
 at-least-one (fin s m e) h = tt
 
--- the bits b and n of doubles from 1 to 2, and their digits, 2 ^ 52 and more
-in-range : (b : ℕ) → b / 4503599627370496 ≡ 1023 → b < 9218868437227405312
-in-range b e = omega arith
-
 not-zero : (b : ℕ) → b / 4503599627370496 ≡ 1023 → b / 4503599627370496 ≡ 0 → ⊥
 not-zero b e h = omega arith
-
-digits-are : (b : ℕ) → b / 4503599627370496 ≡ 1023 → b - 4602678819172646912 ≡ b % 4503599627370496 + 4503599627370496
-digits-are b e = omega arith
-
-digits-low : (b : ℕ) → b / 4503599627370496 ≡ 1023 → 4503599627370496 ≤ b - 4602678819172646912
-digits-low b e = omega arith
-
-digits-high : (b : ℕ) → b / 4503599627370496 ≡ 1023 → b - 4602678819172646912 + 2 ≤ 18014398509481984
-digits-high b e = omega arith
-
-put-back : (n : ℕ) → n / 4503599627370496 ≡ 1023 → 1022 * 4503599627370496 + (n - 4602678819172646912) ≡ n
-put-back n e = omega arith
 
 root-of-bits : (b n : ℕ) → b / 4503599627370496 ≡ 1023 → n / 4503599627370496 ≡ 1023
     → NearRoot ((b - 4602678819172646912) * 2 ^ 52) (n - 4602678819172646912) → ofBits binary64 n ≡ sqrt binary64 (ofBits binary64 b)
 root-of-bits b n e i near =
-    let m = b - 4602678819172646912 in
-    let q = n - 4602678819172646912 in
-    ap (ofBits binary64) (sym (put-back n i))
-    ∙ joined m 1022 q (digits-low b e) (digits-high b e) (lit< tt) near .1
+    let m = b - 4602678819172646912 in let q = n - 4602678819172646912 in
+    ap (ofBits binary64) (sym (omega arith))
+    ∙ joined m 1022 q (omega arith) (omega arith) (lit< tt) near .1
     ∙ ap (λ (x : ℕ). roundRoot binary64 (m * 2 ^ (x + 1073))) (sym e)
-    ∙ ap (λ (x : ℕ). roundRoot binary64 (x * 2 ^ (b / 4503599627370496 + 1073))) (digits-are b e)
-    ∙ sym (sqrt-high b (in-range b e) (not-zero b e))
+    ∙ ap (λ (x : ℕ). roundRoot binary64 (x * 2 ^ (b / 4503599627370496 + 1073))) (omega arith)
+    ∙ sym (sqrt-high b (omega arith) (not-zero b e))
 
 pub root-of-digits : (x s : Float) → T (fits binary64 x) → T (fits binary64 s)
     → toBits binary64 x / 4503599627370496 ≡ 1023 → toBits binary64 s / 4503599627370496 ≡ 1023

@@ -53,9 +53,6 @@ unit-value : HasValue unit false 1 (2 ^ 50)
 unfolding ofBits
 unit-value = (refl, refl)
 
-yes-lt : (a b : ℕ) → ltb a b ≡ true → a < b
-yes-lt a b h = ltb→lt a b (subst T (sym h) tt)
-
 no-lt : (a b : ℕ) → ltb a b ≡ false → b ≤ a
 no-lt a b h = nltb→le a b (subst (λ (x : Bool). T (not x)) (sym h) tt)
 
@@ -69,7 +66,7 @@ small-at nan f p h = no h
 small-at (inf true) f p h = absurd (true≢false p)
 small-at (inf false) f p h = no h
 small-at (fin false m e) f p h =
-    sym (rem-small binary64 false false m core e (negsuc 46) f (yes-lt (m * up e * 2 ^ 47) (core * 1 * down e) h))
+    sym (rem-small binary64 false false m core e (negsuc 46) f (ltb→lt (m * up e * 2 ^ 47) (core * 1 * down e) (subst T (sym h) tt)))
 small-at (fin true zero e) f p h =
     sym (rem-small binary64 true false 0 core e (negsuc 46) f
     (subst (λ (x : ℕ). x < core * 1 * down e) (sym (ap (λ (x : ℕ). x * 2 ^ 47) (zero-mul (up e)))) (tau-pos (down e) (down-pos e))))
@@ -102,17 +99,12 @@ no-nan x e h = no-nan-at x (ap (lt x) (sym e) ∙ h)
 bits-lt : (m : ℕ) (e : ℤ) → T (fits binary64 (fin false m e)) → toBits binary64 (fin false m e) < 9218868437227405312
 unfolding toBits
 bits-lt m e f =
-    let n = m * up e * 2 ^ 1074 / down e in
-    let k = size n - 53 in
+    let n = m * up e * 2 ^ 1074 / down e in let k = size n - 53 in
     let n-lt : n < 2 ^ 2098 =
     div-lt-iff-lt-mul (down-pos e) .1
     (lt-of-lt-of-le (mul-lt-mul-of-pos-right (fits-below binary64 false m e f) (pow-pos 1074))
     (le-of-eq (mul-right-comm (2 ^ 1024) (down e) (2 ^ 1074)))) in
-    room (size n) (n / 2 ^ k) (size-le n 2098 n-lt) (kept-lt 53 n)
-  where
-    room : (z q : ℕ) → z ≤ 2098 → q < 2 ^ 53 → 0 + (z - 53) * 4503599627370496 + q < 9218868437227405312
-    room z q a b = omega arith
-
+    omega (arith, size-le n 2098 n-lt, kept-lt 53 n)
 -- an x of A units that is TAU or more has as many units
 at-least : (u d A : ℕ) → 0 < d → core * 1 * d ≤ u * 2 ^ 47 → u * 2 ^ 1074 ≡ A * d → digits * 2 ^ 1024 ≤ A
 at-least u d A D h e =
@@ -152,25 +144,14 @@ module _ (x : Float) (t : ℕ) (s : t < 2 ^ 52) (least : (A : ℕ) → HasValue 
   some : (g : ℕ) → HasValue x false ((4503599627370496 + t) * 2 ^ g) (2 ^ 1074)
       → (1025 ≤ suc g) × HasValue x false (doublings (suc g) t * 2 ^ 1024) (2 ^ 1074)
   some g v =
-      let q = 4503599627370496 + t in
-      let n = suc g - 1025 in
-      let h : 1024 ≤ g = far q g (room t s) (least (q * 2 ^ g) v) in
+      let q = 4503599627370496 + t in let n = suc g - 1025 in
+      let h : 1024 ≤ g = far q g (omega arith) (least (q * 2 ^ g) v) in
       let same : q * 2 ^ g ≡ doublings (suc g) t * 2 ^ 1024 =
-      ap (λ (z : ℕ). q * 2 ^ z) (split g h)
+      ap (λ (z : ℕ). q * 2 ^ z) (omega arith)
       ∙ ap (λ (z : ℕ). q * z) (pow-add 2 n 1024)
       ∙ sym (mul-assoc q (2 ^ n) (2 ^ 1024))
       ∙ ap (λ (z : ℕ). z * 2 ^ n * 2 ^ 1024) (add-comm 4503599627370496 t) in
-      (up-one g h, subst (λ (A : ℕ). HasValue x false A (2 ^ 1074)) same v)
-    where
-      room : (t : ℕ) → t < 2 ^ 52 → 4503599627370496 + t < 2 ^ 53
-      room t h = omega arith
-
-      split : (g : ℕ) → 1024 ≤ g → g ≡ suc g - 1025 + 1024
-      split g h = omega arith
-
-      up-one : (g : ℕ) → 1024 ≤ g → 1025 ≤ suc g
-      up-one g h = omega arith
-
+      (omega arith, subst (λ (A : ℕ). HasValue x false A (2 ^ 1074)) same v)
   by-field : (g : ℕ) → x ≡ ofFields binary64 false g t → g < 2047
       → (1025 ≤ g) × HasValue x false (doublings g t * 2 ^ 1024) (2 ^ 1074)
   by-field zero is l = absurd (none (subst (λ (z : Float). HasValue z false (t * 2 ^ 0) (2 ^ 1074)) (sym is) (low-value t)))
@@ -180,11 +161,8 @@ module _ (x : Float) (t : ℕ) (s : t < 2 ^ 52) (least : (A : ℕ) → HasValue 
 located-bits : (m : ℕ) (e : ℤ) → T (fits binary64 (fin false m e)) → core * 1 * down e ≤ m * up e * 2 ^ 47
     → Located (fin false m e) (toBits binary64 (fin false m e))
 located-bits m e f h =
-    let x = fin false m e in
-    let b = toBits binary64 x in
-    let g = b / 4503599627370496 in
-    let t = b % 4503599627370496 in
-    let l = bits-lt m e f in
+    let x = fin false m e in let b = toBits binary64 x in let g = b / 4503599627370496 in
+    let t = b % 4503599627370496 in let l = bits-lt m e f in
     let is : x ≡ ofFields binary64 false g t = sym (ofBits-toBits binary64 x f) ∙ fields b l in
     let least : (A : ℕ) → HasValue x false A (2 ^ 1074) → digits * 2 ^ 1024 ≤ A =
     λ A v. at-least (m * up e) (down e) A (down-pos e) h (v .1) in
@@ -198,8 +176,7 @@ located-of (inf true) f h k = absurd (true≢false h)
 located-of (inf false) f h k = no k
 located-of (fin false m e) f h k = located-bits m e f (no-lt (m * up e * 2 ^ 47) (core * 1 * down e) h)
 located-of (fin true m e) f h k =
-    let a = m * up e * 2 ^ 47 in
-    let b = core * 1 * down e in
+    let a = m * up e * 2 ^ 47 in let b = core * 1 * down e in
     absurd (not-le-of-lt (lt-of-lt-of-le (tau-pos (down e) (down-pos e)) (le-add-left b a)) (no-lt 0 (a + b) h))
 
 pub located : (x : Float) {big : Float} → big ≡ inf false → T (fits binary64 x) → lt x TAU ≡ false → lt x big ≡ true
@@ -227,8 +204,7 @@ product r h =
 pub reduced : (x : Float) (n r : ℕ) → HasValue x false (n * 2 ^ 1024) (2 ^ 1074) → r ≡ n % digits
     → mul binary64 (ofInt binary64 (pos r)) unit ≡ rem binary64 x TAU
 reduced x n r v e =
-    let k = 2 ^ 1024 in
-    let K = pow-pos 1024 in
+    let k = 2 ^ 1024 in let K = pow-pos 1024 in
     product r (subst (λ (z : ℕ). z ≤ 2 ^ 53) (sym e) (remainder-lt n))
     ∙ round-same binary64 false r (2 ^ 50) (r * k) (2 ^ 1074) (pow-pos 50) (pow-pos 1074) (sym (mul-assoc r k (2 ^ 50)))
     ∙ ap (λ (z : ℕ). round binary64 false (z * k) (2 ^ 1074)) e

@@ -36,11 +36,8 @@ module _ (f : Format) (s : Bool) (m : ℕ) (e : ℤ) (n : ℕ) (g : ℤ) (a b : 
   both : 0 < n * up g * down e → 0 < b → m * up e * 2 ^ low f ≡ a * down e → n * up g * 2 ^ low f ≡ b * down g
       → round f s (m * up e * down g % (n * up g * down e)) (down e * down g) ≡ round f s (a % b) (2 ^ low f)
   both Q B h k =
-      let l = 2 ^ low f in
-      let p = m * up e * down g in
-      let q = n * up g * down e in
-      let d = down e * down g in
-      let D = mul-pos (down-pos e) (down-pos g) in
+      let l = 2 ^ low f in let p = m * up e * down g in let q = n * up g * down e in
+      let d = down e * down g in let D = mul-pos (down-pos e) (down-pos g) in
       let L = pow-pos (low f) in
       round-same f s (p % q) d (a % b) l D L
       (mod-cross p q d a b l Q B D L
@@ -77,8 +74,7 @@ pub rem-small : (f : Format) (s t : Bool) (m n : ℕ) (e g : ℤ) → T (fits f 
     → m * up e * down g < n * up g * down e → rem f (fin s m e) (fin t n g) ≡ fin s m e
 rem-small f s t m zero e g p h = absurd (not-below (m * up e * down g) (down e) g h)
 rem-small f s t m (suc n) e g p h =
-    let d = down e in
-    let a = m * up e in
+    let d = down e in let a = m * up e in
     opened f s t m n e g
     ∙ ap (λ (x : ℕ). round f s x (d * down g)) (mod-eq-of-lt h)
     ∙ round-same f s (a * down g) (d * down g) a d (mul-pos (down-pos e) (down-pos g)) (down-pos e)

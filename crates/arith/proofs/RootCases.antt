@@ -98,7 +98,6 @@ no-nan-bits n h =
     (le-trans (le-suc 9218868437227405312) (ltb→lt (ones binary64 * hid binary64) (n % top binary64) t))))
 
 -- ---- zero, and what is left
-
 pub at-zero : (x : Float) → eq x (ofBits binary64 0) ≡ true → x ≡ sqrt binary64 x
 at-zero x h = root-of-zero x (same x true h)
 

@@ -77,8 +77,7 @@ within-four nan = refl
 within-four (inf true) = refl
 within-four (inf false) = refl
 within-four (fin s m e) =
-    let h = fin s m e in
-    let test = Ieee.le h (F 0x4010_0000_0000_0000) in
+    let h = fin s m e in let test = Ieee.le h (F 0x4010_0000_0000_0000) in
     let low : not (Ieee.lt h (F 0)) ≡ Ieee.le (F 0) h = ap not (lt-val h (F 0) tt tt) ∙ Bool·not-not _ ∙ sym (le-val (F 0) h tt tt) in
     ap (λ (b : Bool). b && test) low
 
@@ -104,12 +103,8 @@ unfolding Ieee.add Ieee.sum
 zero-plus m e f =
     let d = down e in
     round-same binary64 false (0 * 1 * d + m * up e * 1) (1 * d) (m * up e) d (mul-pos (zero-lt-suc 0) (down-pos e)) (down-pos e)
-    (alike (m * up e) d)
+    (omega arith)
     ∙ round-self binary64 false m e f
-  where
-    alike : (a d : ℕ) → (0 * 1 * d + a * 1) * d ≡ a * (1 * d)
-    alike a d = omega arith
-
 zero-less : (a b c : ℕ) → a ≡ 0 → b ≡ 0 → Ieee.sum binary64 false a true b c ≡ round binary64 false 0 c
 unfolding Ieee.sum
 zero-less a b c p q = ap (λ (a : ℕ). Ieee.sum binary64 false a true b c) p ∙ ap (λ (b : ℕ). Ieee.sum binary64 false 0 true b c) q
@@ -119,12 +114,8 @@ unfolding Ieee.add
 zero-minus e f =
     let d = down e in
     zero-less (0 * 1 * d) (0 * up e * 1) (1 * d) (zero-mul d) (ap (λ (x : ℕ). x * 1) (zero-mul (up e)))
-    ∙ round-same binary64 false 0 (1 * d) (0 * up e) d (mul-pos (zero-lt-suc 0) (down-pos e)) (down-pos e) (alike d (up e))
+    ∙ round-same binary64 false 0 (1 * d) (0 * up e) d (mul-pos (zero-lt-suc 0) (down-pos e)) (down-pos e) (omega arith)
     ∙ round-self binary64 false 0 e f
-  where
-    alike : (d u : ℕ) → 0 * d ≡ 0 * u * (1 * d)
-    alike d u = omega arith
-
 sign-fits : (m : ℕ) (e : ℤ) → T (fits binary64 (fin true m e)) → T (fits binary64 (fin false m e))
 unfolding fits
 sign-fits zero e t = t

@@ -27,10 +27,6 @@ zero-is = refl
 pub not-zero : (m u : ℕ) → 0 < u → suc m * u * 1 ≡ 0 → ⊥
 not-zero m u h e = lt-irrefl 0 (subst (λ (x : ℕ). 0 < x) (sym (mul-one (suc m * u)) ∙ e) (mul-pos (zero-lt-suc m) h))
 
-pub and-left : (a b : Bool) → a && b ≡ true → T a
-and-left true b h = tt
-and-left false b h = absurd (true≢false (sym h))
-
 pub zero-left : (e : ℤ) (s : Bool) → eq (fin s 0 e) (fin false 0 (pos 0)) ≡ true
 unfolding eq
 zero-left e s = go (0 * up e * 1) (0 * 1 * down e) (ap (λ (x : ℕ). x * 1) (zero-mul (up e))) (zero-mul (down e))

@@ -109,8 +109,7 @@ abs-sub x y a b h k = abs-add x (negq y) a b h (abs-neg y b k)
 pub abs-mul : (x y : ℚ) (a b : ℕ) → Abs x a → Abs y b → Abs (x *q y) (mulUp a b)
 unfolding same
 abs-mul x y a b h k =
-    let A = iv a in let B = iv b in
-    let ρ = A ∷ B ∷ x ∷ y ∷ iv (mulUp a b) ∷ [] in
+    let A = iv a in let B = iv b in let ρ = A ∷ B ∷ x ∷ y ∷ iv (mulUp a b) ∷ [] in
     let m = ≤q-sub (A *q B) (iv (mulUp a b)) (iv-mul a b) in
     let u = 0≤-add ((A -q x) *q (B +q y)) ((A +q x) *q (B -q y)) (0≤-mul (A -q x) (B +q y) (h .0) (k .1)) (0≤-mul (A +q x) (B -q y) (h .1) (k .0)) in
     let v = 0≤-add ((A -q x) *q (B -q y)) ((A +q x) *q (B +q y)) (0≤-mul (A -q x) (B -q y) (h .0) (k .0)) (0≤-mul (A +q x) (B +q y) (h .1) (k .1)) in
@@ -131,11 +130,7 @@ T-not false f = tt
 
 pub positive : (y : ℚ) (l : ℕ) → 0 < l → iv l ≤q y → T (not (leq y (qn 0)))
 unfolding iv
-positive y l p h = T-not (leq y (qn 0)) (λ t. no (mk-≤ (ivF l) (whole 0 0) (≤q-trans (iv l) y (qn 0) h t)))
-  where
-    no : l * 1 + 0 * U ≤ 0 * U + 0 * 1 → ⊥
-    no k = omega arith
-
+positive y l p h = T-not (leq y (qn 0)) (λ t. omega (arith, mk-≤ (ivF l) (whole 0 0) (≤q-trans (iv l) y (qn 0) h t)))
 abbrev pub divUp : ℕ → ℕ → ℕ
 divUp a l = a * U / l + 1
 
@@ -151,15 +146,12 @@ iv-div a l p =
 pub abs-div : (x y : ℚ) (a l : ℕ) → 0 < l → Abs x a → iv l ≤q y → Abs (x *q inv y) (divUp a l)
 unfolding same
 abs-div x y a l p h g =
-    let P = positive y l p g in
-    let C = iv (divUp a l) in let L = iv l in let A = iv a in
+    let P = positive y l p g in let C = iv (divUp a l) in let L = iv l in let A = iv a in
     let ρ = y ∷ C ∷ x ∷ inv y ∷ L ∷ A ∷ [] in
     let s = 0≤-mul (y -q L) C (≤q-sub L y g) (iv-nn (divUp a l)) in
-    let t = ≤q-sub A (L *q C) (iv-div a l p) in
-    let r = 0≤-add ((y -q L) *q C) (L *q C -q A) s t in
+    let t = ≤q-sub A (L *q C) (iv-div a l p) in let r = 0≤-add ((y -q L) *q C) (L *q C -q A) s t in
     let u = 0≤-add ((y -q L) *q C +q (L *q C -q A)) (A -q x) r (h .0) in
-    let v = 0≤-add ((y -q L) *q C +q (L *q C -q A)) (A +q x) r (h .1) in
-    let e = sym (inv-ok y P) in
+    let v = 0≤-add ((y -q L) *q C +q (L *q C -q A)) (A +q x) r (h .1) in let e = sym (inv-ok y P) in
     let X = var 2 in let Y = var 0 in let c = var 1 in let Z = var 3 in let k = var 4 in let b = var 5 in (
       cancel-nn y (C -q x *q inv y) P (subst 0≤ (ring ρ ((Y :- k) :* c :+ (k :* c :- b) :+ (b :- X)) (Y :* c :- X :* con 1) tt
           ∙ ap (λ o. y *q C -q x *q o) e ∙ ring ρ (Y :* c :- X :* (Y :* Z)) (Y :* (c :- X :* Z)) tt) u),

@@ -99,8 +99,7 @@ mulB (bd m e o) (bd n d p) = rounded (mulUp m n) (mulUp (m + e) d + mulUp e n) (
 divB : ℕ → Bd → Bd → Bd
 unfolding rounded
 divB l (bd m e o) (bd n d p) =
-    let q = divUp m l in
-    let w = divUp (e + mulUp q d) (l - d) in
+    let q = divUp m l in let w = divUp (e + mulUp q d) (l - d) in
     rounded q w (q + w) (o && p && ltb d l)
 
 capB : ℕ → Bd → Bd
@@ -145,8 +144,7 @@ unfolding rounded limit same
 finish z v x m e f o h k t r =
     let s = split o (limit f) t in
     let w = r (leb→le f (U * huge) (s .1)) in (
-      w .0,
-      h,
+      w .0, h,
       abs-eq ((v -q x) +q (val z -q v)) (val z -q x) (e + rnd f)
           (ring (val z ∷ v ∷ x ∷ []) ((var 1 :- var 2) :+ (var 0 :- var 1)) (var 0 :- var 2) tt) (abs-add (v -q x) (val z -q v) e (rnd f) k (w .1)),
     )
@@ -154,10 +152,8 @@ finish z v x m e f o h k t r =
 add-rel : (f g : Float) (x y : ℚ) (a b : Bd) → T (ok (addB a b)) → (T (ok a) → Rel f x a) → (T (ok b) → Rel g y b) → Rel (add binary64 f g) (x +q y) (addB a b)
 unfolding addB rounded same
 add-rel f g x y (bd m e o) (bd n d p) t ha hb =
-    let s = split (o && p) (limit (m + n + (e + d))) t in
-    let s' = split o p (s .0) in
-    let A = ha (s' .0) in let B = hb (s' .1) in
-    let ρ = val f ∷ val g ∷ x ∷ y ∷ [] in
+    let s = split (o && p) (limit (m + n + (e + d))) t in let s' = split o p (s .0) in
+    let A = ha (s' .0) in let B = hb (s' .1) in let ρ = val f ∷ val g ∷ x ∷ y ∷ [] in
     let D = abs-eq ((val f -q x) +q (val g -q y)) (val f +q val g -q (x +q y)) (e + d)
     (ring ρ ((var 0 :- var 2) :+ (var 1 :- var 3)) (var 0 :+ var 1 :- (var 2 :+ var 3)) tt) (abs-add (val f -q x) (val g -q y) e d (A .2) (B .2)) in
     let X = abs-add x y m n (A .1) (B .1) in
@@ -167,10 +163,8 @@ add-rel f g x y (bd m e o) (bd n d p) t ha hb =
 sub-rel : (f g : Float) (x y : ℚ) (a b : Bd) → T (ok (addB a b)) → (T (ok a) → Rel f x a) → (T (ok b) → Rel g y b) → Rel (sub binary64 f g) (x -q y) (addB a b)
 unfolding addB rounded same
 sub-rel f g x y (bd m e o) (bd n d p) t ha hb =
-    let s = split (o && p) (limit (m + n + (e + d))) t in
-    let s' = split o p (s .0) in
-    let A = ha (s' .0) in let B = hb (s' .1) in
-    let ρ = val f ∷ val g ∷ x ∷ y ∷ [] in
+    let s = split (o && p) (limit (m + n + (e + d))) t in let s' = split o p (s .0) in
+    let A = ha (s' .0) in let B = hb (s' .1) in let ρ = val f ∷ val g ∷ x ∷ y ∷ [] in
     let D = abs-eq ((val f -q x) -q (val g -q y)) (val f -q val g -q (x -q y)) (e + d)
     (ring ρ ((var 0 :- var 2) :- (var 1 :- var 3)) (var 0 :- var 1 :- (var 2 :- var 3)) tt) (abs-sub (val f -q x) (val g -q y) e d (A .2) (B .2)) in
     let X = abs-sub x y m n (A .1) (B .1) in
@@ -180,14 +174,10 @@ sub-rel f g x y (bd m e o) (bd n d p) t ha hb =
 mul-rel : (f g : Float) (x y : ℚ) (a b : Bd) → T (ok (mulB a b)) → (T (ok a) → Rel f x a) → (T (ok b) → Rel g y b) → Rel (mul binary64 f g) (x *q y) (mulB a b)
 unfolding mulB rounded same
 mul-rel f g x y (bd m e o) (bd n d p) t ha hb =
-    let F = mulUp (m + e) (n + d) in
-    let E = mulUp (m + e) d + mulUp e n in
-    let s = split (o && p) (limit F) t in
-    let s' = split o p (s .0) in
-    let A = ha (s' .0) in let B = hb (s' .1) in
-    let ρ = val f ∷ val g ∷ x ∷ y ∷ [] in
-    let Fa = own (val f) x m e (A .1) (A .2) in
-    let Ga = own (val g) y n d (B .1) (B .2) in
+    let F = mulUp (m + e) (n + d) in let E = mulUp (m + e) d + mulUp e n in
+    let s = split (o && p) (limit F) t in let s' = split o p (s .0) in
+    let A = ha (s' .0) in let B = hb (s' .1) in let ρ = val f ∷ val g ∷ x ∷ y ∷ [] in
+    let Fa = own (val f) x m e (A .1) (A .2) in let Ga = own (val g) y n d (B .1) (B .2) in
     let D = abs-eq (val f *q (val g -q y) +q (val f -q x) *q y) (val f *q val g -q x *q y) E
     (ring ρ (var 0 :* (var 1 :- var 3) :+ (var 0 :- var 2) :* var 3) (var 0 :* var 1 :- var 2 :* var 3) tt)
     (abs-add (val f *q (val g -q y)) ((val f -q x) *q y) (mulUp (m + e) d) (mulUp e n)
@@ -200,8 +190,7 @@ lower : (g y : ℚ) (l d : ℕ) → d < l → iv l ≤q y → Abs (g -q y) d →
 unfolding same
 lower g y l d h k a =
     let e : iv l ≡ iv (l - d) +q iv d = ap iv (omega arith) ∙ iv-add (l - d) d in
-    let s = ≤q-sub (iv l) y k in
-    let u = 0≤-add (y -q iv l) (iv d +q (g -q y)) s (a .1) in
+    let s = ≤q-sub (iv l) y k in let u = 0≤-add (y -q iv l) (iv d +q (g -q y)) s (a .1) in
     sub-≤q (iv (l - d)) g (subst 0≤ (ap (λ z. y -q z +q (iv d +q (g -q y))) e
     ∙ ring (g ∷ y ∷ iv (l - d) ∷ iv d ∷ []) (var 1 :- (var 2 :+ var 3) :+ (var 3 :+ (var 0 :- var 1))) (var 0 :- var 2) tt) u)
 
@@ -225,17 +214,12 @@ div-rel : (l : ℕ) (f g : Float) (x y : ℚ) (a b : Bd) → T (ok (divB l a b))
     → (T (ok a) → Rel f x a) → (T (ok b) → Rel g y b) → Rel (div binary64 f g) (x *q inv y) (divB l a b)
 unfolding divB rounded
 div-rel l f g x y (bd m e o) (bd n d p) t k ha hb =
-    let q = divUp m l in
-    let w = divUp (e + mulUp q d) (l - d) in
+    let q = divUp m l in let w = divUp (e + mulUp q d) (l - d) in
     let s = split (o && p && ltb d l) (limit (q + w)) t in
-    let s' = split (o && p) (ltb d l) (s .0) in
-    let s'' = split o p (s' .0) in
-    let dl = ltb→lt d l (s' .1) in
-    let lp = above d l dl in
-    let A = ha (s'' .0) in let B = hb (s'' .1) in
-    let gl = lower (val g) y l d dl k (B .2) in
-    let gp = positive (val g) (l - d) (gap d l dl) gl in
-    let yp = positive y l lp k in
+    let s' = split (o && p) (ltb d l) (s .0) in let s'' = split o p (s' .0) in
+    let dl = ltb→lt d l (s' .1) in let lp = above d l dl in
+    let A = ha (s'' .0) in let B = hb (s'' .1) in let gl = lower (val g) y l d dl k (B .2) in
+    let gp = positive (val g) (l - d) (gap d l dl) gl in let yp = positive y l lp k in
     let Q = abs-div x y m l lp (A .1) k in
     let N = abs-sub (val f -q x) ((x *q inv y) *q (val g -q y)) e (mulUp q d) (A .2) (abs-mul (x *q inv y) (val g -q y) q d Q (B .2)) in
     let D = abs-eq (((val f -q x) -q (x *q inv y) *q (val g -q y)) *q inv (val g)) (val f *q inv (val g) -q x *q inv y) w
@@ -269,20 +253,14 @@ absUp-ok x = (
     h : ((x .p - x .n) + (x .n - x .p)) * U < c * x .d + x .d
     h = lt-div-mul-add (x .dp)
 
-    le₁ : (p n : ℕ) → p ≤ n + ((p - n) + (n - p))
-    le₁ p n = omega arith
-
-    le₂ : (p n : ℕ) → n ≤ p + ((p - n) + (n - p))
-    le₂ p n = omega arith
-
     core₁ : (p n d u c : ℕ) → ((p - n) + (n - p)) * u < c * d + d → 0 * (u * d) + (0 * d + p * u) * 1 ≤ ((c + 1) * d + n * u) * 1 + 0 * (u * d)
-    core₁ p n d u c h = go ((p - n) + (n - p)) h (mul-le-mul-right u (le₁ p n))
+    core₁ p n d u c h = go ((p - n) + (n - p)) h (mul-le-mul-right u (omega arith))
       where
         go : (k : ℕ) → k * u < c * d + d → p * u ≤ (n + k) * u → 0 * (u * d) + (0 * d + p * u) * 1 ≤ ((c + 1) * d + n * u) * 1 + 0 * (u * d)
         go k h l = omega arith
 
     core₂ : (p n d u c : ℕ) → ((p - n) + (n - p)) * u < c * d + d → 0 * (u * d) + (0 * d + n * u) * 1 ≤ ((c + 1) * d + p * u) * 1 + 0 * (u * d)
-    core₂ p n d u c h = go ((p - n) + (n - p)) h (mul-le-mul-right u (le₂ p n))
+    core₂ p n d u c h = go ((p - n) + (n - p)) h (mul-le-mul-right u (omega arith))
       where
         go : (k : ℕ) → k * u < c * d + d → n * u ≤ (p + k) * u → 0 * (u * d) + (0 * d + n * u) * 1 ≤ ((c + 1) * d + p * u) * 1 + 0 * (u * d)
         go k h l = omega arith
@@ -295,8 +273,7 @@ valF-ok (fin s m e) = refl
 
 con-rel : (c : Float) (q : Fr) → T (finite c) → Rel c (mk q) (bd (absUp q) (absUp (addF (valF c) (negF q))) (finite c))
 con-rel c q t = (
-  t,
-  absUp-ok q,
+  t, absUp-ok q,
   abs-eq (mk (addF (valF c) (negF q))) (val c -q mk q) (absUp (addF (valF c) (negF q))) (sym (ap (λ z. z -q mk q) (sym (valF-ok c))
       ∙ ap (λ z. mk (valF c) +q z) (negq-mk q) ∙ +q-mk (valF c) (negF q))) (absUp-ok (addF (valF c) (negF q))),
 )

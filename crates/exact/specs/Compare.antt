@@ -18,11 +18,7 @@ lt-is : (a b x y : ℕ) → (a < b → x < y) → (x < y → a < b) → ltb a b 
 lt-is a b x y f g = iff→≡ (ltb a b) (not (leb y x)) (λ t. lt→nleb y x (f (ltb→lt a b t))) (λ t. lt→ltb a b (g (nleb→lt y x t)))
 
 never : (x y : ℕ) → y ≤ x → false ≡ not (leb y x)
-never x y h = iff→≡ false (not (leb y x)) (λ t. absurd t) (λ t. no (nleb→lt y x t))
-  where
-    no : x < y → ⊥
-    no k = omega arith
-
+never x y h = iff→≡ false (not (leb y x)) (λ t. absurd t) (λ t. omega (arith, nleb→lt y x t))
 pub lt-val : (x y : Float) → T (finite x) → T (finite y) → lt x y ≡ not (leq (val y) (val x))
 unfolding lt leq
 lt-val nan y p q = absurd p
@@ -56,15 +52,9 @@ le-is a b x y f g =
     iff→≡ (ltb a b || (eqb a b && true)) (leb x y) (λ t. le→leb x y (f (into (or-out (ltb a b) (eqb a b && true) t))))
     (λ t. or-in (ltb a b) (eqb a b && true) (out (eq-or-lt-of-le (g (leb→le x y t)))))
   where
-    same : a ≡ b → a ≤ b
-    same e = omega arith
-
-    less : a < b → a ≤ b
-    less h = omega arith
-
     into : T (ltb a b) ⊎ T (eqb a b && true) → a ≤ b
-    into (inl t) = less (ltb→lt a b t)
-    into (inr t) = same (eqb→eq a b (and-l (eqb a b) true t))
+    into (inl t) = omega (arith, ltb→lt a b t)
+    into (inr t) = omega (arith, eqb→eq a b (and-l (eqb a b) true t))
 
     out : (a ≡ b) ⊎ (a < b) → T (ltb a b) ⊎ T (eqb a b && true)
     out (inl e) = inr (and-i (eqb a b) true (eq→eqb e) tt)

@@ -99,8 +99,7 @@ same-ge x y h = omega arith
 
 pub le-transF : (x y z : Fr) → LeF x y → LeF y z → LeF x z
 le-transF x y z h k =
-    let a = mul-le-mul-right (z .d) h in
-    let b = mul-le-mul-right (x .d) k in
+    let a = mul-le-mul-right (z .d) h in let b = mul-le-mul-right (x .d) k in
     let g : (x .p * z .d + z .n * x .d) * y .d ≤ (z .p * x .d + x .n * z .d) * y .d = omega arith in
     le-of-mul-le-mul-right g (y .dp)
 

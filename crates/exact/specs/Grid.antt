@@ -46,20 +46,10 @@ closest-near n u U = near-half n u (n / u) (n % u) (compare (n % u * 2) u) (div-
 drop-le : (p w : ℕ) → 0 < p → 2 ^ (size w - p) * 2 ^ (p - 1) ≤ w + 2 ^ (p - 1)
 drop-le p w P = go (eq-zero-or-pos (size w - p))
   where
-    le₁ : (h : ℕ) → 1 * h ≤ w + h
-    le₁ h = omega arith
-
-    le₂ : (a h : ℕ) → a ≤ w → a ≤ w + h
-    le₂ a h k = omega arith
-
-    lt₃ : (z : ℕ) → 0 < z - p → z - p + (p - 1) < z
-    lt₃ z h = omega arith
-
     go : (size w - p ≡ 0) ⊎ (0 < size w - p) → 2 ^ (size w - p) * 2 ^ (p - 1) ≤ w + 2 ^ (p - 1)
-    go (inl e) = subst (λ (k : ℕ). 2 ^ k * 2 ^ (p - 1) ≤ w + 2 ^ (p - 1)) (sym e) (le₁ (2 ^ (p - 1)))
+    go (inl e) = subst (λ (k : ℕ). 2 ^ k * 2 ^ (p - 1) ≤ w + 2 ^ (p - 1)) (sym e) (omega arith)
     go (inr h) =
-        le₂ (2 ^ (size w - p) * 2 ^ (p - 1)) (2 ^ (p - 1))
-        (le-trans (le-of-eq (sym (pow-add 2 (size w - p) (p - 1)))) (size-reaches w (size w - p + (p - 1)) (lt₃ (size w) h)))
+        omega (arith, le-trans (le-of-eq (sym (pow-add 2 (size w - p) (p - 1)))) (size-reaches w (size w - p + (p - 1)) (omega arith)))
 
 -- the result, g = kept * 2 ^ drop, times den is within n / 2 ^ p + den / 2 of n
 abbrev pub Near : ℕ → ℕ → ℕ → ℕ → Type 0
@@ -67,8 +57,7 @@ Near h n den g = (g * den * (h * 2) ≤ n * (h * 2) + (n + h * den)) × (n * (h 
 
 join : (h n den c k w : ℕ) → Half n (den * k) c → k * h ≤ w + h → w * den ≤ n → Near h n den (c * k)
 join h n den c k w x d e =
-    let a = mul-le-mul-right h (x .0) in
-    let b = mul-le-mul-right h (x .1) in
+    let a = mul-le-mul-right h (x .0) in let b = mul-le-mul-right h (x .1) in
     let f = mul-le-mul-right den d in
     (omega arith, omega arith)
 

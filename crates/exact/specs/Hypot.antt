@@ -126,16 +126,12 @@ pub record Scaled (a b : Float) : Type 0 where
 pub scaled : (a b : Float) → T (finite a) → T (finite b) → T (not (leq (val a) (qn 0))) → 0≤ (val b) → val b ≤q val a → Scaled a b
 unfolding sumE sumβ chk U
 scaled a b fa fb pa nb l =
-    let t = div binary64 b a in
-    let x = add binary64 one (mul binary64 t t) in
-    let q = val b *q inv (val a) in
-    let Q = ratio (val a) (val b) pa nb l in
+    let t = div binary64 b a in let x = add binary64 one (mul binary64 t t) in
+    let q = val b *q inv (val a) in let Q = ratio (val a) (val b) pa nb l in
     let D = div-err b a (2 ^ 256) fb fa pa Q (leb→le (2 ^ 256) (U * huge) tt) in
     let S = sound (t ∷ []) (q ∷ []) sumβ ((D .0, Q, D .1), tt) sumE (tt, (tt, tt)) tt in
     record {
-      quotient = q;
-      back = back-again (val a) (val b) pa;
-      x-finite = S .0;
+      quotient = q; back = back-again (val a) (val b) pa; x-finite = S .0;
       x-top = abs-mono (val x) (mag (chk sumβ sumE) + err (chk sumβ sumE)) (513 * 2 ^ 248)
           (leb→le (mag (chk sumβ sumE) + err (chk sumβ sumE)) (513 * 2 ^ 248) tt)
           (own (val x) (qn 1 +q q *q q) (mag (chk sumβ sumE)) (err (chk sumβ sumE)) (S .1) (S .2));
@@ -179,9 +175,7 @@ pub hypot-ok : (A N : ℕ) → T (hyp-fits A N) → (a b r : Float) → T (finit
 unfolding hyp-fits prodE offE offβ hTop prodβ chk
 hypot-ok A N T₀ a b r fa fb pa nb l ha R =
     let x = add binary64 one (mul binary64 (div binary64 b a) (div binary64 b a)) in
-    let h = mul binary64 a r in
-    let S = scaled a b fa fb pa nb l in
-    let q = S .quotient in
+    let h = mul binary64 a r in let S = scaled a b fa fb pa nb l in let q = S .quotient in
     let X = scaled-root x r (S .x-top) R in
     let o = and-r (bounds (offβ A) offE N) (ok (chk (prodβ A) prodE)) T₀ in
     let P = sound (a ∷ r ∷ []) (val a ∷ val r ∷ []) (prodβ A) (given a A (fa, ha), (given r rmax (R .is-finite, X .r-abs), tt)) prodE (tt, tt) o in
@@ -208,7 +202,6 @@ pub hyp-intro : (A N : ℕ) → T (hyp-fits A N) → (a b r p q : Float) → T (
 hyp-intro A N t a b r p q fa fb pa nb l ha R e =
     let k = hypot-ok A N t a b r fa fb pa nb l ha R in
     record {
-      fine = k .0;
-      not-neg = mul-nn a r fa (R .is-finite) (≤q-total (val a) (qn 0) pa) (R .not-neg);
+      fine = k .0; not-neg = mul-nn a r fa (R .is-finite) (≤q-total (val a) (qn 0) pa) (R .not-neg);
       near = subst (λ z. Abs (val (mul binary64 a r) *q val (mul binary64 a r) -q z) N) e (k .1);
     }

@@ -3,7 +3,6 @@ pub mod Fraction
 pub mod Value
 pub mod Rat
 pub mod Ring
-pub mod RingTests
 pub mod Grid
 pub mod Abs
 pub mod RingQ

@@ -40,15 +40,6 @@ law₂ f g h x y = ind {r = Same} (λ q. ℚ-set (f q y) (g q y)) (λ a. law₁ 
 pub law₃ : (f g : ℚ → ℚ → ℚ → ℚ) → ((a b c : Fr) → f (mk a) (mk b) (mk c) ≡ g (mk a) (mk b) (mk c)) → (x y z : ℚ) → f x y z ≡ g x y z
 law₃ f g h x y z = ind {r = Same} (λ q. ℚ-set (f q y z) (g q y z)) (λ a. law₂ (f (mk a)) (g (mk a)) (h a) y z) x
 
-add-commF : (x y : Fr) → Same (addF x y) (addF y x)
-add-commF x y = omega arith
-
-add-assocF : (x y z : Fr) → Same (addF (addF x y) z) (addF x (addF y z))
-add-assocF x y z = omega arith
-
-mul-assocF : (x y z : Fr) → Same (mulF (mulF x y) z) (mulF x (mulF y z))
-mul-assocF x y z = omega arith
-
 dist : (a b c e f g d2 d3 d1 : ℕ) → (a * (c * d3 + f * d2) + b * (e * d3 + g * d2)) * (d1 * d2 * (d1 * d3))
     ≡ ((a * c + b * e) * (d1 * d3) + (a * f + b * g) * (d1 * d2)) * (d1 * (d2 * d3))
 dist a b c e f g d2 d3 d1 = omega arith
@@ -58,24 +49,21 @@ mul-addF x y z =
     ap₂ _+_ (dist (x .p) (x .n) (y .p) (y .n) (z .p) (z .n) (y .d) (z .d) (x .d))
     (sym (dist (x .p) (x .n) (y .n) (y .p) (z .n) (z .p) (y .d) (z .d) (x .d)))
 
-mul-commF : (x y : Fr) → Same (mulF x y) (mulF y x)
-mul-commF x y = omega arith
-
 pub +q-assoc : (x y z : ℚ) → x +q y +q z ≡ x +q (y +q z)
 unfolding _+q_
-+q-assoc = law₃ (λ x y z. x +q y +q z) (λ x y z. x +q (y +q z)) (λ a b c. Quot·sound (add-assocF a b c))
++q-assoc = law₃ (λ x y z. x +q y +q z) (λ x y z. x +q (y +q z)) (λ a b c. Quot·sound (omega arith))
 
 pub +q-comm : (x y : ℚ) → x +q y ≡ y +q x
 unfolding _+q_
-+q-comm = law₂ (λ x y. x +q y) (λ x y. y +q x) (λ a b. Quot·sound (add-commF a b))
++q-comm = law₂ (λ x y. x +q y) (λ x y. y +q x) (λ a b. Quot·sound (omega arith))
 
 pub *q-assoc : (x y z : ℚ) → x *q y *q z ≡ x *q (y *q z)
 unfolding _*q_
-*q-assoc = law₃ (λ x y z. x *q y *q z) (λ x y z. x *q (y *q z)) (λ a b c. Quot·sound (mul-assocF a b c))
+*q-assoc = law₃ (λ x y z. x *q y *q z) (λ x y z. x *q (y *q z)) (λ a b c. Quot·sound (omega arith))
 
 pub *q-comm : (x y : ℚ) → x *q y ≡ y *q x
 unfolding _*q_
-*q-comm = law₂ (λ x y. x *q y) (λ x y. y *q x) (λ a b. Quot·sound (mul-commF a b))
+*q-comm = law₂ (λ x y. x *q y) (λ x y. y *q x) (λ a b. Quot·sound (omega arith))
 
 pub *q-add : (x y z : ℚ) → x *q (y +q z) ≡ x *q y +q x *q z
 unfolding _+q_ _*q_
@@ -111,8 +99,7 @@ imp₂ P Q h x y =
 
 trans-mk : (a b c : Fr) → T (leq (mk a) (mk b) && leq (mk b) (mk c)) → mk a ≤q mk c
 trans-mk a b c t =
-    let ab = leq (mk a) (mk b) in
-    let bc = leq (mk b) (mk c) in
+    let ab = leq (mk a) (mk b) in let bc = leq (mk b) (mk c) in
     ≤-mk a c (le-transF a b c (mk-≤ a b (and-l ab bc t)) (mk-≤ b c (and-r ab bc t)))
 
 pub ≤q-trans : (x y z : ℚ) → x ≤q y → y ≤q z → x ≤q z
@@ -122,8 +109,7 @@ pub ≤q-trans : (x y z : ℚ) → x ≤q y → y ≤q z → x ≤q z
 
 antisymm-mk : (a b : Fr) → T (leq (mk a) (mk b) && leq (mk b) (mk a)) → mk a ≡ mk b
 antisymm-mk a b t =
-    let ab = leq (mk a) (mk b) in
-    let ba = leq (mk b) (mk a) in
+    let ab = leq (mk a) (mk b) in let ba = leq (mk b) (mk a) in
     Quot·sound (le-antisymm (mk-≤ a b (and-l ab ba t)) (mk-≤ b a (and-r ab ba t)))
 
 pub ≤q-antisymm : (x y : ℚ) → x ≤q y → y ≤q x → x ≡ y
@@ -141,23 +127,16 @@ other-way a b t = let h = nleb→lt (a .p * b .d + b .n * a .d) (b .p * a .d + a
 pub ≤q-total : (x y : ℚ) → T (not (leq x y)) → y ≤q x
 ≤q-total = imp₂ (λ x y. not (leq x y)) (λ x y. leq y x) (λ a b t. ≤-mk b a (other-way a b t))
 
--- x ≤ y exactly where y - x is not negative
-sub-in : (a b : Fr) → LeF a b → LeF (whole 0 0) (addF b (negF a))
-sub-in a b h = omega arith
-
-sub-out : (a b : Fr) → LeF (whole 0 0) (addF b (negF a)) → LeF a b
-sub-out a b h = omega arith
-
 sub-mk : (a b : Fr) → mk a ≤q mk b → qn 0 ≤q mk b -q mk a
 unfolding _+q_ negq
-sub-mk a b t = ≤-mk (whole 0 0) (addF b (negF a)) (sub-in a b (mk-≤ a b t))
+sub-mk a b t = ≤-mk (whole 0 0) (addF b (negF a)) (omega (arith, mk-≤ a b t))
 
 pub ≤q-sub : (x y : ℚ) → x ≤q y → qn 0 ≤q y -q x
 ≤q-sub = imp₂ leq (λ x y. leq (qn 0) (y -q x)) sub-mk
 
 mk-sub : (a b : Fr) → qn 0 ≤q mk b -q mk a → mk a ≤q mk b
 unfolding _+q_ negq
-mk-sub a b t = ≤-mk a b (sub-out a b (mk-≤ (whole 0 0) (addF b (negF a)) t))
+mk-sub a b t = ≤-mk a b (omega (arith, mk-≤ (whole 0 0) (addF b (negF a)) t))
 
 pub sub-≤q : (x y : ℚ) → qn 0 ≤q y -q x → x ≤q y
 sub-≤q = imp₂ (λ x y. leq (qn 0) (y -q x)) leq mk-sub
@@ -166,17 +145,13 @@ sub-≤q = imp₂ (λ x y. leq (qn 0) (y -q x)) leq mk-sub
 nn-add : (a b : Fr) → LeF (whole 0 0) a → LeF (whole 0 0) b → LeF (whole 0 0) (addF a b)
 nn-add a b h k = omega (arith, mul-le-mul-right (b .d) h, mul-le-mul-right (a .d) k)
 
-four : (n a m b : ℕ) → (n + a) * m + n * (m + b) ≤ (n + a) * (m + b) + n * m
-four n a m b = omega arith
-
 nn-mul : (a b : Fr) → LeF (whole 0 0) a → LeF (whole 0 0) b → LeF (whole 0 0) (mulF a b)
 nn-mul a b h k =
     let h' : a .n ≤ a .p = omega arith in
     let k' : b .n ≤ b .p = omega arith in
-    let u = le-dest h' in
-    let v = le-dest k' in
+    let u = le-dest h' in let v = le-dest k' in
     let w : a .p * b .n + a .n * b .p ≤ a .p * b .p + a .n * b .n = subst (λ (x : ℕ). x * b .n + a .n * b .p ≤ x * b .p + a .n * b .n) (u .1)
-    (subst (λ (x : ℕ). (a .n + u .0) * b .n + a .n * x ≤ (a .n + u .0) * x + a .n * b .n) (v .1) (four (a .n) (u .0) (b .n) (v .0))) in
+    (subst (λ (x : ℕ). (a .n + u .0) * b .n + a .n * x ≤ (a .n + u .0) * x + a .n * b .n) (v .1) (omega arith)) in
     omega arith
 
 add-mk-nn : (a b : Fr) → T (leq (qn 0) (mk a) && leq (qn 0) (mk b)) → qn 0 ≤q mk a +q mk b
@@ -260,11 +235,7 @@ inv-ok x t = go (leq x (qn 0)) (recip x) t
     go false f u = f tt .1
 
 cancel-ℕ : (n k p m : ℕ) → (n + suc k) * m + n * p ≤ n * m + (n + suc k) * p → m ≤ p
-cancel-ℕ n k p m h = le-of-mul-le-mul-right h' (zero-lt-suc k)
-  where
-    h' : m * suc k ≤ p * suc k
-    h' = omega arith
-
+cancel-ℕ n k p m h = le-of-mul-le-mul-right (omega arith) (zero-lt-suc k)
 cancelF : (a b : Fr) → T (not (leq (mk a) (qn 0))) → qn 0 ≤q mk a *q mk b → qn 0 ≤q mk b
 unfolding leq _*q_
 cancelF a b t u =
@@ -275,11 +246,7 @@ cancelF a b t u =
     let e : a .n + suc (k .0) ≡ a .p = omega (arith, k .1) in
     let w : a .p * b .n + a .n * b .p ≤ a .n * b .n + a .p * b .p = omega arith in
     ≤-mk (whole 0 0) b
-    (fin' (b .n) (b .p) (b .d) (cancel-ℕ (a .n) (k .0) (b .p) (b .n) (subst (λ (x : ℕ). x * b .n + a .n * b .p ≤ a .n * b .n + x * b .p) (sym e) w)))
-  where
-    fin' : (m p d : ℕ) → m ≤ p → 0 * d + m * 1 ≤ p * 1 + 0 * d
-    fin' m p d h = omega arith
-
+    (omega (arith, cancel-ℕ (a .n) (k .0) (b .p) (b .n) (subst (λ (x : ℕ). x * b .n + a .n * b .p ≤ a .n * b .n + x * b .p) (sym e) w)))
 -- what a positive factor times gives a number that is not negative is not negative
 pub cancel-nn : (x y : ℚ) → T (not (leq x (qn 0))) → qn 0 ≤q x *q y → qn 0 ≤q y
 cancel-nn x y h k = imp₂ (λ x y. not (leq x (qn 0)) && leq (qn 0) (x *q y)) (λ x y. leq (qn 0) y) can x y (and-i (not (leq x (qn 0))) (leq (qn 0) (x *q y)) h k)

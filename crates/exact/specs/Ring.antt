@@ -110,32 +110,23 @@ evP (x ∷ ρ) = evL (evP ρ) x
 pub zero-+q : (x : ℚ) → qn 0 +q x ≡ x
 zero-+q x = +q-comm (qn 0) x ∙ +q-zero x
 
-sum4 : (a b x p q : ℚ) → a +q b +q x *q (p +q q) ≡ a +q x *q p +q (b +q x *q q)
-sum4 a b x p q = simp (*q-add, +q-assoc, +q-left-comm)
-
 addL-ok : {A : Type 0} (e : A → ℚ) (x : ℚ) (f : A → A → A) → ((a b : A) → e (f a b) ≡ e a +q e b)
     → (p q : List A) → evL e x (addL f p q) ≡ evL e x p +q evL e x q
 unfolding evL addL
 addL-ok e x f h [] q = sym (zero-+q (evL e x q))
 addL-ok e x f h (a ∷ p) [] = sym (+q-zero (e a +q x *q evL e x p))
-addL-ok e x f h (a ∷ p) (b ∷ q) = ap₂ (λ u v. u +q x *q v) (h a b) (addL-ok e x f h p q) ∙ sum4 (e a) (e b) x (evL e x p) (evL e x q)
+addL-ok e x f h (a ∷ p) (b ∷ q) = ap₂ (λ u v. u +q x *q v) (h a b) (addL-ok e x f h p q) ∙ (simp (*q-add, +q-assoc, +q-left-comm))
 
 negL-ok : {A : Type 0} (e : A → ℚ) (x : ℚ) (f : A → A) → ((a : A) → e (f a) ≡ negq (e a)) → (p : List A) → evL e x (mapL f p) ≡ negq (evL e x p)
 unfolding evL mapL
 negL-ok e x f h [] = sym neg-zero
 negL-ok e x f h (a ∷ p) = ap₂ (λ u v. u +q x *q v) (h a) (negL-ok e x f h p) ∙ simp (neg-add, *q-neg)
 
-scale : (a b x q : ℚ) → a *q b +q x *q (a *q q) ≡ a *q (b +q x *q q)
-scale a b x q = simp (*q-add, *q-left-comm)
-
 mapL-ok : {A : Type 0} (e : A → ℚ) (x : ℚ) (g : A → A → A) → ((a b : A) → e (g a b) ≡ e a *q e b)
     → (a : A) (q : List A) → evL e x (mapL (g a) q) ≡ e a *q evL e x q
 unfolding evL mapL
 mapL-ok e x g h a [] = sym (*q-zero (e a))
-mapL-ok e x g h a (b ∷ q) = ap₂ (λ u v. u +q x *q v) (h a b) (mapL-ok e x g h a q) ∙ scale (e a) (e b) x (evL e x q)
-
-zero-*q : (x : ℚ) → qn 0 *q x ≡ qn 0
-zero-*q x = *q-comm (qn 0) x ∙ *q-zero x
+mapL-ok e x g h a (b ∷ q) = ap₂ (λ u v. u +q x *q v) (h a b) (mapL-ok e x g h a q) ∙ (simp (*q-add, *q-left-comm))
 
 step : (a x p q : ℚ) → a *q q +q (qn 0 +q x *q (p *q q)) ≡ (a +q x *q p) *q q
 step a x p q = ap (λ z. a *q q +q z) (zero-+q (x *q (p *q q)) ∙ sym (*q-assoc x p q)) ∙ sym (add-*q a (x *q p) q)
@@ -144,7 +135,7 @@ mulL-ok : {A : Type 0} (e : A → ℚ) (x : ℚ) (z : A) (f g : A → A → A) �
     → ((a b : A) → e (f a b) ≡ e a +q e b) → ((a b : A) → e (g a b) ≡ e a *q e b) → (p q : List A)
     → evL e x (mulL z f g p q) ≡ evL e x p *q evL e x q
 unfolding evL mulL
-mulL-ok e x z f g hz hf hg [] q = sym (zero-*q (evL e x q))
+mulL-ok e x z f g hz hf hg [] q = sym (*q-comm (qn 0) (evL e x q) ∙ *q-zero (evL e x q))
 mulL-ok e x z f g hz hf hg (a ∷ p) q =
     addL-ok e x f hf (mapL (g a) q) (z ∷ mulL z f g p q)
     ∙ ap₂ _+q_ (mapL-ok e x g hg a q) (ap₂ (λ u v. u +q x *q v) hz (mulL-ok e x z f g hz hf hg p q))

@@ -87,11 +87,7 @@ along c d x y u v h k =
     ∙ ap₂ (λ s t. c *q s +q t) h k
 
 exactly : (D E : ℕ) → E % D ≡ 0 → E / D * D ≡ E
-exactly D E h = go (E / D * D) (E % D) h (div-add-mod' E D)
-  where
-    go : (a b : ℕ) → b ≡ 0 → a + b ≡ E → a ≡ E
-    go a b h k = omega arith
-
+exactly D E h = omega (arith, div-add-mod' E D)
 addO-ok : (ρ : List ℚ) (x y : ℚ) (a b : Ov ρ) → Is ρ x a → Is ρ y b → Is ρ (x +q y) (addO ρ a b)
 unfolding addO
 addO-ok ρ x y (ov D p) (ov E q) h k = go (eqb (E % D) 0) (eqb→eq (E % D) 0)
@@ -204,10 +200,8 @@ unfolding same
 abs-quot D v w R Dp e h =
     let c = R / D + 1 in
     let l : R ≤ D * c = le-up (R / D) (lt-div-mul-add Dp) in
-    let k = ≤q-sub (iv R) (iv (D * c)) (iv-le R (D * c) l) in
-    let ρ = iv R ∷ iv (D * c) ∷ w ∷ [] in
-    let σ = qn D ∷ iv c ∷ v ∷ [] in
-    let t = qn-pos D Dp in
+    let k = ≤q-sub (iv R) (iv (D * c)) (iv-le R (D * c) l) in let ρ = iv R ∷ iv (D * c) ∷ w ∷ [] in
+    let σ = qn D ∷ iv c ∷ v ∷ [] in let t = qn-pos D Dp in
     let below = ring ρ ((var 1 :- var 0) :+ (var 0 :- var 2)) (var 1 :- var 2) tt
     ∙ ap₂ (λ a b. a -q b) (sym (iv-scale D c)) (sym e) ∙ ring σ (var 0 :* var 1 :- var 0 :* var 2) (var 0 :* (var 1 :- var 2)) tt in
     let above = ring ρ ((var 1 :- var 0) :+ (var 0 :+ var 2)) (var 1 :+ var 2) tt

@@ -2,7 +2,7 @@
 use mathlib.Core.Path.{_≡_, refl, sym, ap, _∙_, subst}
 use mathlib.Core.Bool.{Bool, true, false, cond}
 use mathlib.Core.Quot.{Quot·sound}
-use Prim.Native.Nat.{ℕ, zero, suc, _+_, _-_, _*_, _^_, _≤_, _<_}
+use Prim.Native.Nat.{ℕ, zero, suc, _-_, _*_, _^_, _≤_, _<_}
 use native.Mathlib.Nat.{mul-pos, zero-lt-suc, zero-mul, mul-zero}
 use native.Mathlib.Omega.{arith}
 use lib.IntN.{pos}
@@ -43,11 +43,7 @@ grid-zero den D = go (2 ^ 52) (grid binary64 0 den) (kept-near 53 (0 * 2 ^ 1074)
   where
     go : (h g : ℕ) → Near h 0 den g → 0 < h → g ≡ 0
     go h zero x H = refl
-    go h (suc g) x H = absurd (no (h * den) (g * den * h) (x .0) (mul-pos H D))
-      where
-        no : (a b : ℕ) → suc g * den * (h * 2) ≤ 0 * (h * 2) + (0 + h * den) → 0 < h * den → ⊥
-        no a b p q = omega arith
-
+    go h (suc g) x H = absurd (omega (arith, x .0, mul-pos H D))
 round-zero : (s : Bool) (den : ℕ) → 0 < den → val (round binary64 s 0 den) ≡ qn 0
 round-zero s den D =
     has→val (round binary64 s 0 den) s 0 (2 ^ 1074) (pow-pos 1074) (subst (λ (g : ℕ). HasValue (round binary64 s 0 den) s g (2 ^ 1074))

@@ -30,32 +30,21 @@ has→val (fin t m e) s a c C h = (tt, ap (λ b. sg b (m * up e) (down e) (down-
 -- ---- `round` in whole numbers
 small : (h n den g P O : ℕ) → Near h n den g → n ≤ P * den → 0 < den → 0 < h → 0 < P → P * 4 ≤ O → g < O
 small h n den g P O x a D H Pp o =
-    let b = mul-le-mul-right (h * 2) a in
-    let c = mul-le-mul-right (P * den) H in
-    let d = mul-le-mul-right (h * den) Pp in
-    let e = mul-le-mul-right (den * (h * 2)) o in
+    let b = mul-le-mul-right (h * 2) a in let c = mul-le-mul-right (P * den) H in
+    let d = mul-le-mul-right (h * den) Pp in let e = mul-le-mul-right (den * (h * 2)) o in
     let z : 0 < P * den * h = mul-pos (mul-pos Pp D) H in
     let x0 = x .0 in
     lt-of-mul-lt-mul-right (den * (h * 2))
-    (fin-step (g * den * (h * 2)) (g * (den * (h * 2))) (O * (den * (h * 2))) (P * den * h) (omega arith) (omega arith) (omega arith) z)
-  where
-    fin-step : (x y o z : ℕ) → x ≤ z * 4 → y ≡ x → z * 8 ≤ o → 0 < z → y < o
-    fin-step x y o z a b c d = omega arith
-
+    (omega arith)
 -- the error in units of 1 / u, for num / den ≤ M / u
 abbrev pub rnd : ℕ → ℕ
 rnd M = M / 2 ^ 53 + 2
 
-rnd-ge : (M : ℕ) → M + 2 ^ 53 ≤ rnd M * 2 ^ 53
-rnd-ge M = omega arith
-
 within : (h num den g L u M e : ℕ) → Near h (num * L) den g → num * u ≤ M * den → M + h * 2 ≤ e * (h * 2) → u ≤ L → 0 < h
     → (g * den * u ≤ num * L * u + e * (den * L)) × (num * L * u ≤ g * den * u + e * (den * L))
 within h num den g L u M e x m k l H =
-    let a = mul-le-mul-right u (x .0) in
-    let b = mul-le-mul-right u (x .1) in
-    let c = mul-le-mul-right L m in
-    let d = mul-le-mul-right (den * L) k in
+    let a = mul-le-mul-right u (x .0) in let b = mul-le-mul-right u (x .1) in
+    let c = mul-le-mul-right L m in let d = mul-le-mul-right (den * L) k in
     let f = mul-le-mul-right (h * den) l in
     let H2 : 0 < h * 2 = omega arith in
     let p : g * den * u * (h * 2) ≤ (num * L * u + e * (den * L)) * (h * 2) = omega arith in
@@ -96,7 +85,7 @@ round-err s num den D M m k =
     let g : grid binary64 num den < 2 ^ 2098 = small (2 ^ 52) (num * L) den (grid binary64 num den)
     (huge * L) (2 ^ 2098) x n' D (pow-pos 52) (mul-pos (pow-pos 1000) (pow-pos 1074)) (lit≤ tt) in
     let v = has→val (round binary64 s num den) s (grid binary64 num den) L (pow-pos 1074) (round-has s num den g) in
-    let w = within (2 ^ 52) num den (grid binary64 num den) L U M (rnd M) x m (rnd-ge M) U-le (pow-pos 52) in
+    let w = within (2 ^ 52) num den (grid binary64 num den) L U M (rnd M) x m (omega arith) U-le (pow-pos 52) in
     (v .0, subst (λ z. Abs (z -q sg s num den D) (rnd M)) (sym (v .1)) (err s (grid binary64 num den) L num den (rnd M) (pow-pos 1074) D (w .0) (w .1)))
 
 -- ---- one operation: a fraction rounded once
@@ -160,8 +149,7 @@ sum-rounds true a false b c C = go (ltb a b) (ltb→lt a b) (nltb→le a b) (ltb
     go true p q y r = let p' = p tt in record { sign = false; num = b - a; den = c; den-pos = C; is = refl; value = less a b (b - a) c C (omega arith) .1 }
     go false p q true r = let q' = q tt in record { sign = true; num = a - b; den = c; den-pos = C; is = refl; value = more a b (a - b) c C (omega arith) .1 }
     go false p q false r =
-        let q' = q tt in
-        let r' = r tt in
+        let q' = q tt in let r' = r tt in
         record { sign = false; num = a - b; den = c; den-pos = C; is = refl; value = less a b (a - b) c C (omega arith) .1 }
 
 -- ±a / x and ±b / y over the common denominator
@@ -221,12 +209,8 @@ mul-rounds (inf s) y p q = absurd p
 mul-rounds (fin s m e) nan p q = absurd q
 mul-rounds (fin s m e) (inf t) p q = absurd q
 mul-rounds (fin s m e) (fin t n d) p q = record {
-  sign = unlike s t;
-  num = m * up e * (n * up d);
-  den = down e * down d;
-  den-pos = mul-pos (down-pos e) (down-pos d);
-  is = refl;
-  value = times s t (m * up e) (n * up d) (down e) (down d) (down-pos e) (down-pos d);
+  sign = unlike s t; num = m * up e * (n * up d); den = down e * down d; den-pos = mul-pos (down-pos e) (down-pos d);
+  is = refl; value = times s t (m * up e) (n * up d) (down e) (down d) (down-pos e) (down-pos d);
 }
 
 pub mul-err : (x y : Float) (M : ℕ) → T (finite x) → T (finite y) → Abs (val x *q val y) M → M ≤ U * huge
@@ -255,11 +239,7 @@ unlike-false true = refl
 unlike-false false = refl
 
 first-pos : (n u : ℕ) → 0 < n * u → n ≡ 0 → ⊥
-first-pos n u h e = no-pos (subst (λ (k : ℕ). 0 < k * u) e h)
-  where
-    no-pos : 0 < 0 * u → ⊥
-    no-pos h = omega arith
-
+first-pos n u h e = omega (arith, subst (λ (k : ℕ). 0 < k * u) e h)
 div-rounds : (x y : Float) → T (finite x) → T (finite y) → T (not (leq (val y) (qn 0))) → Rounds (div binary64 x y) (val x *q inv (val y))
 unfolding div
 div-rounds nan y p q o = absurd p

@@ -27,7 +27,6 @@ use Rattle.plan.specs.Noting.{endedOf, withTimeStep, withBody, withJoint
 use Rattle.plan.specs.Noting.{All, BodyAt, JointAt, There, Reaches, Reads}
 
 -- ---- the part after k bytes, as the borrow checker has it
-
 abbrev pub rest : ℕ → List ℕ → List ℕ
 rest k s = take (length s - k) (drop k s)
 
@@ -45,7 +44,6 @@ rest-asked k s t {u = u} some long eu place pre =
     (omega (arith, rest-length k s), omega (arith, rest-length k s))
 
 -- ---- the tables, from the places
-
 module _ (file : List ℕ) (p : ℕ) where
   pub body-within : BodyAt file p → p ≤ length file
   body-within h = omega (arith, length-drop p file)
@@ -74,17 +72,12 @@ module _ (file places : List ℕ) where
 pub filled-is : (file : List ℕ) (tables : Plan) (t : Notes) {bodies : List Float} {joints : List Joint}
     → bodies ≡ bodiesFrom file (t .bodies) (t .«body_count») (tables .bodies) → joints ≡ jointsFrom file (t .joints) (t .«joint_count») (tables .joints)
     → record {
-      dt = t .dt;
-      «has_dt» = t .«has_dt»;
-      bodies = bodies;
-      «body_count» = t .«body_count»;
-      joints = joints;
+      dt = t .dt; «has_dt» = t .«has_dt»; bodies = bodies; «body_count» = t .«body_count»; joints = joints;
       «joint_count» = t .«joint_count»;
     } ≡ filledOf file tables t
 filled-is file tables t h g = cc
 
 -- ---- one more place
-
 module _ (places : List ℕ) (n p : ℕ) (room : n < length places) where
   pub all-more : (P : ℕ → Type 0) → All P places n → P p → All P (set places n p) (n + 1)
   all-more P h q k l = by (ℕ-discrete k n)
@@ -107,17 +100,12 @@ module _ (places : List ℕ) (n p : ℕ) (room : n < length places) where
         ∙ turns-more (λ k. f k (getD (set places n p) k 0)) n a (sym (turns-before n (omega arith)))
 
 -- ---- the notes with one more record
-
 module _ (s file : List ℕ) (t : Notes) (from : s ≡ drop (t .at) file) (old : There file t) where
   noted-time-step : (x : Float) → There file (withTimeStep x t)
   noted-time-step x =
       record {
-        body-space = old .body-space;
-        joint-space = old .joint-space;
-        few-bodies = old .few-bodies;
-        few-joints = old .few-joints;
-        bodies = old .bodies;
-        joints = old .joints;
+        body-space = old .body-space; joint-space = old .joint-space; few-bodies = old .few-bodies;
+        few-joints = old .few-joints; bodies = old .bodies; joints = old .joints;
       }
 
   noted-body : BODY ≤ length s → t .«body_count» < 16 → There file (withBody t)
@@ -125,10 +113,8 @@ module _ (s file : List ℕ) (t : Notes) (from : s ≡ drop (t .at) file) (old :
       let n : ℕ = t .«body_count» in
       let within : n < length (t .bodies) = omega (arith, old .body-space) in
       record {
-        body-space = length-set (t .bodies) n (t .at) ∙ old .body-space;
-        joint-space = old .joint-space;
-        few-bodies = omega arith;
-        few-joints = old .few-joints;
+        body-space = length-set (t .bodies) n (t .at) ∙ old .body-space; joint-space = old .joint-space;
+        few-bodies = omega arith; few-joints = old .few-joints;
         bodies = all-more (t .bodies) n (t .at) within (BodyAt file) (old .bodies) (subst (λ (x : List ℕ). BODY ≤ length x) from long);
         joints = old .joints;
       }
@@ -138,11 +124,8 @@ module _ (s file : List ℕ) (t : Notes) (from : s ≡ drop (t .at) file) (old :
       let n : ℕ = t .«joint_count» in
       let within : n < length (t .joints) = omega (arith, old .joint-space) in
       record {
-        body-space = old .body-space;
-        joint-space = length-set (t .joints) n (t .at) ∙ old .joint-space;
-        few-bodies = old .few-bodies;
-        few-joints = omega arith;
-        bodies = old .bodies;
+        body-space = old .body-space; joint-space = length-set (t .joints) n (t .at) ∙ old .joint-space;
+        few-bodies = old .few-bodies; few-joints = omega arith; bodies = old .bodies;
         joints = all-more (t .joints) n (t .at) within (JointAt file) (old .joints) (subst JointThere from long);
       }
 
@@ -173,7 +156,6 @@ module _ (s file : List ℕ) (t : Notes) (from : s ≡ drop (t .at) file) (old :
         cc
 
 -- ---- the ways of one turn
-
 ended-is : (file : List ℕ) (tables : Plan) (t : Notes) {o : ReadOutcome} → o ≡ endedOf (t .«has_dt»)
     → readingOf file tables o t ≡ File.endedOf tables (filledOf file tables t)
 ended-is file tables t e = ap (λ (o : ReadOutcome). readingOf file tables o t) e ∙ by (t .«has_dt»)
@@ -232,8 +214,7 @@ module _ (s : List ℕ) (t : Notes) {h : Found} (e : h ≡ headOf s (t .«has_dt
   unfolding readOn nextOf
   read-joint g eu ih zero file tables l from there = absurd (omega arith)
   read-joint {k} g eu ih (suc n) file tables l from there =
-      let room = room-joint s _ _ _ e g in
-      let long = length-joint s _ _ _ e g in
+      let room = room-joint s _ _ _ e g in let long = length-joint s _ _ _ e g in
       let there' = noted-joint s file t from there k (room .0) (room .1) in
       let next = turn k eu (omega arith) (long .0) refl ih n file tables l from there' in
       record {
@@ -242,7 +223,6 @@ module _ (s : List ℕ) (t : Notes) {h : Found} (e : h ≡ headOf s (t .«has_dt
       }
 
 -- ---- the whole file
-
 abbrev pub start : Float → Notes
 start x =
     record { at = 0; dt = x; «has_dt» = false; bodies = replicate 16 0; «body_count» = 0; joints = replicate 16 0; «joint_count» = 0 }
@@ -251,11 +231,8 @@ module _ (file : List ℕ) (tables : Plan) {r : Noted} (reads : Reads file (star
   there-none : There file (start (tables .dt))
   there-none =
       record {
-        body-space = length-replicate {A = ℕ} 16 0;
-        joint-space = length-replicate {A = ℕ} 16 0;
-        few-bodies = omega arith;
-        few-joints = omega arith;
-        bodies = λ k h. absurd (omega arith);
+        body-space = length-replicate {A = ℕ} 16 0; joint-space = length-replicate {A = ℕ} 16 0;
+        few-bodies = omega arith; few-joints = omega arith; bodies = λ k h. absurd (omega arith);
         joints = λ k h. absurd (omega arith);
       }
 

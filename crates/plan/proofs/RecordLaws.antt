@@ -52,7 +52,6 @@ module _ (s : List ℕ) where
   joint-is ha hb hk = cc
 
 -- ---- the loop that stores a body's doubles
-
 module _ (d : List Float) (at : ℕ) (s : List ℕ) where
   pub put-none : d ≡ paste d at (bodyOf s) 0
   put-none = paste-zero d at (bodyOf s)

@@ -22,7 +22,6 @@ use Rattle.plan.specs.File.{numberOf, byte, marked, jointSize, JointTher
 use Rattle.plan.specs.File.{nextOf, readOn, readOf, cleared, withTimeStep, withBody, withJoint, bodyOf, jointOf, emptyOf}
 
 -- ---- the length of a joint's record by its kind
-
 pub size-4 : (k : ℕ) → k ≡ 4 → DISTANCE ≡ jointSize k
 size-4 k h = simp (eq-eqb _ _ h)
 
@@ -51,7 +50,6 @@ module _ (s : List ℕ) (h : JointThere s) where
   there-cone h0 h1 h2 h3 h4 = let e : byte s KIND ≡ 5 = omega arith in omega (arith, size-5 (byte s KIND) e)
 
 -- ---- what stands at the head is there to its end, and the tables have room for it; a refusal has a number
-
 unfoldable pub Room : List ℕ → Bool → ℕ → ℕ → Found → Type 0
 Room s seen bodies joints found.End = Unit {0}
 Room s seen bodies joints (found.Refused e) = numberOf e ≡ 0 → ⊥
@@ -113,7 +111,6 @@ module _ (s : List ℕ) (seen : Bool) (bodies joints : ℕ) where
     length-joint g = let r = room-joint g in omega (arith, r .0 .1, r .2, size-within (byte s KIND) .0)
 
 -- ---- what a reading keeps
-
 -- t has records in the space of the tables that came, and the space after them is as it was
 pub record Kept (tables t : Plan) : Type 0 where
   pub body-room : t .«body_count» ≤ 16
@@ -145,12 +142,8 @@ module _ (tables : Plan) where
   unfolding withTimeStep
   kept-time-step s t k =
       record {
-        body-room = k .body-room;
-        joint-room = k .joint-room;
-        body-length = k .body-length;
-        joint-length = k .joint-length;
-        bodies-after = k .bodies-after;
-        joints-after = k .joints-after;
+        body-room = k .body-room; joint-room = k .joint-room; body-length = k .body-length;
+        joint-length = k .joint-length; bodies-after = k .bodies-after; joints-after = k .joints-after;
       }
 
   kept-body : (s : List ℕ) (t : Plan) → t .«body_count» < 16 → Kept tables t → Kept tables (withBody s t)
@@ -161,8 +154,7 @@ module _ (tables : Plan) where
       let long : 26 * n + 26 ≤ length (t .bodies) = omega (arith, k .body-length) in
       let most : 26 ≤ length (bodyOf s) = omega (arith, body-of-length s) in
       record {
-        body-room = omega arith;
-        joint-room = k .joint-room;
+        body-room = omega arith; joint-room = k .joint-room;
         body-length = length-paste (t .bodies) (26 * n) (bodyOf s) 26 long most ∙ k .body-length;
         joint-length = k .joint-length;
         bodies-after =
@@ -176,11 +168,8 @@ module _ (tables : Plan) where
   kept-joint s t h k =
       let n : ℕ = t .«joint_count» in
       record {
-        body-room = k .body-room;
-        joint-room = omega arith;
-        body-length = k .body-length;
-        joint-length = length-set (t .joints) n (jointOf s) ∙ k .joint-length;
-        bodies-after = k .bodies-after;
+        body-room = k .body-room; joint-room = omega arith; body-length = k .body-length;
+        joint-length = length-set (t .joints) n (jointOf s) ∙ k .joint-length; bodies-after = k .bodies-after;
         joints-after = rw (add-one n) (drop-set (t .joints) n (jointOf s)) ∙ drop-on n 1 (t .joints) (tables .joints) (k .joints-after);
       }
 

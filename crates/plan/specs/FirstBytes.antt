@@ -40,7 +40,6 @@ drop-take (suc k) zero (x ∷ xs) = let e : 0 ≡ 0 - suc k = omega arith in ap 
 drop-take (suc k) (suc m) (x ∷ xs) = let e : m - k ≡ suc m - suc k = omega arith in drop-take k m xs ∙ ap (λ (j : ℕ). take j (drop k xs)) e
 
 -- ---- what stands before the cut
-
 module _ (m : ℕ) (s : List ℕ) where
   byte-cut : (i : ℕ) → i < m → byte (take m s) i ≡ byte s i
   byte-cut i h = getD-take m s i 0 h
@@ -48,15 +47,8 @@ module _ (m : ℕ) (s : List ℕ) where
   double-cut : (i : ℕ) → i + 8 ≤ m → double (take m s) i ≡ double s i
   unfolding double
   double-cut i h =
-      let b0 : byte (take m s) i ≡ byte s i = byte-cut i (omega arith) in
-      let b1 : byte (take m s) (i + 1) ≡ byte s (i + 1) = byte-cut (i + 1) (omega arith) in
-      let b2 : byte (take m s) (i + 2) ≡ byte s (i + 2) = byte-cut (i + 2) (omega arith) in
-      let b3 : byte (take m s) (i + 3) ≡ byte s (i + 3) = byte-cut (i + 3) (omega arith) in
-      let b4 : byte (take m s) (i + 4) ≡ byte s (i + 4) = byte-cut (i + 4) (omega arith) in
-      let b5 : byte (take m s) (i + 5) ≡ byte s (i + 5) = byte-cut (i + 5) (omega arith) in
-      let b6 : byte (take m s) (i + 6) ≡ byte s (i + 6) = byte-cut (i + 6) (omega arith) in
-      let b7 : byte (take m s) (i + 7) ≡ byte s (i + 7) = byte-cut (i + 7) (omega arith) in
-      cc
+      cc (byte-cut i (omega arith), byte-cut (i + 1) (omega arith), byte-cut (i + 2) (omega arith), byte-cut (i + 3) (omega arith),
+      byte-cut (i + 4) (omega arith), byte-cut (i + 5) (omega arith), byte-cut (i + 6) (omega arith), byte-cut (i + 7) (omega arith))
 
   body-cut : BODY ≤ m → bodyOf (take m s) ≡ bodyOf s
   unfolding bodyOf
@@ -64,31 +56,17 @@ module _ (m : ℕ) (s : List ℕ) where
 
   frame-cut : (i : ℕ) → i + 56 ≤ m → frameAt (take m s) i ≡ frameAt s i
   frame-cut i h =
-      let d0 : double (take m s) i ≡ double s i = double-cut i (omega arith) in
-      let d1 : double (take m s) (i + 8) ≡ double s (i + 8) = double-cut (i + 8) (omega arith) in
-      let d2 : double (take m s) (i + 16) ≡ double s (i + 16) = double-cut (i + 16) (omega arith) in
-      let d3 : double (take m s) (i + 24) ≡ double s (i + 24) = double-cut (i + 24) (omega arith) in
-      let d4 : double (take m s) (i + 32) ≡ double s (i + 32) = double-cut (i + 32) (omega arith) in
-      let d5 : double (take m s) (i + 40) ≡ double s (i + 40) = double-cut (i + 40) (omega arith) in
-      let d6 : double (take m s) (i + 48) ≡ double s (i + 48) = double-cut (i + 48) (omega arith) in
-      cc
+      cc (double-cut i (omega arith), double-cut (i + 8) (omega arith), double-cut (i + 16) (omega arith), double-cut (i + 24) (omega arith),
+      double-cut (i + 32) (omega arith), double-cut (i + 40) (omega arith), double-cut (i + 48) (omega arith))
 
   joint-cut : CONE-TWIST ≤ m → jointOf (take m s) ≡ jointOf s
   unfolding jointOf kindOf
   joint-cut h =
-      let b2 : byte (take m s) SIDE-A ≡ byte s SIDE-A = byte-cut SIDE-A (omega arith) in
-      let b3 : byte (take m s) SIDE-B ≡ byte s SIDE-B = byte-cut SIDE-B (omega arith) in
-      let b4 : byte (take m s) KIND ≡ byte s KIND = byte-cut KIND (omega arith) in
-      let fa : frameAt (take m s) FRAME-A ≡ frameAt s FRAME-A = frame-cut FRAME-A (omega arith) in
-      let fb : frameAt (take m s) FRAME-B ≡ frameAt s FRAME-B = frame-cut FRAME-B (omega arith) in
-      let d0 : double (take m s) SWING-X ≡ double s SWING-X = double-cut SWING-X (omega arith) in
-      let d1 : double (take m s) SWING-Y ≡ double s SWING-Y = double-cut SWING-Y (omega arith) in
-      let d2 : double (take m s) TWIST-LOWER ≡ double s TWIST-LOWER = double-cut TWIST-LOWER (omega arith) in
-      let d3 : double (take m s) TWIST-UPPER ≡ double s TWIST-UPPER = double-cut TWIST-UPPER (omega arith) in
-      cc
+      cc (byte-cut SIDE-A (omega arith), byte-cut SIDE-B (omega arith), byte-cut KIND (omega arith), frame-cut FRAME-A (omega arith),
+      frame-cut FRAME-B (omega arith), double-cut SWING-X (omega arith), double-cut SWING-Y (omega arith),
+      double-cut TWIST-LOWER (omega arith), double-cut TWIST-UPPER (omega arith))
 
 -- ---- the tests, where the cut leaves something out
-
 same-if : {A : Type 0} (b : Bool) (x : A) {y z : A} → (b ≡ false → y ≡ z) → cond b x y ≡ cond b x z
 same-if true x h = refl
 same-if false x h = h refl
@@ -102,10 +80,7 @@ module _ (m : ℕ) (s : List ℕ) (long : m < length s) where
   long-enough k h = le-ltb (length (take m s)) k (rw cut-length h) ∙ sym (le-ltb (length s) k (omega arith))
 
   mark-cut : (mark : List ℕ) → 2 ≤ m → marked (take m s) mark ≡ marked s mark
-  mark-cut mark h =
-      let b0 : byte (take m s) 0 ≡ byte s 0 = byte-cut m s 0 (omega arith) in
-      let b1 : byte (take m s) 1 ≡ byte s 1 = byte-cut m s 1 (omega arith) in
-      cc
+  mark-cut mark h = cc (byte-cut m s 0 (omega arith), byte-cut m s 1 (omega arith))
 
   module _ (seen : Bool) (bodies joints : ℕ) (h : needed seen bodies joints ≤ m) where
     two-needed : 2 ≤ m
@@ -153,7 +128,6 @@ module _ (m : ℕ) (s : List ℕ) (long : m < length s) where
         cc
 
 -- ---- one turn, and all of them
-
 -- f of what is before the cut is f of the whole, where that holds of a cut that leaves something out
 either : {A : Type 0} (f : List ℕ → A) (m : ℕ) (s : List ℕ) → (m < length s → f (take m s) ≡ f s) → f (take m s) ≡ f s
 either {A} f m s h = by (split m (length s))

@@ -23,45 +23,28 @@ abbrev pub endedOf : Bool → ReadOutcome
 endedOf seen = cond seen Read NoTimeStep
 
 -- ---- the notes with one more record, which stands where they end
-
 abbrev pub withTimeStep : Float → Notes → Notes
 withTimeStep x t =
     record {
-      at = t .at + TIME-STEP;
-      dt = x;
-      «has_dt» = true;
-      bodies = t .bodies;
-      «body_count» = t .«body_count»;
-      joints = t .joints;
-      «joint_count» = t .«joint_count»;
+      at = t .at + TIME-STEP; dt = x; «has_dt» = true; bodies = t .bodies; «body_count» = t .«body_count»;
+      joints = t .joints; «joint_count» = t .«joint_count»;
     }
 
 abbrev pub withBody : Notes → Notes
 withBody t =
     record {
-      at = t .at + BODY;
-      dt = t .dt;
-      «has_dt» = t .«has_dt»;
-      bodies = set (t .bodies) (t .«body_count») (t .at);
-      «body_count» = t .«body_count» + 1;
-      joints = t .joints;
-      «joint_count» = t .«joint_count»;
+      at = t .at + BODY; dt = t .dt; «has_dt» = t .«has_dt»; bodies = set (t .bodies) (t .«body_count») (t .at);
+      «body_count» = t .«body_count» + 1; joints = t .joints; «joint_count» = t .«joint_count»;
     }
 
 abbrev pub withJoint : ℕ → Notes → Notes
 withJoint n t =
     record {
-      at = t .at + n;
-      dt = t .dt;
-      «has_dt» = t .«has_dt»;
-      bodies = t .bodies;
-      «body_count» = t .«body_count»;
-      joints = set (t .joints) (t .«joint_count») (t .at);
-      «joint_count» = t .«joint_count» + 1;
+      at = t .at + n; dt = t .dt; «has_dt» = t .«has_dt»; bodies = t .bodies; «body_count» = t .«body_count»;
+      joints = set (t .joints) (t .«joint_count») (t .at); «joint_count» = t .«joint_count» + 1;
     }
 
 -- ---- the tables with the records that are noted
-
 -- body k, whose record begins at byte p
 abbrev pub bodyTurn : List ℕ → ℕ → ℕ → List Float → List Float
 bodyTurn file k p table = paste table (26 * k) (bodyOf (drop p file)) 26
@@ -79,11 +62,8 @@ jointsFrom file places n table = turns (λ k. jointTurn file k (getD places k 0)
 abbrev pub filledOf : List ℕ → Plan → Notes → Plan
 filledOf file tables t =
     record {
-      dt = t .dt;
-      «has_dt» = t .«has_dt»;
-      bodies = bodiesFrom file (t .bodies) (t .«body_count») (tables .bodies);
-      «body_count» = t .«body_count»;
-      joints = jointsFrom file (t .joints) (t .«joint_count») (tables .joints);
+      dt = t .dt; «has_dt» = t .«has_dt»; bodies = bodiesFrom file (t .bodies) (t .«body_count») (tables .bodies);
+      «body_count» = t .«body_count»; joints = jointsFrom file (t .joints) (t .«joint_count») (tables .joints);
       «joint_count» = t .«joint_count»;
     }
 
@@ -93,7 +73,6 @@ readingOf file tables outcome t =
     record { outcome = outcome; plan = cond (eqb (numberOf outcome) 0) (filledOf file tables t) tables }
 
 -- ---- what a reading keeps
-
 -- each place in a list from 0 to n - 1 is one of which P holds
 abbrev pub All : (ℕ → Type 0) → List ℕ → ℕ → Type 0
 All P places n = (k : ℕ) → k < n → P (getD places k 0)

@@ -22,7 +22,6 @@ use Rattle.report.proofs.Parts.{back, back-part}
 use Rattle.report.proofs.Texts.{Reports, report-puts, same-length, puts-as}
 
 -- ---- a plan that was read
-
 module _ (plan : Plan) (scratch : List Float) (few : plan .«body_count» ≤ 16) (long : length (plan .bodies) ≡ 416) where
   abbrev used : ℕ
   used = 26 * plan .«body_count»
@@ -55,7 +54,6 @@ module _ (plan : Plan) (scratch : List Float) (few : plan .«body_count» ≤ 16
         puts-as (step-text e same) (report-puts n (s .nonlinear) (s .linear) b out fit h)
 
 -- ---- a file
-
 posed-by : (file : List ℕ) (scratch : List Float) {reading : Reading} → reading ≡ readOf file emptyOf → posedBy reading scratch ≡ poseOf file scratch
 unfolding poseOf
 posed-by file scratch e = ap (λ (x : Reading). posedBy x scratch) e

@@ -21,7 +21,6 @@ use Rattle.arith.specs.Flow.{turns}
 use Rattle.report.specs.TextLaws.{decimal-length, hex-length, numbers-more, numbers-length, lines-more, lines-length, head-length, report-fits}
 
 -- ---- a NaN is what does not equal itself
-
 same : (b : Bool) → Bool·beq b b ≡ true
 same true = refl
 same false = refl
@@ -45,7 +44,6 @@ no-number (inf s) h = absurd (subst T (sym (equal (inf s) refl) ∙ h) tt)
 no-number (fin s m e) h = absurd (subst T (sym (equal (fin s m e) refl) ∙ h) tt)
 
 -- ---- the loop that copies a text
-
 module _ (out : List ℕ) (at : ℕ) (text : List ℕ) where
   pub copy-none : out ≡ paste out at text 0
   copy-none = paste-zero out at text
@@ -60,15 +58,13 @@ module _ (out : List ℕ) (at : ℕ) (text : List ℕ) where
   copy-end i fit h g e =
       let all : i ≡ length text = omega arith in
       record {
-        ends = refl;
-        within = fit;
+        ends = refl; within = fit;
         holds =
             e ∙ ap (paste out at text) all
             ∙ ap (λ (l : List ℕ). take at out ++ l ++ drop (at + length text) out) (take-all (length text) text (omega arith));
       }
 
 -- ---- one text after another
-
 module _ (out : List ℕ) (at : ℕ) (s : List ℕ) (h : at + length s ≤ length out) where
   front-length : length (take at out ++ s) ≡ at + length s
   front-length = length-append (take at out) s ∙ ap (λ (k : ℕ). k + length s) (length-take-le at out (omega arith))
@@ -106,15 +102,13 @@ module _ {out : List ℕ} {at : ℕ} {s now : List ℕ} {a : ℕ} (p : Puts out 
   pub puts-then : {t after : List ℕ} {r : ℕ} → Puts now a t after r → Puts out at (s ++ t) after r
   puts-then {t} {after} {r} q =
       record {
-        ends = omega (arith, p .ends, q .ends, length-append s t);
-        within = omega (arith, q .within, same-length);
+        ends = omega (arith, p .ends, q .ends, length-append s t); within = omega (arith, q .within, same-length);
         holds =
             q .holds ∙ ap (λ (k : ℕ). written now k t) (p .ends) ∙ ap (λ (l : List ℕ). written l (at + length s) t) (p .holds)
             ∙ written-more out at s fits t;
       }
 
 -- ---- digits
-
 -- more than k + 1 digits make a number no smaller than b ^ k
 module _ (b least n k : ℕ) (pos : 1 ≤ b) (h : Fewest b least n k) where
   large : (m : ℕ) → m < k → least < k → b ^ m ≤ n
@@ -137,8 +131,7 @@ one-place n k g l = by (split 1 k)
 -- without the last digit there is one place fewer
 fewer : (n j : ℕ) → Fewest 10 1 n (suc (suc j)) → Fewest 10 1 (n / 10) (suc j)
 fewer n j g = (
-  omega arith,
-  div-lt-iff-lt-mul {k = 10} {x = n} {y = 10 ^ suc j} (omega arith) .1 (rw pow-suc at (g .1)),
+  omega arith, div-lt-iff-lt-mul {k = 10} {x = n} {y = 10 ^ suc j} (omega arith) .1 (rw pow-suc at (g .1)),
   λ l. le-div-iff-mul-le {k = 10} {x = 10 ^ (suc j - 1)} {y = n} (omega arith) .1
       (let e : suc j - 1 ≡ j = omega arith in
       rw e (rw (← pow-suc 10 j) (large 10 1 n (suc (suc j)) (omega arith) g (suc j) (omega arith) (omega arith)))),
@@ -173,7 +166,6 @@ hex-is x n k h e g = ap (λ (j : ℕ). digits 16 j n) (all (split 16 k)) ∙ ap 
     all (inr m) = omega (arith, g .0)
 
 -- ---- the digits that the kit's functions put into an array
-
 module _ (n : ℕ) {k : ℕ} {t : List ℕ} (h : n < 2 ^ 64) (g : Fewest 10 1 n k) (e : t ≡ digits 10 k n) where
   pub decimal-text : t ≡ decimalOf n
   decimal-text = e ∙ decimal-is n k h g
@@ -189,7 +181,6 @@ module _ (x : Float) {n k : ℕ} {t : List ℕ} (h : n < 2 ^ 64) (i : n ≡ toBi
   hex-short = ap length hex-text ∙ hex-length x
 
 -- ---- the pieces in their order, with the room that each leaves
-
 -- what is left after a text of at most m, where there were m + k
 pub left : {out : List ℕ} {at : ℕ} {s now : List ℕ} {a : ℕ} → Puts out at s now a → (m k : ℕ) → length s ≤ m → at + (m + k) ≤ length out → a + k ≤ length now
 left p m k h g = omega (arith, p .ends, same-length p)
@@ -232,9 +223,6 @@ module _ (number n m : ℕ) {out : List ℕ} (room : HEAD-LINE ≤ length out) {
       no-puts l = puts-then (puts-then (puts-then p q) r) l
 
 module _ (n m : ℕ) {out : List ℕ} (room : HEAD-LINE ≤ length out) {one : List ℕ} {a : ℕ} (p : Puts out 0 (79 ∷ 75 ∷ 32 ∷ []) one a) where
-  pub ok-1 : a + 42 ≤ length one
-  ok-1 = left p 3 42 (omega arith) (omega arith)
-
   pub ok-puts : {two : List ℕ} {b : ℕ} → Puts one a (countsOf n m) two b → Puts out 0 (okLine n m) two b
   unfolding okLine
   ok-puts q = puts-then p q
@@ -294,7 +282,6 @@ module _ (bodies : List Float) where
       lines-end h g = let all : i ≡ count = omega arith in puts-as (ap (bodyLines bodies) all) p
 
 -- ---- the whole report
-
 module _ (number n m : ℕ) (bodies : List Float) (out : List ℕ) where
   -- what `report` ensures of its answer r and of out as it leaves it
   abbrev pub Reports : List ℕ → ℕ → Type 0
@@ -334,7 +321,6 @@ module _ (number n m : ℕ) (bodies : List Float) (out : List ℕ) where
       let text : List ℕ = reportOf number n m bodies in
       let whole : r ≡ length text = p .1 .0 ∙ simp (le-leb (roomOf bodies) (length out) room) in
       record {
-        ends = whole ∙ sym (zero-add (length text));
-        within = omega (arith, report-fits number n m bodies);
+        ends = whole ∙ sym (zero-add (length text)); within = omega (arith, report-fits number n m bodies);
         holds = p .1 .1 ∙ simp (le-leb (roomOf bodies) (length out) room) (ap (λ (k : ℕ). text ++ drop k out) (sym (zero-add (length text))));
       }

@@ -37,7 +37,6 @@ unfoldable pub poseOf : List ℕ → List Float → Posed
 poseOf file scratch = posedBy (readOf file emptyOf) scratch
 
 -- ---- where it goes
-
 -- room enough for every report: a first line of at most 66 bytes, and sixteen bodies of at most 242
 abbrev pub ROOM : ℕ
 ROOM = 3938

@@ -60,7 +60,6 @@ reportOf number nonlinear linear bodies =
     headLine number nonlinear linear ++ cond (eqb number 0) (bodyLines bodies (length bodies / RECORD)) []
 
 -- ---- where it goes
-
 -- the longest first line, and the longest line of a body
 abbrev pub HEAD-LINE : ℕ
 HEAD-LINE = 66

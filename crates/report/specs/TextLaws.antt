@@ -14,7 +14,6 @@ use Rattle.report.specs.Text.{places, decimalOf, hexOf, numberOf, counts
 use Rattle.report.specs.Text.{roomOf, HEAD-LINE, BODY-LINE}
 
 -- ---- digits
-
 pub digits-length : (b k n : ℕ) → length (digits b k n) ≡ k
 digits-length b zero n = refl
 digits-length b (suc k) n = length-append (digits b k (n / b)) (glyph (n % b) ∷ []) ∙ ap (λ (x : ℕ). x + 1) (digits-length b k (n / b)) ∙ add-one k
@@ -29,7 +28,6 @@ places-most (suc k) n = by (ltb n 10) (places-most k (n / 10))
     by false h = omega arith
 
 -- ---- how long each piece is
-
 pub decimal-length : (n : ℕ) → length (decimalOf n) ≤ 20
 unfolding decimalOf
 decimal-length n = rw (digits-length 10 (places 19 n) n) (places-most 19 n)
@@ -71,7 +69,6 @@ module _ (bodies : List Float) where
   lines-length (suc n) = simp length-append (omega (arith, lines-length n, line-length n))
 
 -- ---- the room for a report is enough
-
 ok-length : (n m : ℕ) → length (okLine n m) ≤ HEAD-LINE
 unfolding okLine
 ok-length n m = simp length-append (omega (arith, counts-length n m))

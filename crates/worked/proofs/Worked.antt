@@ -139,125 +139,82 @@ straight = quat 𝟘 𝟘 𝟘 𝟙
 -- a joint of the origins of bodies 0 and 1, whose second frame is turned so
 abbrev joint : Kind → Quat → Joint
 joint kind turned = record {
-  «body_a» = 0;
-  «body_b» = 1;
-  «frame_a» = record { «local_anchor» = zeroVec; «local_rotation» = straight };
-  «frame_b» = record { «local_anchor» = zeroVec; «local_rotation» = turned };
-  kind = kind;
+  «body_a» = 0; «body_b» = 1; «frame_a» = record { «local_anchor» = zeroVec; «local_rotation» = straight };
+  «frame_b» = record { «local_anchor» = zeroVec; «local_rotation» = turned }; kind = kind;
 }
 
 abbrev rod : Float → Joint
 rod length = joint (Distance length) straight
+
+-- two balls of mass 1, the first at rest at the origin, the second there and so fast, with a joint
+abbrev pair : List Float → List Float → Joint → Float → Plan
+pair origin velocity joint dt =
+    record { bodies = standing zeros zeros zeros (ball 𝟙) ++ standing origin velocity zeros (ball 𝟙); joints = joint ∷ []; dt = dt }
 
 -- ---- the plans
 -- the first example of SPECIFICATION §15 that is to be run
 moving : Plan
 moving = record { bodies = standing zeros (triple 𝟙 𝟘 𝟘) zeros (ball (whole 2)); joints = []; dt = 𝟙 }
 
-moving-passes : refusal moving ≡ Accepted
-unfolding refusal moving
-moving-passes = refl
-
 moving-works : Works moving Accepted 1 0
     (back (0x3ff0000000000000 ∷ 0 ∷ 0 ∷ 0 ∷ 0 ∷ 0 ∷ 0x3ff0000000000000 ∷ 0x3ff0000000000000 ∷ 0 ∷ 0 ∷ 0 ∷ 0 ∷ 0 ∷ []) (ball (whole 2)))
-unfolding ended moving
-moving-works = works moving moving-passes (λ _. refl)
+unfolding refusal ended moving
+moving-works = works moving refl (λ _. refl)
 
 -- turns about an axis of its inertia, by sine and cosine
 turning : Plan
 turning =
     record {
       bodies = standing (triple 𝟙 (whole 2) (whole 3)) (triple 𝟘 (neg (whole 4)) 𝟘) (triple 𝟘 𝟘 half) (fixed 𝟙 (whole 4) (whole 4) 𝟙);
-      joints = [];
-      dt = half;
+      joints = []; dt = half;
     }
-
-turning-passes : refusal turning ≡ Accepted
-unfolding refusal turning
-turning-passes = refl
 
 turning-works : Works turning Accepted 1 0
     (back
     (0x3ff0000000000000 ∷ 0 ∷ 0x4008000000000000 ∷ 0 ∷ 0 ∷ 0x3fbfeaaeee86ee35 ∷ 0x3fefc015527d5bd2
     ∷ 0 ∷ 0xc010000000000000 ∷ 0 ∷ 0 ∷ 0 ∷ 0x3fe0000000000000 ∷ [])
     (fixed 𝟙 (whole 4) (whole 4) 𝟙))
-unfolding ended turning
-turning-works = works turning turning-passes (λ _. refl)
+unfolding refusal ended turning
+turning-works = works turning refl (λ _. refl)
 
 -- a rod that is met and stays so
 met : Plan
-met = record {
-  bodies = standing zeros zeros zeros (ball 𝟙)
-      ++ standing (triple (whole 3) (whole 4) 𝟘) zeros zeros (ball 𝟙);
-  joints = rod (whole 5) ∷ [];
-  dt = 𝟙;
-}
-
-met-passes : refusal met ≡ Accepted
-unfolding refusal met
-met-passes = refl
+met = pair (triple (whole 3) (whole 4) 𝟘) zeros (rod (whole 5)) 𝟙
 
 met-works : Works met Accepted 1 0
     (back (0 ∷ 0 ∷ 0 ∷ 0 ∷ 0 ∷ 0 ∷ 0x3ff0000000000000 ∷ 0 ∷ 0 ∷ 0 ∷ 0 ∷ 0 ∷ 0 ∷ []) (ball 𝟙)
     ++ back (0x4008000000000000 ∷ 0x4010000000000000 ∷ 0 ∷ 0 ∷ 0 ∷ 0 ∷ 0x3ff0000000000000 ∷ 0 ∷ 0 ∷ 0 ∷ 0 ∷ 0 ∷ 0 ∷ []) (ball 𝟙))
-unfolding ended met
-met-works = works met met-passes (λ _. refl)
+unfolding refusal ended met
+met-works = works met refl (λ _. refl)
 
 -- a rod pulled along itself: a second pass, after one linear solve
 pulled : Plan
-pulled = record {
-  bodies = standing zeros zeros zeros (ball 𝟙)
-      ++ standing (triple (whole 2) 𝟘 𝟘) (triple 𝟙 𝟘 𝟘) zeros (ball 𝟙);
-  joints = rod (whole 2) ∷ [];
-  dt = half;
-}
-
-pulled-passes : refusal pulled ≡ Accepted
-unfolding refusal pulled
-pulled-passes = refl
+pulled = pair (triple (whole 2) 𝟘 𝟘) (triple 𝟙 𝟘 𝟘) (rod (whole 2)) half
 
 pulled-works : Works pulled Accepted 2 1
     (back (0x3fd0000000000001 ∷ 0 ∷ 0 ∷ 0 ∷ 0 ∷ 0 ∷ 0x3ff0000000000000 ∷ 0x3fe0000000000001 ∷ 0 ∷ 0 ∷ 0 ∷ 0 ∷ 0 ∷ []) (ball 𝟙)
     ++ back (0x4002000000000000 ∷ 0 ∷ 0 ∷ 0 ∷ 0 ∷ 0 ∷ 0x3ff0000000000000 ∷ 0x3fdffffffffffffe ∷ 0 ∷ 0 ∷ 0 ∷ 0 ∷ 0 ∷ []) (ball 𝟙))
-unfolding ended pulled
-pulled-works = works pulled pulled-passes (λ _. refl)
+unfolding refusal ended pulled
+pulled-works = works pulled refl (λ _. refl)
 
 -- a rod pulled across itself: a second linear solve evens out the speeds of its ends
 swung : Plan
-swung = record {
-  bodies = standing zeros zeros zeros (ball 𝟙)
-      ++ standing (triple (whole 2) 𝟘 𝟘) (triple 𝟘 (ratio 1 (2 ^ 16)) 𝟘) zeros (ball 𝟙);
-  joints = rod (whole 2) ∷ [];
-  dt = 𝟙;
-}
-
-swung-passes : refusal swung ≡ Accepted
-unfolding refusal swung
-swung-passes = refl
+swung = pair (triple (whole 2) 𝟘 𝟘) (triple 𝟘 (ratio 1 (2 ^ 16)) 𝟘) (rod (whole 2)) 𝟙
 
 swung-works : Works swung Accepted 2 2
     (back (0x3dc0000000000001 ∷ 0 ∷ 0 ∷ 0 ∷ 0 ∷ 0 ∷ 0x3ff0000000000000 ∷ 0x3dd0000000000001 ∷ 0x3cb0000000020001 ∷ 0 ∷ 0 ∷ 0 ∷ 0 ∷ []) (ball 𝟙)
     ++ back
     (0x3ffffffffffe0000 ∷ 0x3ef0000000000000 ∷ 0 ∷ 0 ∷ 0 ∷ 0 ∷ 0x3ff0000000000000 ∷ 0xbdd0000000000001 ∷ 0x3eeffffffffe0000 ∷ 0 ∷ 0 ∷ 0 ∷ 0 ∷ []) (ball 𝟙))
-unfolding ended swung
-swung-works = works swung swung-passes (λ _. refl)
+unfolding refusal ended swung
+swung-works = works swung refl (λ _. refl)
 
 -- 10 before the first pass: a hinge whose axes are opposed
 opposed : Plan
-opposed = record {
-  bodies = standing zeros zeros zeros (ball 𝟙)
-      ++ standing zeros zeros zeros (ball 𝟙);
-  joints = joint Hinge (quat 𝟙 𝟘 𝟘 𝟘) ∷ [];
-  dt = 𝟙;
-}
-
-opposed-passes : refusal opposed ≡ Accepted
-unfolding refusal opposed
-opposed-passes = refl
+opposed = pair zeros zeros (joint Hinge (quat 𝟙 𝟘 𝟘 𝟘)) 𝟙
 
 opposed-works : Works opposed NonConvergent 0 0 (opposed .bodies)
-unfolding ended opposed
-opposed-works = works opposed opposed-passes (λ _. refl)
+unfolding refusal ended opposed
+opposed-works = works opposed refl (λ _. refl)
 
 -- 10 in the first pass: the path's factor refuses one rod twice
 twice : Plan
@@ -265,50 +222,33 @@ twice = record {
   bodies = standing zeros zeros zeros (ball half)
       ++ standing (triple 𝟙 𝟘 𝟘) (triple 𝟙 𝟘 𝟘) zeros (ball half)
       ++ standing zeros zeros zeros (ball 𝟙);
-  joints = rod 𝟙 ∷ rod 𝟙 ∷ [];
-  dt = 𝟙;
+  joints = rod 𝟙 ∷ rod 𝟙 ∷ []; dt = 𝟙;
 }
 
-twice-passes : refusal twice ≡ Accepted
-unfolding refusal twice
-twice-passes = refl
-
 twice-works : Works twice NonConvergent 1 0 (twice .bodies)
-unfolding ended twice
-twice-works = works twice twice-passes (λ _. refl)
+unfolding refusal ended twice
+twice-works = works twice refl (λ _. refl)
 
 -- 11 before the first pass: a momentum too large
 heavy : Plan
 heavy = record { bodies = standing zeros (triple (whole (2 ^ 1023)) 𝟘 𝟘) zeros (ball (whole 2)); joints = []; dt = 𝟙 }
 
-heavy-passes : refusal heavy ≡ Accepted
-unfolding refusal heavy
-heavy-passes = refl
-
 heavy-works : Works heavy ArithmeticOverflow 0 0 (heavy .bodies)
-unfolding ended heavy
-heavy-works = works heavy heavy-passes (λ _. refl)
+unfolding refusal ended heavy
+heavy-works = works heavy refl (λ _. refl)
 
 -- 11 in the first pass: the way of one step is too long
 fast : Plan
 fast = record { bodies = standing zeros (triple (whole (2 ^ 1023)) 𝟘 𝟘) zeros (ball 𝟙); joints = []; dt = whole 2 }
 
-fast-passes : refusal fast ≡ Accepted
-unfolding refusal fast
-fast-passes = refl
-
 fast-works : Works fast ArithmeticOverflow 1 0 (fast .bodies)
-unfolding ended fast
-fast-works = works fast fast-passes (λ _. refl)
+unfolding refusal ended fast
+fast-works = works fast refl (λ _. refl)
 
 -- 12: beyond the ground
 away : Plan
 away = record { bodies = standing (triple (whole 8192) 𝟘 𝟘) (triple 𝟙 𝟘 𝟘) zeros (ball 𝟙); joints = []; dt = 𝟙 }
 
-away-passes : refusal away ≡ Accepted
-unfolding refusal away
-away-passes = refl
-
 away-works : Works away Ground 1 0 (away .bodies)
-unfolding ended away
-away-works = works away away-passes (λ _. refl)
+unfolding refusal ended away
+away-works = works away refl (λ _. refl)

@@ -82,8 +82,7 @@ shortC = coefs false 7 0
 composedE : Rx
 unfolding polyR arcC short shortC
 composedE =
-    let a = polyR arcC (rv 0) in
-    let z = a ⊗ a ⊗ rv 0 in
+    let a = polyR arcC (rv 0) in let z = a ⊗ a ⊗ rv 0 in
     a ⊗ polyR short z ⊖ polyR shortC z
 
 composed-test : (t : ℚ) → T (leb (bndR t (mulUp arcTop arcTop) composedE) (2 ^ 204))
@@ -110,8 +109,7 @@ cosine-test z = tt
 composed-ev : (t : ℚ) → let a = poly arcC t in evR (t ∷ []) composedE ≡ a *q poly short (a *q a *q t) -q poly shortC (a *q a *q t)
 unfolding composedE
 composed-ev t =
-    let a = polyR arcC (rv 0) in
-    let z = a ⊗ a ⊗ rv 0 in
+    let a = polyR arcC (rv 0) in let z = a ⊗ a ⊗ rv 0 in
     let ρ : List ℚ = t ∷ [] in
     ap₂ (λ u v. evR ρ a *q u -q v) (polyR-ok ρ short z) (polyR-ok ρ shortC z)
     ∙ ap (λ b. b *q poly short (b *q b *q t) -q poly shortC (b *q b *q t)) (polyR-ok ρ arcC (rv 0))
@@ -119,8 +117,7 @@ composed-ev t =
 composed : (q : ℚ) → Abs q arcTop → let a = poly arcC (q *q q) in let z = (q *q a) *q (q *q a) in Abs (a *q poly short z -q poly shortC z) (2 ^ 204)
 unfolding same
 composed q h =
-    let t = q *q q in
-    let a = poly arcC t in
+    let t = q *q q in let a = poly arcC t in
     let e : a *q a *q t ≡ (q *q a) *q (q *q a) = ring (a ∷ q ∷ []) (var 0 :* var 0 :* (var 1 :* var 1)) ((var 1 :* var 0) :* (var 1 :* var 0)) tt in
     abs-eq (evR (t ∷ []) composedE) (a *q poly short ((q *q a) *q (q *q a)) -q poly shortC ((q *q a) *q (q *q a))) (2 ^ 204)
     (composed-ev t ∙ ap (λ z. a *q poly short z -q poly shortC z) e)
@@ -169,15 +166,9 @@ pub record Arc (q a : Float) : Type 0 where
 pub arc-tangent : (q : Float) → T (finite q) → Abs (val q) arcTop → Arc q (arcSum q)
 unfolding wholeβ
 arc-tangent q f h =
-    let r = arc-near q f h in
-    let x = val q in
-    let a = poly arcC (x *q x) in
-    let A = x *q a in
-    let z = A *q A in
-    let Z = abs-mul A A aTop aTop (r .exact-size) (r .exact-size) in
-    let v = val (arcSum q) in
-    let S = sineSum41 v in
-    let C = cosineSum42 v in
+    let r = arc-near q f h in let x = val q in let a = poly arcC (x *q x) in let A = x *q a in
+    let z = A *q A in let Z = abs-mul A A aTop aTop (r .exact-size) (r .exact-size) in
+    let v = val (arcSum q) in let S = sineSum41 v in let C = cosineSum42 v in
     let g = both (sineGrows (2 ^ 203) aTop (2 ^ 204)) (cosineGrows (2 ^ 203) aTop (2 ^ 203)) grows in
     let dS : Abs (S -q A *q poly σ z) (2 ^ 204) =
     subst (λ w. Abs (S -q w) (2 ^ 204)) (sine-is A) (sine-grows (2 ^ 203) aTop (2 ^ 204) (g .0) v A (r .size) (r .exact-size) (r .near)) in
@@ -186,8 +177,7 @@ arc-tangent q f h =
     let ρ : List ℚ = (S -q A *q poly σ z) ∷ x ∷ (C -q poly γ z) ∷ A ∷ (poly σ z -q poly short z)
     ∷ (poly γ z -q poly shortC z) ∷ (a *q poly short z -q poly shortC z) ∷ [] in
     record {
-      fine = r .fine;
-      size = r .size;
+      fine = r .fine; size = r .size;
       near = abs-eq (evR ρ wholeE) (S -q x *q C) (2 ^ 205) (whole-parts S C x a (poly σ z) (poly short z) (poly γ z) (poly shortC z))
           (bound ρ wholeβ (dS, (h, (dC, (r .exact-size, (sine-short z Z, (cosine-short z Z, (composed x h, tt))))))) wholeE (2 ^ 205) whole-test);
     }

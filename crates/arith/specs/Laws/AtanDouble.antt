@@ -58,15 +58,13 @@ sine-ev z = ap₂ (λ a b. a -q b) (polyR-ok (z ∷ []) σ (nat 4 ⊗ rv 0)) (ap
 cosine-ev : (z : ℚ) → evR (z ∷ []) cosineE ≡ poly γ (qn 4 *q z) -q (poly γ z *q poly γ z -q z *q (poly σ z *q poly σ z))
 unfolding cosineE
 cosine-ev z =
-    let a = polyR-ok (z ∷ []) σ (rv 0) in
-    let b = polyR-ok (z ∷ []) γ (rv 0) in
+    let a = polyR-ok (z ∷ []) σ (rv 0) in let b = polyR-ok (z ∷ []) γ (rv 0) in
     ap₂ (λ a b. a -q b) (polyR-ok (z ∷ []) γ (nat 4 ⊗ rv 0)) (ap₂ (λ a b. a -q z *q b) (ap₂ _*q_ b b) (ap₂ _*q_ a a))
 
 -- S(2 x) = 2 S C, and C(2 x) = C² - S²
 pub sine-double : (x : ℚ) → Abs x wide → Abs (sineSum41 (x +q x) -q qn 2 *q (sineSum41 x *q cosineSum42 x)) (2 ^ 177)
 sine-double x h =
-    let z = x *q x in
-    let e = evR (z ∷ []) sineE in
+    let z = x *q x in let e = evR (z ∷ []) sineE in
     let B = bounded sineE (mulUp wide wide) (2 ^ 176) z (sine-test z) (abs-mul x x wide wide h h) in
     let M = mulUp (wide + wide) (2 ^ 176) in
     abs-mono (sineSum41 (x +q x) -q qn 2 *q (sineSum41 x *q cosineSum42 x)) M (2 ^ 177) (leb→le M (2 ^ 177) (unfold U in tt))
@@ -77,8 +75,7 @@ sine-double x h =
 
 pub cosine-double : (x : ℚ) → Abs x wide → Abs (cosineSum42 (x +q x) -q (cosineSum42 x *q cosineSum42 x -q sineSum41 x *q sineSum41 x)) (2 ^ 177)
 cosine-double x h =
-    let z = x *q x in
-    let e = evR (z ∷ []) cosineE in
+    let z = x *q x in let e = evR (z ∷ []) cosineE in
     abs-eq e (cosineSum42 (x +q x) -q (cosineSum42 x *q cosineSum42 x -q sineSum41 x *q sineSum41 x)) (2 ^ 177)
     (cosine-ev z ∙ cosine-parts x (poly γ (qn 4 *q z)) (poly σ z) (poly γ z)
     ∙ ap₂ (λ a b. a -q b) (ap (poly γ) (sym (four x)) ∙ sym (cosine-is (x +q x)))
@@ -116,9 +113,7 @@ pub tangent : (Q P e r N : ℕ) → T (tangentOk Q P e r N) → (x q p : ℚ) �
     → Abs (sineSum41 (x +q x) -q q *q cosineSum42 (x +q x)) N
 unfolding tangentOk tangentβ cosTop cosineFits
 tangent Q P e r N t x q p hx hq hp he hr =
-    let s = sineSum41 x in
-    let c = cosineSum42 x in
-    let s₂ = sineSum41 (x +q x) in
+    let s = sineSum41 x in let c = cosineSum42 x in let s₂ = sineSum41 (x +q x) in
     let c₂ = cosineSum42 (x +q x) in
     let v : List ℚ = (s₂ -q qn 2 *q (s *q c)) ∷ (c₂ -q (c *q c -q s *q s)) ∷ c ∷ q ∷ p ∷ (s -q p *q c) ∷ (qn 2 *q p +q q *q (p *q p) -q q) ∷ [] in
     abs-eq (evR v tangentE) (s₂ -q q *q c₂) N (tangent-parts s c s₂ c₂ q p)

@@ -149,9 +149,7 @@ half-tests Q P t =
 quotient : (Q P : ℕ) → T (halfOk Q P) → (q w : Float) → T (finite q) → T (finite w) → Abs (val q) Q → iv wLow ≤q val w
     → T (finite (div binary64 q w)) × Abs (val (div binary64 q w) -q val q *q inv (val w)) (2 ^ 203) × Abs (val (div binary64 q w)) P
 quotient Q P t q w fq fw hq l =
-    let M = mulUp Q iTop in
-    let p = div binary64 q w in
-    let v = val q *q inv (val w) in
+    let M = mulUp Q iTop in let p = div binary64 q w in let v = val q *q inv (val w) in
     let ts = half-tests Q P t in
     let m = abs-mul (val q) (inv (val w)) Q iTop hq (inverse (val w) l) in
     let d = div-err q w M fq fw (positive (val w) wLow (lit< tt) l) m (ts .1) in
@@ -170,24 +168,18 @@ below x a = not-T (leq (qn 4) x) (λ t. ≤q-trans (qn 4) x (iv xTop) t (sub-≤
 pub half : (Q P : ℕ) → T (halfOk Q P) → (q : Float) → T (finite q) → Abs (val q) Q → Half P q (halfTangent q)
 unfolding halfTangent residualβ
 half Q P t q fq hq =
-    let x = add binary64 (ratio 1 1) (mul binary64 q q) in
-    let r = sqrt binary64 x in
-    let w = add binary64 (ratio 1 1) r in
-    let p = div binary64 q w in
-    let i = inv (val w) in
-    let top = abs-mono (val q) Q qTop (half-tests Q P t .0) hq in
-    let X = sum-near q fq top in
+    let x = add binary64 (ratio 1 1) (mul binary64 q q) in let r = sqrt binary64 x in
+    let w = add binary64 (ratio 1 1) r in let p = div binary64 q w in let i = inv (val w) in
+    let top = abs-mono (val q) Q qTop (half-tests Q P t .0) hq in let X = sum-near q fq top in
     let xl = x-low (val q) (val x) (X .near) in
     let R = root-ok x (add-fits binary64 (ratio 1 1) (mul binary64 q q)) (X .fine) (above (val x) xl) (below (val x) (X .size)) in
-    let Q² = scaled-root x r (X .size) R in
-    let W = div-near r (R .is-finite) (Q² .r-abs) in
+    let Q² = scaled-root x r (X .size) R in let W = div-near r (R .is-finite) (Q² .r-abs) in
     let wl = w-low (val r) (val w) (root-low (val x) (val r) (R .not-neg) xl (R .high)) (W .near) in
     let D = quotient Q P t q w fq (W .fine) hq wl in
     let v : List ℚ =
     val q ∷ i ∷ (val w -q (qn 1 +q val r)) ∷ val r ∷ (val r *q val r -q val x) ∷ (val x -q (qn 1 +q val q *q val q)) ∷ (val p -q val q *q i) ∷ [] in
     record {
-      fine = D .0;
-      size = D .2;
+      fine = D .0; size = D .2;
       near = abs-eq (evR v residualE) (qn 2 *q val p +q val q *q (val p *q val p) -q val q) (2 ^ 207)
           (sym (residual-parts (val p) (val q) i (val w) (val r) (val x) (inv-ok (val w) (positive (val w) wLow (lit< tt) wl))))
           (bound v residualβ (top, (inverse (val w) wl, (W .near, (Q² .r-abs, (Q² .r-near, (X .near, (D .1, tt))))))) residualE (2 ^ 207) residual-test);

@@ -61,12 +61,8 @@ scaled-sum m X Y S C = ring (m ∷ X ∷ Y ∷ S ∷ C ∷ []) (var 0 :* (var 1 
 
 near-of : (y x v : Float) → Aimed (2 ^ 215) (2 ^ 252) uTop (val x) (val y) v → Atan2Near y x v
 near-of y x v a =
-    let S = sineSum41 (val v) in
-    let C = cosineSum42 (val v) in
-    let m = a .m in
-    let s = a .seen in
-    let z = a .Y *q C -q a .X *q S in
-    let d = a .X *q C +q a .Y *q S in
+    let S = sineSum41 (val v) in let C = cosineSum42 (val v) in let m = a .m in let s = a .seen in
+    let z = a .Y *q C -q a .X *q S in let d = a .X *q C +q a .Y *q S in
     let e : m *q z ≡ across y x v = scaled m (a .X) (a .Y) S C ∙ ap₂ (λ p q. p *q C -q q *q S) (sym (a .y-is)) (sym (a .x-is)) in
     let f : m *q d ≡ along y x v = scaled-sum m (a .X) (a .Y) S C ∙ ap₂ (λ p q. p *q C +q q *q S) (sym (a .x-is)) (sym (a .y-is)) in
     record {
@@ -81,8 +77,7 @@ pub atan2-near : (y x : Float) → T (isFinite y) → T (isFinite x) → T (not 
     → (v : Float) × (atan2Of y x ≡ Angles.Value v) × Atan2Near y x v
 unfolding atan2Of
 atan2-near y x fy fx t = (
-  angleOf y x,
-  answer (isFinite y) (isFinite x) (eq x (ratio 0 1) && eq y (ratio 0 1)) fy fx t,
+  angleOf y x, answer (isFinite y) (isFinite x) (eq x (ratio 0 1) && eq y (ratio 0 1)) fy fx t,
   near-of y x (angleOf y x) (aimed-angle y x (subst T (finite-same y) fy) (subst T (finite-same x) fx) t),
 )
   where

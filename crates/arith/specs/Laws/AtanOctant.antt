@@ -52,12 +52,9 @@ quotient : (a b : Float) → T (finite a) → T (finite b) → T (not (leq (val 
     → T (finite (div binary64 b a)) × Abs (val (div binary64 b a)) qTop × Abs (val (div binary64 b a) -q val b *q inv (val a)) (2 ^ 204)
 unfolding U
 quotient a b fa fb p h =
-    let q = div binary64 b a in
-    let t = val b *q inv (val a) in
-    let e = rnd (2 ^ 256) in
+    let q = div binary64 b a in let t = val b *q inv (val a) in let e = rnd (2 ^ 256) in
     let d = div-err b a (2 ^ 256) fb fa p h (leb→le (2 ^ 256) (U * huge) tt) in (
-      d .0,
-      abs-mono (val q) (2 ^ 256 + e) qTop (leb→le (2 ^ 256 + e) qTop tt) (own (val q) t (2 ^ 256) e h (d .1)),
+      d .0, abs-mono (val q) (2 ^ 256 + e) qTop (leb→le (2 ^ 256 + e) qTop tt) (own (val q) t (2 ^ 256) e h (d .1)),
       abs-mono (val q -q t) e (2 ^ 204) (leb→le e (2 ^ 204) tt) (d .1),
     )
 
@@ -82,14 +79,12 @@ fourth : (q : Float) → T (finite q) → Abs (val q) qTop
     → let a = arcSum (halfTangent (halfTangent q)) in T (finite a) × Abs (val a) aTop
     × Abs (sineSum41 (fourfold (val a)) -q val q *q cosineSum42 (fourfold (val a))) (96 * 2 ^ 204)
 fourth q f h =
-    let q₁ = halfTangent q in
-    let q₂ = halfTangent q₁ in
+    let q₁ = halfTangent q in let q₂ = halfTangent q₁ in
     let t = both (halfOk qTop q₁Top) (halfOk q₁Top arcTop) tests in
     let d = both (tangentOk q₁Top arcTop (2 ^ 205) (2 ^ 207) (20 * 2 ^ 204)) (tangentOk qTop q₁Top (20 * 2 ^ 204) (2 ^ 207) (96 * 2 ^ 204)) doublings in
     let H = half qTop q₁Top (t .0) q f h in
     let K = half q₁Top arcTop (t .1) q₁ (H .fine) (H .size) in
-    let A = arc-tangent q₂ (K .fine) (K .size) in
-    let x = val (arcSum q₂) in
+    let A = arc-tangent q₂ (K .fine) (K .size) in let x = val (arcSum q₂) in
     let D = tangent q₁Top arcTop (2 ^ 205) (2 ^ 207) (20 * 2 ^ 204) (d .0) x (val q₁) (val q₂)
     (abs-mono x aTop wide (leb→le aTop wide tt) (A .size)) (H .size) (K .size) (A .near) (K .near) in
     let E = tangent qTop q₁Top (20 * 2 ^ 204) (2 ^ 207) (96 * 2 ^ 204) (d .1) (x +q x) (val q) (val q₁)
@@ -104,13 +99,10 @@ times-test : T (closes timesE aTop vTop (2 ^ 204))
 unfolding closes timesE round
 times-test = tt
 
-four-times : (a : ℚ) → a *q qn 4 ≡ fourfold a
-unfolding sameQ
-four-times a = ringQ (a ∷ []) (rv 0 ⊗ nat 4) ((rv 0 ⊕ rv 0) ⊕ (rv 0 ⊕ rv 0)) tt
-
 times-four : (a : Float) → T (finite a) → Abs (val a) aTop → Close vTop (2 ^ 204) (fourfold (val a)) (mul binary64 a (ratio 4 1))
-unfolding timesE
-times-four a f h = subst (λ x. Close vTop (2 ^ 204) x (mul binary64 a (ratio 4 1))) (four-times (val a)) (computed timesE aTop vTop (2 ^ 204) times-test a f h)
+unfolding timesE sameQ
+times-four a f h = subst (λ x. Close vTop (2 ^ 204) x (mul binary64 a (ratio 4 1)))
+    (ringQ ((val a) ∷ []) (rv 0 ⊗ nat 4) ((rv 0 ⊕ rv 0) ⊕ (rv 0 ⊕ rv 0)) tt) (computed timesE aTop vTop (2 ^ 204) times-test a f h)
 
 -- ---- together. The variables: S(v) - S(4 a), q, C(v) - C(4 a), S(4 a) - q C(4 a), q - t, C(v)
 wholeE : Rx
@@ -168,47 +160,29 @@ pub record Seen (E G B : ℕ) (X Y : ℚ) (v : Float) : Type 0 where
   pub off : Abs (Y *q cosineSum42 (val v) -q X *q sineSum41 (val v)) E
   pub ahead : 0≤ (X *q cosineSum42 (val v) +q Y *q sineSum41 (val v) -q iv G)
 
-swap : (S C t : ℚ) → negq (S -q t *q C) ≡ t *q C -q qn 1 *q S
-unfolding same
-swap S C t = ring (S ∷ C ∷ t ∷ []) (ng (var 0 :- var 2 :* var 1)) (var 2 :* var 1 :- con 1 :* var 0) tt
-
-first : (C x : ℚ) → C +q x ≡ qn 1 *q C +q x
-unfolding same
-first C x = ring (C ∷ x ∷ []) (var 0 :+ var 1) (con 1 :* var 0 :+ var 1) tt
-
 pub octant-near : (a b : Float) → T (finite a) → T (finite b) → T (not (leq (val a) (qn 0))) → 0≤ (val b) → val b ≤q val a
     → Seen (2 ^ 211) (2 ^ 254) vTop (qn 1) (val b *q inv (val a)) (octant (div binary64 b a))
-unfolding octant wholeβ
+unfolding octant wholeβ same
 octant-near a b fa fb p n l =
-    let q = div binary64 b a in
-    let k = arcSum (halfTangent (halfTangent q)) in
-    let v = mul binary64 k (ratio 4 1) in
-    let t = val b *q inv (val a) in
-    let t0 = share-low (val a) (val b) p n l in
-    let t1 = share-top (val a) (val b) p n l in
-    let Q = quotient a b fa fb p (unit t t0 t1) in
-    let F = fourth q (Q .0) (Q .1) in
-    let M = times-four k (F .0) (F .1) in
-    let S = sineSum41 (val v) in
-    let C = cosineSum42 (val v) in
-    let S₄ = sineSum41 (fourfold (val k)) in
+    let q = div binary64 b a in let k = arcSum (halfTangent (halfTangent q)) in
+    let v = mul binary64 k (ratio 4 1) in let t = val b *q inv (val a) in
+    let t0 = share-low (val a) (val b) p n l in let t1 = share-top (val a) (val b) p n l in
+    let Q = quotient a b fa fb p (unit t t0 t1) in let F = fourth q (Q .0) (Q .1) in
+    let M = times-four k (F .0) (F .1) in let S = sineSum41 (val v) in
+    let C = cosineSum42 (val v) in let S₄ = sineSum41 (fourfold (val k)) in
     let C₄ = cosineSum42 (fourfold (val k)) in
     let g = both (sineGrows (2 ^ 204) vTop (2 ^ 205)) (cosineGrows (2 ^ 204) vTop (2 ^ 205)) grows in
     let ρ : List ℚ = (S -q S₄) ∷ val q ∷ (C -q C₄) ∷ (S₄ -q val q *q C₄) ∷ (val q -q t) ∷ C ∷ [] in
     let e : Abs (S -q t *q C) (2 ^ 211) = abs-eq (evR ρ wholeE) (S -q t *q C) (2 ^ 211) (whole-parts S C S₄ C₄ (val q) t)
-    (bound ρ wholeβ (
-      sine-grows (2 ^ 204) vTop (2 ^ 205) (g .0) (val v) (fourfold (val k)) (M .size) (M .exact-size) (M .near),
-      (
-        Q .1,
-        (
-          cosine-grows (2 ^ 204) vTop (2 ^ 205) (g .1) (val v) (fourfold (val k)) (M .size) (M .exact-size) (M .near),
-          (F .2, (Q .2, (cosine-top vTop (2 ^ 257) top-test (val v) (M .size), tt))),
-        ),
-      ),
-    ) wholeE (2 ^ 211) whole-test) in
+    (bound ρ wholeβ
+    (sine-grows (2 ^ 204) vTop (2 ^ 205) (g .0) (val v) (fourfold (val k)) (M .size) (M .exact-size) (M .near), (Q .1,
+    (cosine-grows (2 ^ 204) vTop (2 ^ 205) (g .1) (val v) (fourfold (val k)) (M .size) (M .exact-size) (M .near),
+    (F .2, (Q .2, (cosine-top vTop (2 ^ 257) top-test (val v) (M .size), tt))))))
+    wholeE (2 ^ 211) whole-test) in
     record {
-      fine = M .fine;
-      size = M .size;
-      off = abs-eq (negq (S -q t *q C)) (t *q C -q qn 1 *q S) (2 ^ 211) (swap S C t) (abs-neg (S -q t *q C) (2 ^ 211) e);
-      ahead = subst (λ z. 0≤ (z -q iv (2 ^ 254))) (first C (t *q S)) (ahead-of S C t t0 t1 e (cosine-low (val v) (M .size)));
+      fine = M .fine; size = M .size;
+      off = abs-eq (negq (S -q t *q C)) (t *q C -q qn 1 *q S) (2 ^ 211)
+      (ring (S ∷ C ∷ t ∷ []) (ng (var 0 :- var 2 :* var 1)) (var 2 :* var 1 :- con 1 :* var 0) tt) (abs-neg (S -q t *q C) (2 ^ 211) e);
+      ahead = subst (λ z. 0≤ (z -q iv (2 ^ 254)))
+      (ring (C ∷ (t *q S) ∷ []) (var 0 :+ var 1) (con 1 :* var 0 :+ var 1) tt) (ahead-of S C t t0 t1 e (cosine-low (val v) (M .size)));
     }

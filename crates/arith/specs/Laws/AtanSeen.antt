@@ -26,12 +26,9 @@ ahead-less z G G' l h = ≤q-sub (iv G') z (≤q-trans (iv G') (iv G) z (iv-le G
 
 pub seen-less : (E G B E' G' B' : ℕ) (X Y : ℚ) (v : Float) → E ≤ E' → G' ≤ G → B ≤ B' → Seen E G B X Y v → Seen E' G' B' X Y v
 seen-less E G B E' G' B' X Y v e g b s =
-    let S = sineSum41 (val v) in
-    let C = cosineSum42 (val v) in
+    let S = sineSum41 (val v) in let C = cosineSum42 (val v) in
     record {
-      fine = s .fine;
-      size = abs-mono (val v) B B' b (s .size);
-      off = abs-mono (Y *q C -q X *q S) E E' e (s .off);
+      fine = s .fine; size = abs-mono (val v) B B' b (s .size); off = abs-mono (Y *q C -q X *q S) E E' e (s .off);
       ahead = ahead-less (X *q C +q Y *q S) G G' g (s .ahead);
     }
 
@@ -65,14 +62,10 @@ seen-turned : (D E E' G B : ℕ) → T (turnOk D E E' G) → (P Q c s : ℚ) (w 
 unfolding same turnOk
 seen-turned D E E' G B t P Q c s w fine size hP hQ hc hs off ahead =
     let u = both (bounds (turnβ D E) turnE E') (bounds (aheadβ D) aheadE G) t in
-    let C = cosineSum42 (val w) in
-    let S = sineSum41 (val w) in
-    let ρ = P ∷ Q ∷ c ∷ s ∷ C ∷ S ∷ [] in
-    let dc = var 4 :- var 2 in
-    let ds = var 5 :- var 3 in
+    let C = cosineSum42 (val w) in let S = sineSum41 (val w) in
+    let ρ = P ∷ Q ∷ c ∷ s ∷ C ∷ S ∷ [] in let dc = var 4 :- var 2 in let ds = var 5 :- var 3 in
     record {
-      fine = fine;
-      size = size;
+      fine = fine; size = size;
       off = abs-eq _ (Q *q C -q P *q S) E'
           (ring ρ (var 1 :* dc :- var 0 :* ds :+ (var 1 :* var 2 :- var 0 :* var 3)) (var 1 :* var 4 :- var 0 :* var 5) tt)
           (bound (Q ∷ (C -q c) ∷ P ∷ (S -q s) ∷ (Q *q c -q P *q s) ∷ []) (turnβ D E) (hQ, (hc, (hP, (hs, (off, tt))))) turnE E' (u .0));
@@ -91,8 +84,7 @@ pub seen-quarter : (X Y : ℚ) (v : Float) → Abs X (2 ^ 256) → Abs Y (2 ^ 25
     → Seen (2 ^ 212) (2 ^ 253) wTop Y X (sub binary64 (div binary64 PI (ratio 2 1)) v)
 unfolding same
 seen-quarter X Y v hX hY s =
-    let q = quarter-turn v (s .fine) (s .size) in
-    let S = sineSum41 (val v) in
+    let q = quarter-turn v (s .fine) (s .size) in let S = sineSum41 (val v) in
     let C = cosineSum42 (val v) in
     let off = ring (X ∷ Y ∷ S ∷ C ∷ []) (ng (var 1 :* var 3 :- var 0 :* var 2)) (var 0 :* var 2 :- var 1 :* var 3) tt in
     seen-turned (2 ^ 208) (2 ^ 211) (2 ^ 212) (2 ^ 253) wTop quarter-test Y X S C _ (q .fine) (q .size) hY hX (q .cosine) (q .sine)
@@ -108,10 +100,8 @@ pub seen-half : (X Y : ℚ) (v : Float) → Abs X (2 ^ 256) → Abs Y (2 ^ 256)
     → Seen (2 ^ 212) (2 ^ 253) wTop X Y v → Seen (2 ^ 215) (2 ^ 252) uTop (negq X) Y (sub binary64 PI v)
 unfolding same
 seen-half X Y v hX hY s =
-    let q = half-turn v (s .fine) (s .size) in
-    let S = sineSum41 (val v) in
-    let C = cosineSum42 (val v) in
-    let C' = cosineSum42 (val (sub binary64 PI v)) in
+    let q = half-turn v (s .fine) (s .size) in let S = sineSum41 (val v) in
+    let C = cosineSum42 (val v) in let C' = cosineSum42 (val (sub binary64 PI v)) in
     let ρ = X ∷ Y ∷ S ∷ C ∷ C' ∷ [] in
     let cosine = ring ρ (var 4 :+ var 3) (var 4 :- ng (var 3)) tt in
     let off = ring ρ (ng (var 1 :* var 3 :- var 0 :* var 2)) (var 1 :* ng (var 3) :- ng (var 0) :* var 2) tt in
@@ -132,9 +122,7 @@ minus-sum X Y S C = ring (X ∷ Y ∷ S ∷ C ∷ []) (var 0 :* var 3 :+ var 1 :
 
 pub seen-minus : (E G B : ℕ) (X Y : ℚ) (v : Float) → Seen E G B X Y v → Seen E G B X (negq Y) (neg v)
 seen-minus E G B X Y v s =
-    let S = sineSum41 (val v) in
-    let C = cosineSum42 (val v) in
-    let e = neg-val v in
+    let S = sineSum41 (val v) in let C = cosineSum42 (val v) in let e = neg-val v in
     let eS : sineSum41 (val (neg v)) ≡ negq S = ap sineSum41 e ∙ sine-minus (val v) in
     let eC : cosineSum42 (val (neg v)) ≡ C = ap cosineSum42 e ∙ cosine-minus (val v) in
     record {

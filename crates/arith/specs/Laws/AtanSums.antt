@@ -63,30 +63,23 @@ opposite false (suc k) n z =
     ap (λ v. mk (sgF true 1 (factorial n) (factorial-pos n)) +q z *q v) (opposite true k (n + 2) z)
     ∙ minus-out (mk (sgF false 1 (factorial n) (factorial-pos n))) z (poly (coefs true k (n + 2)) z)
 
-next : (p a x b : ℚ) → p *q a -q (x *q (x *q p)) *q b ≡ p *q (a +q x *q x *q negq b)
-unfolding same
-next p a x b = ring (p ∷ a ∷ x ∷ b ∷ []) (var 0 :* var 1 :- (var 2 :* (var 2 :* var 0)) :* var 3) (var 0 :* (var 1 :+ var 2 :* var 2 :* ng (var 3))) tt
-
 power-next : (x : ℚ) (n : ℕ) → power x (n + 2) ≡ x *q (x *q power x n)
 unfolding power
 power-next x n = rw (add-two n)
 
 terms-are : (k n : ℕ) (x : ℚ) → terms k x n ≡ power x n *q poly (coefs false k n) (x *q x)
-unfolding terms term poly coefs
+unfolding terms term poly coefs same
 terms-are zero n x = sym (*q-zero (power x n))
 terms-are (suc k) n x =
     let a = mk (sgF false 1 (factorial n) (factorial-pos n)) in
     let b = poly (coefs false k (n + 2)) (x *q x) in
-    ap (λ v. power x n *q a -q v) (terms-are k (n + 2) x ∙ ap (λ u. u *q b) (power-next x n)) ∙ next (power x n) a x b
+    ap (λ v. power x n *q a -q v) (terms-are k (n + 2) x ∙ ap (λ u. u *q b) (power-next x n)) ∙
+    ring ((power x n) ∷ a ∷ x ∷ b ∷ []) (var 0 :* var 1 :- (var 2 :* (var 2 :* var 0)) :* var 3) (var 0 :* (var 1 :+ var 2 :* var 2 :* ng (var 3))) tt
     ∙ ap (λ v. power x n *q (a +q x *q x *q v)) (sym (opposite false k (n + 2) (x *q x)))
 
-one-times : (a b : ℚ) → a *q qn 1 *q b ≡ a *q b
-unfolding same
-one-times a b = ring (a ∷ b ∷ []) (var 0 :* con 1 :* var 1) (var 0 :* var 1) tt
-
 pub sine-is : (x : ℚ) → sineSum41 x ≡ x *q poly σ (x *q x)
-unfolding sineSum41 σ power
-sine-is x = terms-are 21 1 x ∙ one-times x (poly (coefs false 21 1) (x *q x))
+unfolding sineSum41 σ power same
+sine-is x = terms-are 21 1 x ∙ ring (x ∷ (poly (coefs false 21 1) (x *q x)) ∷ []) (var 0 :* con 1 :* var 1) (var 0 :* var 1) tt
 
 pub cosine-is : (x : ℚ) → cosineSum42 x ≡ poly γ (x *q x)
 unfolding cosineSum42 γ power same
@@ -114,12 +107,10 @@ minus-square : (x : ℚ) → negq x *q negq x ≡ x *q x
 unfolding same
 minus-square x = ring (x ∷ []) (ng (var 0) :* ng (var 0)) (var 0 :* var 0) tt
 
-minus-times : (x y : ℚ) → negq x *q y ≡ negq (x *q y)
-unfolding same
-minus-times x y = ring (x ∷ y ∷ []) (ng (var 0) :* var 1) (ng (var 0 :* var 1)) tt
-
 pub sine-minus : (x : ℚ) → sineSum41 (negq x) ≡ negq (sineSum41 x)
-sine-minus x = sine-is (negq x) ∙ ap (λ z. negq x *q poly σ z) (minus-square x) ∙ minus-times x (poly σ (x *q x)) ∙ ap negq (sym (sine-is x))
+unfolding same
+sine-minus x = sine-is (negq x) ∙ ap (λ z. negq x *q poly σ z) (minus-square x) ∙
+    ring (x ∷ (poly σ (x *q x)) ∷ []) (ng (var 0) :* var 1) (ng (var 0 :* var 1)) tt ∙ ap negq (sym (sine-is x))
 
 pub cosine-minus : (x : ℚ) → cosineSum42 (negq x) ≡ cosineSum42 x
 cosine-minus x = cosine-is (negq x) ∙ ap (poly γ) (minus-square x) ∙ sym (cosine-is x)
@@ -196,10 +187,8 @@ sine-off x y p r = ring (x ∷ y ∷ p ∷ r ∷ []) ((var 0 :- var 1) :* var 2 
 pub sine-grows : (d X N : ℕ) → T (sineGrows d X N) → (x y : ℚ) → Abs x X → Abs y X → Abs (x -q y) d → Abs (sineSum41 x -q sineSum41 y) N
 unfolding sineGrows
 sine-grows d X N t x y h k g =
-    let Z = mulUp X X in
-    let B = mulUp d (topB Z σ) + mulUp X (growB (mulUp d (X + X)) Z σ) in
-    let hh = abs-mul x x X X h h in
-    let kk = abs-mul y y X X k k in
+    let Z = mulUp X X in let B = mulUp d (topB Z σ) + mulUp X (growB (mulUp d (X + X)) Z σ) in
+    let hh = abs-mul x x X X h h in let kk = abs-mul y y X X k k in
     abs-mono (sineSum41 x -q sineSum41 y) B N (leb→le B N t)
     (abs-eq ((x -q y) *q poly σ (x *q x) +q y *q (poly σ (x *q x) -q poly σ (y *q y))) (sineSum41 x -q sineSum41 y) B
     (sine-off x y (poly σ (x *q x)) (poly σ (y *q y)) ∙ ap₂ _-q_ (sym (sine-is x)) (sym (sine-is y)))
@@ -211,8 +200,7 @@ sine-grows d X N t x y h k g =
 pub cosine-grows : (d X N : ℕ) → T (cosineGrows d X N) → (x y : ℚ) → Abs x X → Abs y X → Abs (x -q y) d → Abs (cosineSum42 x -q cosineSum42 y) N
 unfolding cosineGrows
 cosine-grows d X N t x y h k g =
-    let Z = mulUp X X in
-    let B = growB (mulUp d (X + X)) Z γ in
+    let Z = mulUp X X in let B = growB (mulUp d (X + X)) Z γ in
     abs-mono (cosineSum42 x -q cosineSum42 y) B N (leb→le B N t)
     (abs-eq (poly γ (x *q x) -q poly γ (y *q y)) (cosineSum42 x -q cosineSum42 y) B (ap₂ _-q_ (sym (cosine-is x)) (sym (cosine-is y)))
     (poly-grows (x *q x) (y *q y) (mulUp d (X + X)) Z (abs-mul x x X X h h) (abs-mul y y X X k k) (squares x y d X h k g) γ))

@@ -41,8 +41,7 @@ computed e M W D t f p h =
     let t₁ = both (free e && ok b) (leb (mag b + err b) W && leb (err b) D) t in
     let t₂ = both (free e) (ok b) (t₁ .0) in
     let t₃ = both (leb (mag b + err b) W) (leb (err b) D) (t₁ .1) in
-    let l = leb→le (mag b + err b) W (t₃ .0) in
-    let x = exact (val f ∷ []) e in
+    let l = leb→le (mag b + err b) W (t₃ .0) in let x = exact (val f ∷ []) e in
     let r = sound (f ∷ []) (val f ∷ []) ((M, 0) ∷ []) (given f M (p, h), tt) e (known (val f ∷ []) e (t₂ .0)) (t₂ .1) in
     record {
       fine = r .0;

@@ -147,14 +147,11 @@ half-grows = tt
 
 pub quarter-turn : (v : Float) → T (finite v) → Abs (val v) vTop → Quarter v (sub binary64 (div binary64 PI (ratio 2 1)) v)
 quarter-turn v f h =
-    let w = sub binary64 (div binary64 PI (ratio 2 1)) v in
-    let d = mk pi/2 -q val v in
-    let c = quarter-float v f h in
-    let N = 15 * 2 ^ 204 in
+    let w = sub binary64 (div binary64 PI (ratio 2 1)) v in let d = mk pi/2 -q val v in
+    let c = quarter-float v f h in let N = 15 * 2 ^ 204 in
     let g = both (sineGrows (2 ^ 205) wTop N) (cosineGrows (2 ^ 205) wTop N) quarter-grows in
     record {
-      fine = c .fine;
-      size = c .size;
+      fine = c .fine; size = c .size;
       sine = through (sineSum41 (val w)) (sineSum41 d) (cosineSum42 (val v)) N (2 ^ 203) (2 ^ 208) tt
           (sine-grows (2 ^ 205) wTop N (g .0) (val w) d (c .size) (c .exact-size) (c .near)) (quarter-sine (val v) h);
       cosine = through (cosineSum42 (val w)) (cosineSum42 d) (sineSum41 (val v)) N (2 ^ 203) (2 ^ 208) tt
@@ -163,15 +160,11 @@ quarter-turn v f h =
 
 pub half-turn : (v : Float) → T (finite v) → Abs (val v) wTop → Halved v (sub binary64 PI v)
 half-turn v f h =
-    let w = sub binary64 PI v in
-    let d = mk pi -q val v in
-    let c = half-float v f h in
-    let D = 3 * 2 ^ 204 in
-    let N = 504 * 2 ^ 204 in
+    let w = sub binary64 PI v in let d = mk pi -q val v in let c = half-float v f h in
+    let D = 3 * 2 ^ 204 in let N = 504 * 2 ^ 204 in
     let g = both (sineGrows D uTop N) (cosineGrows D uTop N) half-grows in
     record {
-      fine = c .fine;
-      size = c .size;
+      fine = c .fine; size = c .size;
       sine = through (sineSum41 (val w)) (sineSum41 d) (sineSum41 (val v)) N (2 ^ 207) (2 ^ 213) tt
           (sine-grows D uTop N (g .0) (val w) d (c .size) (c .exact-size) (c .near)) (half-sine (val v) h);
       cosine = through-sum (cosineSum42 (val w)) (cosineSum42 d) (cosineSum42 (val v)) N (2 ^ 207) (2 ^ 213) tt

@@ -58,49 +58,20 @@ module _ (a b q x r h y : ℚ) (e : a *q q ≡ b) (a-low : 0≤ (a -q qn 2 *q y)
   abbrev H : List Rx
   H =
       let off = rv 0 ⊗ rv 4 ⊗ rat part ⊕ rv 6 in
-      (rv 0 ⊖ nat 2 ⊗ rv 6)
-      ∷ rv 6
-      ∷ rv 4
-      ∷ (rat rTop ⊖ rv 4)
-      ∷ (rat (ivF (2 ^ (256 - 51))) ⊖ (rv 4 ⊗ rv 4 ⊖ rv 3))
-      ∷ (rat (ivF (2 ^ (256 - 51))) ⊕ (rv 4 ⊗ rv 4 ⊖ rv 3))
-      ∷ (rat (ivF sumErr) ⊖ (rv 3 ⊖ (nat 1 ⊕ rv 2 ⊗ rv 2)))
-      ∷ (rat (ivF sumErr) ⊕ (rv 3 ⊖ (nat 1 ⊕ rv 2 ⊗ rv 2)))
-      ∷ rv 5
-      ∷ (rv 0 ⊗ rv 4 ⊕ off ⊖ rv 5)
-      ∷ (rv 5 ⊕ off ⊖ rv 0 ⊗ rv 4)
-      ∷ []
+      (rv 0 ⊖ nat 2 ⊗ rv 6) ∷ rv 6 ∷ rv 4 ∷ (rat rTop ⊖ rv 4) ∷ (rat (ivF (2 ^ (256 - 51))) ⊖ (rv 4 ⊗ rv 4 ⊖ rv 3))
+      ∷ (rat (ivF (2 ^ (256 - 51))) ⊕ (rv 4 ⊗ rv 4 ⊖ rv 3)) ∷ (rat (ivF sumErr) ⊖ (rv 3 ⊖ (nat 1 ⊕ rv 2 ⊗ rv 2)))
+      ∷ (rat (ivF sumErr) ⊕ (rv 3 ⊖ (nat 1 ⊕ rv 2 ⊗ rv 2))) ∷ rv 5 ∷ (rv 0 ⊗ rv 4 ⊕ off ⊖ rv 5)
+      ∷ (rv 5 ⊕ off ⊖ rv 0 ⊗ rv 4) ∷ []
 
   abbrev err : Rx
   err = rat (tiny 49) ⊗ (rv 0 ⊗ rv 0) ⊕ nat 4 ⊗ rv 6 ⊗ rv 0
 
   known : Nns ρ H
   unfolding iv
-  known = (
-    a-low,
-    (
-      y-nn,
-      (
-        r-nn,
-        (
-          r-top,
-          (
-            r-near .0,
-            (
-              r-near .1,
-              (
-                x-near .0,
-                (
-                  x-near .1,
-                  (h-nn, (≤q-sub h (a *q r +q (a *q r *q mk part +q y)) (h-near .0), (≤q-sub (a *q r) (h +q (a *q r *q mk part +q y)) (h-near .1), tt))),
-                ),
-              ),
-            ),
-          ),
-        ),
-      ),
-    ),
-  )
+  known =
+      (a-low, (y-nn, (r-nn, (r-top, (r-near .0, (r-near .1, (x-near .0, (x-near .1, (h-nn,
+      (≤q-sub h (a *q r +q (a *q r *q mk part +q y)) (h-near .0),
+      (≤q-sub (a *q r) (h +q (a *q r *q mk part +q y)) (h-near .1), tt)))))))))))
 
   core-high : h *q h ≤q a *q a +q b *q b +q evR ρ err
   unfolding sameQ den comb rest U
@@ -244,8 +215,7 @@ scaled-law (fin false zero e) b f u p n l t =
     all-zero (val (fin false 0 e)) (val b) (val (scaledRoot (fin false 0 e) b)) z
     (≤q-antisymm (val b) (qn 0) (subst (λ v. val b ≤q v) z l) n) (ap val (scaled-zero e b) ∙ zero-val (pos 0))
 scaled-law (fin false (suc m) e) b f u p n l t =
-    let a = fin false (suc m) e in
-    let is = scaled-else m e b in
+    let a = fin false (suc m) e in let is = scaled-else m e b in
     let k = scaled-near a b f u p (above-val m e) n l (subst (λ z. T (finite z)) is t) in
     subst₂ (λ c h. Near (mk (tiny 49) *q (val a *q val a) +q c *q val a) (val h *q val h) (val a *q val a +q val b *q val b)) four-least (sym is) k
 

@@ -7,7 +7,7 @@ use lib.Dec.{T}
 use lib.Ieee.{Float, nan, inf, fin, binary64, fits, neg, lt, up, down}
 use lib.Ieee.Fits.{down-pos}
 use lib.Ieee.Scale.{finite}
-use Rattle.exact.specs.Rat.{ℚ, qn, leq, negq, _*q_, _≤q_, ≤q-refl, ≤q-total}
+use Rattle.exact.specs.Rat.{qn, leq, negq, _*q_, _≤q_, ≤q-refl, ≤q-total}
 use Rattle.exact.specs.Ring.{var, _:*_, ng, same, ring}
 use Rattle.exact.specs.Abs.{0≤, Abs, abs-neg}
 use Rattle.exact.specs.Val.{val, sg}
@@ -48,16 +48,12 @@ abs-nn nan = ≤q-refl (qn 0)
 abs-nn (inf s) = ≤q-refl (qn 0)
 abs-nn (fin s m e) = sg-nn (m * up e) (down e) (down-pos e)
 
-minus-square : (z : ℚ) → z *q z ≡ negq z *q negq z
-unfolding same
-minus-square z = ring (z ∷ []) (var 0 :* var 0) (ng (var 0) :* ng (var 0)) tt
-
 pub abs-square : (x : Float) → val (absOf x) *q val (absOf x) ≡ val x *q val x
-unfolding absOf negq
+unfolding absOf negq same
 abs-square nan = refl
 abs-square (inf s) = refl
 abs-square (fin false m e) = refl
-abs-square (fin true m e) = minus-square (sg false (m * up e) (down e) (down-pos e))
+abs-square (fin true m e) = ring ((sg false (m * up e) (down e) (down-pos e)) ∷ []) (var 0 :* var 0) (ng (var 0) :* ng (var 0)) tt
 
 pub abs-abs : (x : Float) (A : ℕ) → Abs (val x) A → Abs (val (absOf x)) A
 unfolding absOf negq

@@ -16,8 +16,6 @@ use Rattle.arith.specs.Root.{roundRoot, sqrt, NearRoot}
 use Rattle.arith.specs.Laws.RootLaws.{round-at, near-lo, near-hi, sqrt-at}
 
 -- ---- the bits of q * 2 ^ k units, for a q of 53 digits
-cut : (f : Format) (m A : ℕ) (e : _) → m * up e * 2 ^ low f ≡ A * down e → m * up e * 2 ^ low f / down e ≡ A
-cut f m A e h = ap (λ (x : ℕ). x / down e) h ∙ mul-div-cancel A (down-pos e)
 
 toBits-at : (f : Format) (x : Float) (A : ℕ) → HasValue x false A (2 ^ low f) → toBits f x ≡ 0 + (size A - prec f) * hid f + A / 2 ^ (size A - prec f)
 unfolding toBits
@@ -26,7 +24,7 @@ toBits-at f (inf s) A v = absurd v
 toBits-at f (fin s m e) A v =
     ap (λ (b : Bool). cond b (top f) 0 + (size (m * up e * 2 ^ low f / down e) - prec f) * hid f
     + m * up e * 2 ^ low f / down e / 2 ^ (size (m * up e * 2 ^ low f / down e) - prec f)) (v .0)
-    ∙ ap (λ (n : ℕ). 0 + (size n - prec f) * hid f + n / 2 ^ (size n - prec f)) (cut f m A e (v .1))
+    ∙ ap (λ (n : ℕ). 0 + (size n - prec f) * hid f + n / 2 ^ (size n - prec f)) (ap (λ (x : ℕ). x / down e) (v .1) ∙ mul-div-cancel A (down-pos e))
 
 size-is : (n j : ℕ) → 2 ^ j ≤ n → n < 2 ^ suc j → size n ≡ suc j
 size-is n j a b = le-antisymm (size-le n (suc j) b) (lt-of-not-le (λ (g : size n ≤ j). not-le-of-lt (lt-of-lt-of-le (size-lt n) (pow-mono g)) a))
@@ -34,14 +32,7 @@ size-is n j a b = le-antisymm (size-le n (suc j) b) (lt-of-not-le (λ (g : size 
 size-of : (q k : ℕ) → 2 ^ 52 ≤ q → q < 2 ^ 53 → size (q * 2 ^ k) - 53 ≡ k
 size-of q k a b =
     ap (λ (x : ℕ). x - 53) (size-is (q * 2 ^ k) (52 + k) (le-trans (le-of-eq (pow-add 2 52 k)) (mul-le-mul-right (2 ^ k) a))
-    (subst (λ (x : ℕ). q * 2 ^ k < 2 ^ x) (more k) (shl-lt 53 k b))) ∙ less k
-  where
-    more : (k : ℕ) → 53 + k ≡ suc (52 + k)
-    more k = omega arith
-
-    less : (k : ℕ) → suc (52 + k) - 53 ≡ k
-    less k = omega arith
-
+    (subst (λ (x : ℕ). q * 2 ^ k < 2 ^ x) (omega arith) (shl-lt 53 k b))) ∙ (omega arith)
 -- below the overflow
 pub fine : (q k : ℕ) → q < 2 ^ 53 → k < 2046 → q * 2 ^ k < 2 ^ 2098
 fine q k a b = lt-of-lt-of-le (shl-lt 53 k a) (pow-mono (room k b))
@@ -53,20 +44,12 @@ units-is : (q k : ℕ) → q * 2 ^ k < 2 ^ 2098 → units binary64 false q k ≡
 unfolding units
 units-is q k h = ap (λ (b : Bool). cond b (odd 54 false q k 1074) (inf false)) (is-true (ltb (q * 2 ^ k) (2 ^ 2098)) (lt→ltb (q * 2 ^ k) (2 ^ 2098) h))
 
-wider : (q : ℕ) → q < 2 ^ 53 → q < 2 ^ 54
-wider q h = omega arith
-
-below : (q : ℕ) → q < 2 ^ 53 → q ≤ 2 ^ 53
-below q h = omega arith
-
 pub units-fit : (q k : ℕ) → q < 2 ^ 53 → q * 2 ^ k < 2 ^ 2098 → T (fits binary64 (units binary64 false q k))
-units-fit q k a h = subst (λ (x : Float). T (fits binary64 x)) (sym (units-is q k h)) (odd-fits binary64 54 false q k (wider q a) (below q a) h)
+units-fit q k a h = subst (λ (x : Float). T (fits binary64 x)) (sym (units-is q k h)) (odd-fits binary64 54 false q k (omega arith) (omega arith) h)
 
 pub bits-are : (q k : ℕ) → 2 ^ 52 ≤ q → q < 2 ^ 53 → k < 2046 → ofBits binary64 (k * 4503599627370496 + q) ≡ units binary64 false q k
 bits-are q k a b c =
-    let v = units binary64 false q k in
-    let h = fine q k b c in
-    let A = q * 2 ^ k in
+    let v = units binary64 false q k in let h = fine q k b c in let A = q * 2 ^ k in
     let e : toBits binary64 v ≡ k * 4503599627370496 + q =
     toBits-at binary64 v A (units-val binary64 false q k h)
     ∙ ap (λ (x : ℕ). 0 + x * 4503599627370496 + A / 2 ^ x) (size-of q k a b)
@@ -81,17 +64,13 @@ room M h = omega arith
 pub under-room : (n : ℕ) → n + 2 ^ 53 ≤ 2 ^ 53 * 2 ^ 53 → n < 2 ^ 106
 under-room n h = omega arith
 
-small : (k q : ℕ) → k < 2046 → q < 2 ^ 53 → k * 4503599627370496 + q < 9218868437227405312
-small k q a b = omega arith
-
 pub joined : (M k q : ℕ) → 2 ^ 52 ≤ M → M + 2 ≤ 2 ^ 54 → k < 2046 → NearRoot (M * 2 ^ 52) q
     → (k * 4503599627370496 + q < 9218868437227405312) × (ofBits binary64 (k * 4503599627370496 + q) ≡ roundRoot binary64 (M * 2 ^ (52 + (k + k))))
 joined M k q a b c n =
     let lo : 2 ^ 104 ≤ M * 2 ^ 52 = mul-le-mul-right (2 ^ 52) a in
-    let hi = room M b in
-    let q-lo = near-lo (M * 2 ^ 52) q lo n in
+    let hi = room M b in let q-lo = near-lo (M * 2 ^ 52) q lo n in
     let q-hi = near-hi (M * 2 ^ 52) q hi n in (
-      small k q c q-hi,
+      omega arith,
       bits-are q k q-lo q-hi c ∙ sym (round-at (M * 2 ^ 52) k q lo (under-room (M * 2 ^ 52) hi) n)
           ∙ ap (λ (x : ℕ). roundRoot binary64 x)
           (mul-assoc M (2 ^ 52) (2 ^ k * 2 ^ k) ∙ ap (λ (x : ℕ). M * x) (sym (pow-add 2 52 (k + k) ∙ ap (λ (x : ℕ). 2 ^ 52 * x) (pow-add 2 k k)))),
@@ -101,14 +80,7 @@ pub even-at : (h : ℕ) → h % 2 ≡ 0 → 52 ≤ h → 52 + (h / 2 - 26 + (h /
 even-at h e l = omega arith
 
 pub odd-at : (h : ℕ) → (h % 2 ≡ 0 → ⊥) → 52 ≤ h → suc (52 + (h / 2 - 26 + (h / 2 - 26))) ≡ h
-odd-at h e l = odd-of h (one h e) l
-  where
-    one : (h : ℕ) → (h % 2 ≡ 0 → ⊥) → h % 2 ≡ 1
-    one h f = omega arith
-
-    odd-of : (h : ℕ) → h % 2 ≡ 1 → 52 ≤ h → suc (52 + (h / 2 - 26 + (h / 2 - 26))) ≡ h
-    odd-of h e l = omega arith
-
+odd-at h e l = omega arith
 pub drop-lt : (h : ℕ) → h < 4000 → h / 2 - 26 < 2046
 drop-lt h l = omega arith
 
@@ -141,8 +113,6 @@ join-odd m h q a b c d e n =
     )
 
 -- ---- the value of the bits b, which are neither 0 nor those of an infinity or more
-no-sign : (b : ℕ) → b < 9218868437227405312 → b % top binary64 ≡ b
-no-sign b h = mod-eq-of-lt (lt-of-lt-of-le h (lit≤ tt))
 
 plus : (b : ℕ) → b < 9218868437227405312 → leb (top binary64) b ≡ false
 plus b h = is-false (leb (top binary64) b) (not-T (leb (top binary64) b) (λ t. not-le-of-lt (lt-of-lt-of-le h (lit≤ tt)) (leb→le (top binary64) b t)))
@@ -151,17 +121,13 @@ pub fields : (b : ℕ) → b < 9218868437227405312 → ofBits binary64 b ≡ ofF
 unfolding ofBits
 fields b h =
     ap (λ (s : Bool). ofFields binary64 s (b % top binary64 / 4503599627370496) (b % 4503599627370496)) (plus b h)
-    ∙ ap (λ (x : ℕ). ofFields binary64 false (x / 4503599627370496) (b % 4503599627370496)) (no-sign b h)
+    ∙ ap (λ (x : ℕ). ofFields binary64 false (x / 4503599627370496) (b % 4503599627370496)) (mod-eq-of-lt (lt-of-lt-of-le h (lit≤ tt)))
 
 pub exponent-lt : (b : ℕ) → b < 9218868437227405312 → b / 4503599627370496 < 2047
 exponent-lt b h = omega arith
 
 not-ones : (x : ℕ) → suc x < 2047 → eqb (suc x) 2047 ≡ false
-not-ones x h = is-false (eqb (suc x) 2047) (not-T (eqb (suc x) 2047) (λ t. clash x h (eqb→eq (suc x) 2047 t)))
-  where
-    clash : (x : ℕ) → suc x < 2047 → suc x ≡ 2047 → ⊥
-    clash x h e = omega arith
-
+not-ones x h = is-false (eqb (suc x) 2047) (not-T (eqb (suc x) 2047) (λ t. omega (arith, eqb→eq (suc x) 2047 t)))
 pub low-value : (t : ℕ) → HasValue (ofFields binary64 false 0 t) false (t * 2 ^ 0) (2 ^ 1074)
 unfolding ofFields
 low-value t = odd-sign 53 false t 0 1074
@@ -179,12 +145,8 @@ pub sqrt-low : (b : ℕ) → 0 < b → b < 9218868437227405312 → b / 450359962
 sqrt-low b p h e =
     let t = b % 4503599627370496 in
     ap (λ (x : Float). sqrt binary64 x) (fields b h ∙ ap (λ (x : ℕ). ofFields binary64 false x t) e)
-    ∙ sqrt-at binary64 (ofFields binary64 false 0 t) (t * 2 ^ 0) (subst (λ (x : ℕ). 0 < x) (sym (mul-one t)) (digits-pos b p e)) (low-value t)
+    ∙ sqrt-at binary64 (ofFields binary64 false 0 t) (t * 2 ^ 0) (subst (λ (x : ℕ). 0 < x) (sym (mul-one t)) (omega arith)) (low-value t)
     ∙ ap (λ (x : ℕ). roundRoot binary64 (x * 2 ^ 1074)) (mul-one t)
-  where
-    digits-pos : (b : ℕ) → 0 < b → b / 4503599627370496 ≡ 0 → 0 < b % 4503599627370496
-    digits-pos b p e = omega arith
-
 pub sqrt-high : (b : ℕ) → b < 9218868437227405312 → (b / 4503599627370496 ≡ 0 → ⊥)
     → sqrt binary64 (ofBits binary64 b) ≡ roundRoot binary64 ((b % 4503599627370496 + 4503599627370496) * 2 ^ (b / 4503599627370496 + 1073))
 sqrt-high b h f = ap (λ (x : Float). sqrt binary64 x) (fields b h) ∙ go (b / 4503599627370496) (exponent-lt b h) f
@@ -194,17 +156,10 @@ sqrt-high b h f = ap (λ (x : Float). sqrt binary64 x) (fields b h) ∙ go (b / 
     go zero l n = absurd (n refl)
     go (suc x) l n =
         let t = b % 4503599627370496 in
-        sqrt-at binary64 (ofFields binary64 false (suc x) t) ((4503599627370496 + t) * 2 ^ x) (mul-pos (first t) (pow-pos x)) (high-value x t l)
+        sqrt-at binary64 (ofFields binary64 false (suc x) t) ((4503599627370496 + t) * 2 ^ x) (mul-pos (omega arith) (pow-pos x)) (high-value x t l)
         ∙ ap (λ (y : ℕ). roundRoot binary64 y)
         (mul-assoc (4503599627370496 + t) (2 ^ x) (2 ^ 1074) ∙ ap (λ (y : ℕ). (4503599627370496 + t) * y) (sym (pow-add 2 x 1074))
-        ∙ ap (λ (y : ℕ). (4503599627370496 + t) * 2 ^ y) (shift x) ∙ ap (λ (y : ℕ). y * 2 ^ (suc x + 1073)) (add-comm 4503599627370496 t))
-      where
-        first : (t : ℕ) → 0 < 4503599627370496 + t
-        first t = omega arith
-
-        shift : (x : ℕ) → x + 1074 ≡ suc x + 1073
-        shift x = omega arith
-
+        ∙ ap (λ (y : ℕ). (4503599627370496 + t) * 2 ^ y) (omega arith) ∙ ap (λ (y : ℕ). y * 2 ^ (suc x + 1073)) (add-comm 4503599627370496 t))
 -- a subnormal's digits shifted up
 pub record Shifted (t z : ℕ) : Type 0 where
   pub z-lo : 11 ≤ z
@@ -231,11 +186,8 @@ shifted t p h =
         let same' : t * 2 ^ (z - 11) * 2 ^ (1085 - z) ≡ t * 2 ^ 1074 = mul-assoc t (2 ^ (z - 11)) (2 ^ (1085 - z))
         ∙ ap (λ (x : ℕ). t * x) (sym (pow-add 2 (z - 11) (1085 - z))) ∙ ap (λ (x : ℕ). t * 2 ^ x) (whole j z s l) in
         record {
-          z-lo = omega arith;
-          z-hi = omega arith;
-          lo = subst (λ (x : ℕ). 2 ^ 52 ≤ x) (sym exact) lo';
-          hi = subst (λ (x : ℕ). x < 2 ^ 53) (sym exact) hi';
-          same = ap (λ (x : ℕ). x * 2 ^ (1085 - z)) exact ∙ same';
+          z-lo = omega arith; z-hi = omega arith; lo = subst (λ (x : ℕ). 2 ^ 52 ≤ x) (sym exact) lo';
+          hi = subst (λ (x : ℕ). x < 2 ^ 53) (sym exact) hi'; same = ap (λ (x : ℕ). x * 2 ^ (1085 - z)) exact ∙ same';
         }
       where
         up-to : (j z : ℕ) → z + suc j ≡ 64 → j < 52 → 52 ≡ j + (z - 11)

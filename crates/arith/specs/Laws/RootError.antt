@@ -32,13 +32,10 @@ module _ (n q W : ℕ) (r : NearRoot n q) where
 
   -- x ≥ 1/4 gives r ≥ 1/4
   large-whole : (A L : ℕ) → A * L ≡ n * (W * W) → 1 ≤ q → L ≤ 4 * A → L ≤ 4 * (q * W)
-  large-whole A L e o h = le-of-suc-le-suc (square-lt L (suc (4 * (q * W))) (lt-of-le-of-lt below (less (q * W * (q * W)))))
+  large-whole A L e o h = le-of-suc-le-suc (square-lt L (suc (4 * (q * W))) (lt-of-le-of-lt below (omega arith)))
     where
       below : L * L ≤ 8 * (q * W * (q * W))
       below = let a = mul-le-mul-right L h in let b = mul-le-mul-right (W * W) (r .1) in let c = mul-le-mul-right (q * (W * W)) o in omega arith
-
-      less : (s : ℕ) → 8 * (q * W * (q * W)) < suc (4 * (q * W)) * suc (4 * (q * W))
-      less s = omega arith
 
 -- x < 4 gives W / 2 ≤ L / 2 ^ 53
 last-place : (n k A : ℕ) → A * 2 ^ 1074 ≡ n * (2 ^ k * 2 ^ k) → 2 ^ 104 ≤ n → A < 4 * 2 ^ 1074 → k < 1023
@@ -95,11 +92,7 @@ place-out W L P h = ≤-mk (sgF false W (2 * L) P) u (omega arith)
 
 -- what is at least 1/4 is above 0
 pub above-quarter : (z : ℚ) → mk quarter ≤q z → qn 0 <q z
-above-quarter z h = T-not (leq z (qn 0)) (λ t. no (mk-≤ quarter (whole 0 0) (≤q-trans (mk quarter) z (qn 0) h t)))
-  where
-    no : 1 * 1 + 0 * 4 ≤ 0 * 4 + 0 * 1 → ⊥
-    no h = omega arith
-
+above-quarter z h = T-not (leq z (qn 0)) (λ t. omega (arith, mk-≤ quarter (whole 0 0) (≤q-trans (mk quarter) z (qn 0) h t)))
 -- ---- half a last place, h, is at most u: the bounds with h give those with u
 widen-low : (x r h : ℚ) → (r -q h) *q (r -q h) ≤q x → h ≤q mk u → mk quarter ≤q r → (r -q mk u) *q (r -q mk u) ≤q x
 unfolding sameQ den comb
@@ -119,23 +112,18 @@ widen-high x r h a b c d =
 
 pub root-ok : (x : Float) → T (fits binary64 x) → T (finite x) → mk quarter ≤q val x → val x <q qn 4 → Root x (sqrt binary64 x)
 root-ok x f p a b =
-    let R = root-units x f (positive-of x p (above-quarter (val x) a)) in
-    let L = 2 ^ 1074 in
+    let R = root-units x f (positive-of x p (above-quarter (val x) a)) in let L = 2 ^ 1074 in
     let P = pow-pos 1074 in
     let P2 : 0 < 2 * 2 ^ 1074 = lit< tt in
-    let W = 2 ^ R .k in
-    let B = R .q * W in
-    let v = has→val x false (R .A) L P (R .value) .1 in
-    let w = has→val (sqrt binary64 x) false B L P (R .root) in
-    let r = sg false B L P in
+    let W = 2 ^ R .k in let B = R .q * W in let v = has→val x false (R .A) L P (R .value) .1 in
+    let w = has→val (sqrt binary64 x) false B L P (R .root) in let r = sg false B L P in
     let h = sg false W (2 * L) P2 in
     let k : R .k < 1023 = last-place (R .n) (R .k) (R .A) (R .square) (R .n-low) (four-in (R .A) L P (subst (λ z. z <q qn 4) v b)) in
     let small : h ≤q mk u = place-out W L P2 (fine (R .k) k) in
     let big : mk quarter ≤q r = quarter-out B L P (large-whole (R .n) (R .q) W (R .near) (R .A) L (R .square)
     (le-trans (lit≤ tt) (R .q-low)) (quarter-in (R .A) L P (subst (λ z. mk quarter ≤q z) v a))) in
     record {
-      is-finite = w .0;
-      not-neg = subst 0≤ (sym (w .1)) (sg-nn B L P);
+      is-finite = w .0; not-neg = subst 0≤ (sym (w .1)) (sg-nn B L P);
       low = subst₂ (λ r x. (r -q mk u) *q (r -q mk u) ≤q x) (sym (w .1)) (sym v)
           (widen-low (sg false (R .A) L P) r h (low-frac (R .A) B W L P P2 (low-whole (R .n) (R .q) W (R .near) (R .A) L (R .square))) small big);
       high = subst₂ (λ r x. x ≤q (r +q mk u) *q (r +q mk u)) (sym (w .1)) (sym v) (widen-high (sg false (R .A) L P) r h

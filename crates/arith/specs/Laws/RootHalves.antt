@@ -47,13 +47,8 @@ halves m s a b lo hi =
     let d-hi : d ≤ s * 67108864 = omega arith in
     let t-hi : d / s ≤ 67108864 = quotient-le s (d / s) d (d % s) (omega arith) e d-hi in
     record {
-      s-lo = s-lo;
-      s-hi = root-hi m s b lo;
-      d-hi = d-hi;
-      t-hi = t-hi;
-      tt-hi = mul-le-mul t-hi t-hi;
-      p-hi = mod-lt d (omega arith);
-      total = total-at m s (m - s * s) (d / s) (d % s) (omega arith) e;
+      s-lo = s-lo; s-hi = root-hi m s b lo; d-hi = d-hi; t-hi = t-hi; tt-hi = mul-le-mul t-hi t-hi;
+      p-hi = mod-lt d (omega arith); total = total-at m s (m - s * s) (d / s) (d % s) (omega arith) e;
     }
 
 pub up : (n q a b : ℕ) → n + b ≡ q * q + a → a ≤ 2 * q → b + q < a → NearRoot n (q + 1)
@@ -72,22 +67,16 @@ p-fits p s a b = omega arith
 pub sum-fits : (s t x : ℕ) → s < 134217728 → t ≤ 67108864 → x ≤ 4503599627370496 → x + (s * 67108864 + t) < 2 ^ 64
 sum-fits s t x a b c = omega arith
 
-rest-small : (p s t : ℕ) → p < s → p * 134217728 ≤ 2 * (s * 67108864 + t)
-rest-small p s t h = omega arith
-
-square-small : (s t x : ℕ) → 67108864 ≤ s → x ≤ 4503599627370496 → 0 < t → x < s * 67108864 + t
-square-small s t x a b c = omega arith
-
 -- t * t is below q: where t is 0 since s is not
 square-less : (s t : ℕ) → 67108864 ≤ s → t * t ≤ 4503599627370496 → t * t < s * 67108864 + t
 square-less s zero a b = omega arith
-square-less s (suc t) a b = square-small s (suc t) (suc t * suc t) a b (omega arith)
+square-less s (suc t) a b = omega arith
 
 pub near-up : (m s : ℕ) → Halves m s → wide m s / s * (wide m s / s) + (s * 67108864 + wide m s / s) < wide m s % s * 134217728
     → NearRoot (m * 2 ^ 52) (s * 67108864 + wide m s / s + 1)
 near-up m s h =
     up (m * 2 ^ 52) (s * 67108864 + wide m s / s) (wide m s % s * 134217728) (wide m s / s * (wide m s / s))
-    (h .total) (rest-small (wide m s % s) s (wide m s / s) (h .p-hi))
+    (h .total) (omega (arith, h .p-hi))
 
 pub near-stay : (m s : ℕ) → Halves m s → wide m s % s * 134217728 ≤ wide m s / s * (wide m s / s) + (s * 67108864 + wide m s / s)
     → NearRoot (m * 2 ^ 52) (s * 67108864 + wide m s / s)

@@ -16,11 +16,6 @@ use Rattle.arith.specs.Root.{raise, rootIn, root, roundRoot, sqrt, NearR
 use Rattle.arith.specs.Laws.RootHalves.{square-lt}
 
 -- ---- `root`
-quarter : (n r : ℕ) → r * r ≤ n / 4 → 2 * r * (2 * r) ≤ n
-quarter n r h = omega arith
-
-quarter-above : (n r : ℕ) → n / 4 < suc r * suc r → n < (2 * r + 2) * (2 * r + 2)
-quarter-above n r h = omega arith
 
 raise-is : (n r : ℕ) → 2 * r * (2 * r) ≤ n → n < (2 * r + 2) * (2 * r + 2)
     → (raise n (2 * r) * raise n (2 * r) ≤ n) × (n < suc (raise n (2 * r)) * suc (raise n (2 * r)))
@@ -32,41 +27,19 @@ raise-is n r a b = go (leb ((2 * r + 1) * (2 * r + 1)) n) (leb→le ((2 * r + 1)
     go false h k = (a, let z = k tt in omega arith)
 
 fewer : (d n : ℕ) → n < 2 ^ (suc d + suc d) → n / 4 < 2 ^ (d + d)
-fewer d n h = at (2 ^ (d + d)) (subst (λ (x : ℕ). n < x) (ap (λ (x : ℕ). 2 ^ x) (two-more d) ∙ pow-add 2 (d + d) 2) h)
-  where
-    two-more : (d : ℕ) → suc d + suc d ≡ d + d + 2
-    two-more d = omega arith
-
-    at : (p : ℕ) → n < p * 4 → n / 4 < p
-    at p h = omega arith
-
+fewer d n h = omega (arith, subst (λ (x : ℕ). n < x) (ap (λ (x : ℕ). 2 ^ x) (omega arith) ∙ pow-add 2 (d + d) 2) h)
 rootIn-is : (d n : ℕ) → n < 2 ^ (d + d) → (rootIn d n * rootIn d n ≤ n) × (n < suc (rootIn d n) * suc (rootIn d n))
 unfolding rootIn
 rootIn-is zero n h = (omega arith, omega arith)
 rootIn-is (suc d) n h =
     let ih = rootIn-is d (n / 4) (fewer d n h) in
-    raise-is n (rootIn d (n / 4)) (quarter n (rootIn d (n / 4)) (ih .0)) (quarter-above n (rootIn d (n / 4)) (ih .1))
-
-twice-le : (d : ℕ) → d ≤ d + d
-twice-le d = omega arith
+    raise-is n (rootIn d (n / 4)) (omega (arith, ih .0)) (omega (arith, ih .1))
 
 pub root-is : (n : ℕ) → (root n * root n ≤ n) × (n < suc (root n) * suc (root n))
 unfolding root
-root-is n = rootIn-is (size n) n (lt-of-lt-of-le (size-lt n) (pow-mono (twice-le (size n))))
+root-is n = rootIn-is (size n) n (lt-of-lt-of-le (size-lt n) (pow-mono (omega arith)))
 
 -- ---- the root rounded
--- no number is a quarter more than a whole one: there is no tie
-no-tie : (n q : ℕ) → 4 * n ≡ (2 * q + 1) * (2 * q + 1) → ⊥
-no-tie n q e = omega arith
-
-lower : (n p q : ℕ) → 0 < p → 4 * (n * p) < (2 * q + 1) * (2 * q + 1) * p → 4 * n < (2 * q + 1) * (2 * q + 1)
-lower n p q h k = lt-of-mul-lt-mul-right p (lt-of-le-of-lt (le-of-eq (mul-assoc 4 n p)) k)
-
-upper : (n p q : ℕ) → 0 < p → (2 * q + 1) * (2 * q + 1) * p < 4 * (n * p) → (2 * q + 1) * (2 * q + 1) < 4 * n
-upper n p q h k = lt-of-mul-lt-mul-right p (lt-of-lt-of-le k (le-of-eq (sym (mul-assoc 4 n p))))
-
-level : (n p q : ℕ) → 0 < p → 4 * (n * p) ≡ (2 * q + 1) * (2 * q + 1) * p → 4 * n ≡ (2 * q + 1) * (2 * q + 1)
-level n p q h k = eq-of-mul-eq-mul-right p h (4 * n) ((2 * q + 1) * (2 * q + 1)) (mul-assoc 4 n p ∙ k)
 
 -- of the two numbers around the root, the nearer
 near-low : (n w : ℕ) → w * w ≤ n → 4 * n < (2 * w + 1) * (2 * w + 1) → 0 < n → NearRoot n w
@@ -91,9 +64,9 @@ chosen : (n p : ℕ) → 0 < p → 0 < n → NearRoot n (nearest (root n) (compa
 chosen n p P N = go (compare (4 * (n * p)) ((2 * root n + 1) * (2 * root n + 1) * p)) (cmp (4 * (n * p)) ((2 * root n + 1) * (2 * root n + 1) * p))
   where
     go : (o : Ordering) → Cmp o (4 * (n * p)) ((2 * root n + 1) * (2 * root n + 1) * p) → NearRoot n (nearest (root n) o)
-    go Ordering·lt c = near-low n (root n) (root-is n .0) (lower n p (root n) P c) N
-    go Ordering·eq c = absurd (no-tie n (root n) (level n p (root n) P c))
-    go Ordering·gt c = near-high n (root n) (root-is n .1) (upper n p (root n) P c)
+    go Ordering·lt c = near-low n (root n) (root-is n .0) (lt-of-mul-lt-mul-right p (lt-of-le-of-lt (le-of-eq (mul-assoc 4 n p)) c)) N
+    go Ordering·eq c = absurd (omega (arith, eq-of-mul-eq-mul-right p P (4 * n) ((2 * (root n) + 1) * (2 * (root n) + 1)) (mul-assoc 4 n p ∙ c)))
+    go Ordering·gt c = near-high n (root n) (root-is n .1) (lt-of-mul-lt-mul-right p (lt-of-lt-of-le c (le-of-eq (sym (mul-assoc 4 n p)))))
 
 pub near-exists : (n : ℕ) → 0 < n → (q : ℕ) × NearRoot n q
 near-exists n N = (nearest (root n) (compare (4 * (n * 1)) ((2 * root n + 1) * (2 * root n + 1) * 1)), chosen n 1 (pow-pos 0) N)
@@ -119,23 +92,17 @@ root-size n j k a b =
     (subst (λ (x : ℕ). r < 2 ^ x) (suc-add j k) (square-lt r (2 ^ (suc j + k))
     (lt-of-le-of-lt (root-is (n * p) .0) (lt-of-lt-of-le (mul-lt-mul-of-pos-right b P) (le-of-eq (sym (square (suc j) k)))))))
 
-excess : (k : ℕ) → suc (52 + k) - 53 ≡ k
-excess k = omega arith
-
-positive : (n : ℕ) → 20282409603651670423947251286016 ≤ n → 0 < n
-positive n h = omega arith
-
 pub round-at : (n k q : ℕ) → 2 ^ 104 ≤ n → n < 2 ^ 106 → NearRoot n q → roundRoot binary64 (n * (2 ^ k * 2 ^ k)) ≡ units binary64 false q k
 unfolding roundRoot
 round-at n k q a b h =
     let p = 2 ^ k * 2 ^ k in
     let P : 0 < p = mul-pos (pow-pos k) (pow-pos k) in
     let v = n * p in
-    let e : size (root v) - 53 ≡ k = ap (λ (x : ℕ). x - 53) (root-size n 52 k a b) ∙ excess k in
+    let e : size (root v) - 53 ≡ k = ap (λ (x : ℕ). x - 53) (root-size n 52 k a b) ∙ (omega arith) in
     ap (λ (x : ℕ). units binary64 false (nearest (root (v / (2 ^ x * 2 ^ x)))
     (compare (4 * v) ((2 * root (v / (2 ^ x * 2 ^ x)) + 1) * (2 * root (v / (2 ^ x * 2 ^ x)) + 1) * (2 ^ x * 2 ^ x)))) x) e
     ∙ ap (λ (x : ℕ). units binary64 false (nearest (root x) (compare (4 * v) ((2 * root x + 1) * (2 * root x + 1) * p))) k) (mul-div-cancel n P)
-    ∙ ap (λ (x : ℕ). units binary64 false x k) (choice n p q P (positive n a) h)
+    ∙ ap (λ (x : ℕ). units binary64 false x k) (choice n p q P (omega arith) h)
 
 -- ---- how large q is
 pub near-lo : (n q : ℕ) → 2 ^ 104 ≤ n → NearRoot n q → 2 ^ 52 ≤ q

@@ -25,11 +25,8 @@ use Rattle.arith.specs.Laws.Spacing.{above-next, below-next, L, frac, le
 square-le : (a b : ℕ) → a ≤ b → a * a ≤ b * b
 square-le a b h = mul-le-mul h h
 
-pos-of : (a b : ℕ) → a < b → 0 < b
-pos-of a b h = omega arith
-
 square-less : (a b : ℕ) → a < b → a * a < b * b
-square-less a b h = lt-of-le-of-lt (mul-le-mul-left a (le-of-lt h)) (mul-lt-mul-of-pos-right h (pos-of a b h))
+square-less a b h = lt-of-le-of-lt (mul-le-mul-left a (le-of-lt h)) (mul-lt-mul-of-pos-right h (omega arith))
 
 middle-above : (m j k q n : ℕ) → m < 2 ^ 53 → 2 ^ 52 ≤ q → NearRoot n q → q * 2 ^ k < m * 2 ^ j
     → 4 * (n * (2 ^ k * 2 ^ k)) < (m * 2 ^ j + q * 2 ^ k) * (m * 2 ^ j + q * 2 ^ k)
@@ -80,10 +77,7 @@ pub positive-of : (x : Float) → T (finite x) → qn 0 <q val x → T (positive
 unfolding leq
 positive-of nan p t = absurd p
 positive-of (inf s) p t = absurd p
-positive-of (fin true m e) p t = absurd (no (nleb→lt (0 * 1 + 0 * down e) (0 * down e + m * up e * 1) t))
-  where
-    no : 0 * down e + m * up e * 1 < 0 * 1 + 0 * down e → ⊥
-    no h = omega arith
+positive-of (fin true m e) p t = absurd (omega (arith, nleb→lt (0 * 1 + 0 * down e) (0 * down e + m * up e * 1) t))
 positive-of (fin false m e) p t = lt→ltb 0 m (first m (nleb→lt (m * up e * 1 + 0 * down e) (0 * down e + 0 * 1) t))
   where
     first : (m : ℕ) → 0 * down e + 0 * 1 < m * up e * 1 + 0 * down e → 0 < m

@@ -37,10 +37,7 @@ part-exponent k h =
 
 units-of : (s : Bool) (m : ℕ) (e : ℤ) → 0 < m → m < 2 ^ 53 → down e ≤ 2 ^ 1074 → m * up e < 2 ^ 1024 * down e → Units (fin s m e) s
 units-of s m (pos k) p d l h = record {
-  m = m;
-  j = k + 1074;
-  digits = d;
-  scale = let g = whole-exponent m k p h in omega arith;
+  m = m; j = k + 1074; digits = d; scale = let g = whole-exponent m k p h in omega arith;
   value = (refl, mul-assoc m (2 ^ k) (2 ^ 1074) ∙ ap (λ (x : ℕ). m * x) (sym (pow-add 2 k 1074)) ∙ sym (mul-one (m * 2 ^ (k + 1074))));
 }
 units-of s m (negsuc k) p d l h =
@@ -63,19 +60,13 @@ units-of s m (negsuc k) p d l h =
 pub in-units : (s : Bool) (m : ℕ) (e : ℤ) → T (fits binary64 (fin s m e)) → Units (fin s m e) s
 unfolding fits
 in-units s zero e f = record {
-  m = 0;
-  j = 0;
-  digits = pow-pos 53;
-  scale = lit≤ tt;
+  m = 0; j = 0; digits = pow-pos 53; scale = lit≤ tt;
   value = (refl, ap (λ (x : ℕ). x * 2 ^ 1074) (zero-mul (up e)) ∙ sym (zero-mul (down e)));
 }
 in-units s (suc m) e f =
-    let odd = eqb (suc m % 2) 1 in
-    let few = ltb (suc m) (2 ^ 53) in
-    let fine = leb (down e) (2 ^ 1074) in
-    let below = ltb (suc m * up e) (2 ^ 1024 * down e) in
-    let f' = and-l (odd && few && fine) below f in
-    let f'' = and-l (odd && few) fine f' in
+    let odd = eqb (suc m % 2) 1 in let few = ltb (suc m) (2 ^ 53) in
+    let fine = leb (down e) (2 ^ 1074) in let below = ltb (suc m * up e) (2 ^ 1024 * down e) in
+    let f' = and-l (odd && few && fine) below f in let f'' = and-l (odd && few) fine f' in
     units-of s (suc m) e (zero-lt-suc m) (ltb→lt (suc m) (2 ^ 53) (and-r odd few f'')) (leb→le (down e) (2 ^ 1074) (and-r (odd && few) fine f'))
     (ltb→lt (suc m * up e) (2 ^ 1024 * down e) (and-r (odd && few && fine) below f))
 
@@ -94,31 +85,17 @@ pub record RootUnits (x : Float) : Type 0 where
   pub root : HasValue (sqrt binary64 x) false (q * 2 ^ k) (2 ^ 1074)
   pub root-fits : T (fits binary64 (sqrt binary64 x))
 
-positive-n : (n : ℕ) → 20282409603651670423947251286016 ≤ n → 0 < n
-positive-n n h = omega arith
-
 -- x is A units, and that times 2 ^ 1074 is M * 2 ^ 52 times 4 ^ k, as `join` has it
 rooted-at : (x : Float) (A M k : ℕ) → HasValue x false A (2 ^ 1074) → sqrt binary64 x ≡ roundRoot binary64 (A * 2 ^ 1074)
     → A * 2 ^ 1074 ≡ M * 2 ^ 52 * (2 ^ k * 2 ^ k) → 2 ^ 52 ≤ M → M + 2 ≤ 2 ^ 54 → k < 2046 → RootUnits x
 rooted-at x A M k v s e a b c =
     let n = M * 2 ^ 52 in
     let lo : 2 ^ 104 ≤ n = mul-le-mul-right (2 ^ 52) a in
-    let hi = room M b in
-    let w = near-exists n (positive-n n lo) in
-    let q = w .0 in
-    let h = w .1 in
+    let hi = room M b in let w = near-exists n (omega arith) in let q = w .0 in let h = w .1 in
     let q-hi = near-hi n q hi h in
     let is : sqrt binary64 x ≡ units binary64 false q k = s ∙ ap (λ (z : ℕ). roundRoot binary64 z) e ∙ round-at n k q lo (under-room n hi) h in
     record {
-      A = A;
-      n = n;
-      k = k;
-      q = q;
-      value = v;
-      square = e;
-      n-low = lo;
-      near = h;
-      q-low = near-lo n q lo h;
+      A = A; n = n; k = k; q = q; value = v; square = e; n-low = lo; near = h; q-low = near-lo n q lo h;
       q-high = q-hi;
       root = subst (λ (z : Float). HasValue z false (q * 2 ^ k) (2 ^ 1074)) (sym is) (units-val binary64 false q k (fine q k q-hi c));
       root-fits = subst (λ (z : Float). T (fits binary64 z)) (sym is) (units-fit q k q-hi (fine q k q-hi c));
@@ -131,12 +108,9 @@ scaled m s l a b = (low-part, subst (λ (z : ℕ). m * 2 ^ (53 - s) < 2 ^ z) (fi
     fill : (s : ℕ) → s ≤ 53 → s + (53 - s) ≡ 53
     fill s l = omega arith
 
-    half : (z : ℕ) → 9007199254740992 ≤ 2 * z → 4503599627370496 ≤ z
-    half z h = omega arith
-
     low-part : 2 ^ 52 ≤ m * 2 ^ (53 - s)
     low-part =
-        half (m * 2 ^ (53 - s)) (le-trans (le-of-eq (ap (λ (z : ℕ). 2 ^ z) (sym (fill s l)) ∙ pow-add 2 s (53 - s)))
+        omega (arith, le-trans (le-of-eq (ap (λ (z : ℕ). 2 ^ z) (sym (fill s l)) ∙ pow-add 2 s (53 - s)))
         (le-trans (mul-le-mul-right (2 ^ (53 - s)) a) (le-of-eq (mul-assoc 2 m (2 ^ (53 - s))))))
 
 rooted-even : (x : Float) (A M h : ℕ) → HasValue x false A (2 ^ 1074) → sqrt binary64 x ≡ roundRoot binary64 (A * 2 ^ 1074)
@@ -160,16 +134,14 @@ rooted-odd x A M h v s e a b c d p =
 
 rooted-units : (x : Float) (m j : ℕ) → 0 < m → m < 2 ^ 53 → j ≤ 2098 → HasValue x false (m * 2 ^ j) (2 ^ 1074) → RootUnits x
 rooted-units x m j p q l val =
-    let A = m * 2 ^ j in
-    let s = size m in
+    let A = m * 2 ^ j in let s = size m in
     let s-hi : s ≤ 53 = size-le m 53 q in
     let sc = scaled m s s-hi (top-digit m s refl (size-pos m p)) (size-lt m) in
-    let M = m * 2 ^ (53 - s) in
-    let h = j + 1021 + s in
+    let M = m * 2 ^ (53 - s) in let h = j + 1021 + s in
     let e : A * 2 ^ 1074 ≡ M * 2 ^ h = mul-assoc m (2 ^ j) (2 ^ 1074)
-    ∙ ap (λ (z : ℕ). m * z) (sym (pow-add 2 j 1074) ∙ ap (λ (z : ℕ). 2 ^ z) (whole j s s-hi) ∙ pow-add 2 (53 - s) h)
+    ∙ ap (λ (z : ℕ). m * z) (sym (pow-add 2 j 1074) ∙ ap (λ (z : ℕ). 2 ^ z) (omega arith) ∙ pow-add 2 (53 - s) h)
     ∙ sym (mul-assoc m (2 ^ (53 - s)) (2 ^ h)) in
-    go A M h (ℕ-discrete (h % 2) 0) val (sqrt-at binary64 x A (mul-pos p (pow-pos j)) val) e (sc .0) (sc .1) (reach j s) (bounded j s l s-hi)
+    go A M h (ℕ-discrete (h % 2) 0) val (sqrt-at binary64 x A (mul-pos p (pow-pos j)) val) e (sc .0) (sc .1) (omega arith) (omega arith)
   where
     size-pos : (m : ℕ) → 0 < m → 0 < size m
     size-pos m p = lt-of-not-le (λ (g : size m ≤ 0). not-le-of-lt (lt-of-lt-of-le (size-lt m) (pow-mono g)) p)
@@ -177,15 +149,6 @@ rooted-units x m j p q l val =
     top-digit : (m s : ℕ) → size m ≡ s → 0 < s → 2 ^ s ≤ 2 * m
     top-digit m zero e h = absurd (lt-irrefl 0 h)
     top-digit m (suc t) e h = le-trans (le-of-eq (pow-succ' 2 t)) (mul-le-mul-left 2 (size-reaches m t (le-of-eq (sym e))))
-
-    whole : (j s : ℕ) → s ≤ 53 → j + 1074 ≡ 53 - s + (j + 1021 + s)
-    whole j s h = omega arith
-
-    reach : (j s : ℕ) → 52 ≤ j + 1021 + s
-    reach j s = omega arith
-
-    bounded : (j s : ℕ) → j ≤ 2098 → s ≤ 53 → j + 1021 + s < 4000
-    bounded j s a b = omega arith
 
     go : (A M h : ℕ) → Dec (h % 2 ≡ 0) → HasValue x false A (2 ^ 1074) → sqrt binary64 x ≡ roundRoot binary64 (A * 2 ^ 1074)
         → A * 2 ^ 1074 ≡ M * 2 ^ h → 2 ^ 52 ≤ M → M < 2 ^ 53 → 52 ≤ h → h < 4000 → RootUnits x

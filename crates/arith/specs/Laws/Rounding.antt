@@ -63,10 +63,7 @@ module _ (f : Format) (s : Bool) (m : ℕ) (e : ℤ) where
   exact : m < 2 ^ prec f → down e ≤ 2 ^ low f → m * up e < 2 ^ suc (emax f) * down e
       → HasValue (round f s (m * up e) (down e)) s (m * up e) (down e)
   exact small fine below =
-      let l = low f in
-      let over = 2 ^ suc (emax f) in
-      let u = unit l e fine in
-      let j = u .0 in
+      let l = low f in let over = 2 ^ suc (emax f) in let u = unit l e fine in let j = u .0 in
       let same : m * up e * 2 ^ l ≡ m * 2 ^ j * down e =
       mul-assoc m (up e) (2 ^ l) ∙ ap (λ (x : ℕ). m * x) (u .1) ∙ sym (mul-assoc m (2 ^ j) (down e)) in
       let top : over * down e * 2 ^ l ≡ 2 ^ (l + suc (emax f)) * down e =
@@ -82,8 +79,7 @@ pub held : (f : Format) (s : Bool) (m : ℕ) (e : ℤ) → T (fits f (fin s (suc
     → (suc m < 2 ^ prec f) × (down e ≤ 2 ^ low f) × (suc m * up e < 2 ^ suc (emax f) * down e)
 unfolding fits
 held f s m e t =
-    let odd = eqb (suc m % 2) 1 in
-    let few = ltb (suc m) (2 ^ prec f) in
+    let odd = eqb (suc m % 2) 1 in let few = ltb (suc m) (2 ^ prec f) in
     let fine = leb (down e) (2 ^ low f) in
     let below = ltb (suc m * up e) (2 ^ suc (emax f) * down e) in
     let t' = and-l (odd && few && fine) below t in (
@@ -146,9 +142,7 @@ neg-neg (fin false m e) = refl
 
 pub round-neg : (f : Format) (s : Bool) (a c : ℕ) → round f (not s) a c ≡ neg (round f s a c)
 round-neg f s a c =
-    let n = a * 2 ^ low f in
-    let k = size (n / c) - prec f in
-    let u = c * 2 ^ k in
+    let n = a * 2 ^ low f in let k = size (n / c) - prec f in let u = c * 2 ^ k in
     round-is f (not s) a c
     ∙ units-neg f s (nearest (n / u) (compare (n % u * 2) u)) k
     ∙ ap neg (sym (round-is f s a c))
@@ -158,8 +152,7 @@ pub mul-values : (f : Format) (x y : Float) (s t : Bool) (a c b d : ℕ) → 0 <
     → HasValue x s a c → HasValue y t b d → mul f x y ≡ round f (unlike s t) (a * b) (c * d)
 unfolding mul
 mul-values f (fin s' m e) (fin t' n g) s t a c b d C D v w =
-    let p = m * up e * (n * up g) in
-    let q = down e * down g in
+    let p = m * up e * (n * up g) in let q = down e * down g in
     ap (λ (z : Bool). round f (unlike z t') p q) (v .0)
     ∙ ap (λ (z : Bool). round f (unlike s z) p q) (w .0)
     ∙ round-same f (unlike s t) p q (a * b) (c * d) (mul-pos (down-pos e) (down-pos g)) (mul-pos C D)

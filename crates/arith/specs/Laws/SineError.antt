@@ -135,11 +135,7 @@ all3 P a b c d zero h = a
 all3 P a b c d (suc zero) h = b
 all3 P a b c d (suc (suc zero)) h = c
 all3 P a b c d (suc (suc (suc zero))) h = d
-all3 P a b c d (suc (suc (suc (suc k)))) h = absurd (no k h)
-  where
-    no : (k : ℕ) → suc (suc (suc (suc k))) ≤ 3 → ⊥
-    no k h = omega arith
-
+all3 P a b c d (suc (suc (suc (suc k)))) h = absurd (omega arith)
 bx-ok : (k : ℕ) → k ≤ 3 → T (ok (bx k))
 unfolding bx
 bx-ok = all3 (λ k. ok (bx k)) tt tt tt tt
@@ -268,20 +264,9 @@ stops-here h x k l m r = record { K = k; i = 0; sum = zero-add k; few = l; angle
 
 stops-later : (h : ℚ) (t : Turn) (k : ℕ) → Stops h (suc k) t → Stops h k (doubled t)
 stops-later h t k s = record {
-  K = s .K;
-  i = suc (s .i);
-  sum = step (s .i) (s .K) (s .sum);
-  few = s .few;
-  angle = s .angle;
-  turned = again h t (s .K) (s .i) (s .few) (under (s .i) (s .K) (s .sum) (s .few)) (s .turned);
+  K = s .K; i = suc (s .i); sum = omega (arith, s .sum); few = s .few; angle = s .angle;
+  turned = again h t (s .K) (s .i) (s .few) (omega (arith, s .sum, s .few)) (s .turned);
 }
-  where
-    step : (i n : ℕ) → i + suc k ≡ n → suc i + k ≡ n
-    step i n e = omega arith
-
-    under : (i n : ℕ) → i + suc k ≡ n → n ≤ 3 → suc i ≤ 3
-    under i n e l = omega arith
-
 stops : (h : ℚ) → 0≤ h → 0≤ (qn 4 -q h) → (j k : ℕ) → j + k ≡ 3 → (x : Float) → Rel x (X h k) (bx k) → Stops h k (turnOf j x)
 unfolding turnOf
 stops h a b zero k e x r = stops-here h x k (omega arith) (subst (λ n. Abs (X h n) xmax) (sym e ∙ zero-add k) (X-third h a b)) r
@@ -319,11 +304,8 @@ done : (h : ℚ) (k : ℕ) (e : Fx) (p : Rx) → T (close h k e p) → Abs (X h 
     → Abs (f -q exact (h ∷ []) e) (2 ^ (256 - 41)) → Abs (f -q evR (h ∷ []) p) (2 ^ (256 - 40))
 unfolding close sameQ
 done h k e p t m f A =
-    let d = toR e ⊖ p in
-    let N = 2 ^ (256 - 41) in
-    let g = exact (h ∷ []) e in
-    let y = evR (h ∷ []) p in
-    let t1 = and-l (leb (bndR h (grow k xmax) d) N) (plain e) t in
+    let d = toR e ⊖ p in let N = 2 ^ (256 - 41) in let g = exact (h ∷ []) e in
+    let y = evR (h ∷ []) p in let t1 = and-l (leb (bndR h (grow k xmax) d) N) (plain e) t in
     let t2 = and-r (leb (bndR h (grow k xmax) d) N) (plain e) t in
     let B = abs-mono (evR (h ∷ []) d) (bndR h (grow k xmax) d) N (leb→le (bndR h (grow k xmax) d) N t1) (bndR-ok h (grow k xmax) (h-abs h k xmax m) d) in
     let B' = abs-eq (evR (h ∷ []) d) (g -q y) N (ap (λ z. z -q y) (toR-ok (h ∷ []) e t2)) B in
@@ -352,22 +334,16 @@ add-none i k e = omega arith
 pub turn-near : (h : Float) → T (finite h) → qn 0 ≤q val h → val h ≤q qn 4 → SinesNear (val h) (turnOf 3 h)
 unfolding S C
 turn-near h f a b =
-    let x = val h in
-    let t = turnOf 3 h in
-    let b' = ≤q-sub x (qn 4) b in
-    let st = stops x a b' 3 0 refl h (x-start h f a b') in
-    let k = st .K in
+    let x = val h in let t = turnOf 3 h in let b' = ≤q-sub x (qn 4) b in
+    let st = stops x a b' 3 0 refl h (x-start h f a b') in let k = st .K in
     let N = 2 ^ (256 - 41) in
     let r = subst (λ i. Turned x k i t) (add-none (st .i) k (st .sum)) (st .turned) in
-    let o = polys x k (st .few) in
-    let u = db-err k (st .few) in
-    let P = close x k (fs k k .0) sineR in
-    let Q = close x k (fs k k .1) cosineR in
+    let o = polys x k (st .few) in let u = db-err k (st .few) in
+    let P = close x k (fs k k .0) sineR in let Q = close x k (fs k k .1) cosineR in
     let es = leb→le (err (db k k .0)) N (and-l (leb (err (db k k .0)) N) (leb (err (db k k .1)) N) u) in
     let ec = leb→le (err (db k k .1)) N (and-r (leb (err (db k k .0)) N) (leb (err (db k k .1)) N) u) in
     record {
-      sine-finite = r .0 .0;
-      cosine-finite = r .1 .0;
+      sine-finite = r .0 .0; cosine-finite = r .1 .0;
       sine = subst (Near (mk (tiny 40)) (val (t .s))) (sine-poly x) (near-of (val (t .s)) (evR (x ∷ []) sineR)
           (done x k (fs k k .0) sineR (and-l P Q o) (st .angle) (val (t .s)) (abs-mono (val (t .s) -q S x k k) (err (db k k .0)) N es (r .0 .2))));
       cosine = subst (Near (mk (tiny 40)) (val (t .c))) (cosine-poly x) (near-of (val (t .c)) (evR (x ∷ []) cosineR)
@@ -405,9 +381,6 @@ sin-cos-accepts h f a b =
     ap (λ c. cond c Sines.Refused (cond (le h (ratio 4 1)) (Sines.Value (turnOf 3 h)) Sines.Refused)) p
     ∙ ap (λ c. cond c (Sines.Value (turnOf 3 h)) Sines.Refused) q
 
-same-value : (a t : Turn) → Sines.Value a ≡ Sines.Value t → a ≡ t
-same-value a t e = cc
-
 no-value : (t : Turn) → Sines.Refused ≡ Sines.Value t → ⊥
 no-value t e = let z : _≡_ {A = ℕ} 0 1 = cc in omega arith
 
@@ -428,10 +401,9 @@ sin-cos-accepted h t e = go (lt h (ratio 0 1)) (le h (ratio 4 1)) refl refl e
     go false true p q e =
         let f = accepted-finite h p q in
         record {
-          is-finite = f;
-          low = subst (λ z. z ≤q val h) zero-val (lt-no h (ratio 0 1) f (small-finite 0 (inl refl)) p);
+          is-finite = f; low = subst (λ z. z ≤q val h) zero-val (lt-no h (ratio 0 1) f (small-finite 0 (inl refl)) p);
           high = subst (λ z. val h ≤q z) four-val (subst T (sym q ∙ le-val h (ratio 4 1) f (small-finite 4 (inr refl))) tt);
-          is = same-value (turnOf 3 h) t e;
+          is = cc;
         }
 
 -- ---- for every angle that `sinCosOf` accepts

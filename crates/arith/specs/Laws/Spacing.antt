@@ -30,46 +30,28 @@ gap-fine m j k q a b h = le-of-suc-le-suc (lt-of-not-le (λ (g : suc j ≤ k). c
 
     clash : suc j ≤ k → ⊥
     clash g =
-        let s = split k j g in
-        let d = s .0 in
+        let s = split k j g in let d = s .0 in
         let e : 2 ^ k ≡ 2 ^ suc d * 2 ^ j = ap (λ (x : ℕ). 2 ^ x) (sym (s .1)) ∙ pow-add 2 (suc d) j in
         let l : q * 2 ^ suc d * 2 ^ j < m * 2 ^ j = lt-of-le-of-lt (le-of-eq (mul-assoc q (2 ^ suc d) (2 ^ j) ∙ ap (λ (x : ℕ). q * x) (sym e))) h in
         let l' = lt-of-mul-lt-mul-right (2 ^ j) l in
         let t : 2 ^ 52 * 2 ^ suc d ≤ q * 2 ^ suc d = mul-le-mul-right (2 ^ suc d) b in
-        no (2 ^ suc d) (q * 2 ^ suc d) (two d) t l'
-      where
-        no : (p x : ℕ) → 2 * 2 ^ 52 ≤ p * 2 ^ 52 → 2 ^ 52 * p ≤ x → x < m → ⊥
-        no p x u v w = omega arith
-
+        omega (arith, two d)
 pub above-next : (m j k q : ℕ) → m < 2 ^ 53 → 2 ^ 52 ≤ q → q * 2 ^ k < m * 2 ^ j → (q + 1) * 2 ^ k ≤ m * 2 ^ j
 above-next m j k q a b h = whole (gap-fine m j k q a b h)
   where
     whole : k ≤ j → (q + 1) * 2 ^ k ≤ m * 2 ^ j
     whole g =
-        let e : m * 2 ^ j ≡ m * 2 ^ (j - k) * 2 ^ k = ap (λ (x : ℕ). m * 2 ^ x) (back g)
+        let e : m * 2 ^ j ≡ m * 2 ^ (j - k) * 2 ^ k = ap (λ (x : ℕ). m * 2 ^ x) (omega arith)
         ∙ ap (λ (x : ℕ). m * x) (pow-add 2 (j - k) k) ∙ sym (mul-assoc m (2 ^ (j - k)) (2 ^ k)) in
         let l = lt-of-mul-lt-mul-right (2 ^ k) (lt-of-lt-of-le h (le-of-eq e)) in
-        le-trans (mul-le-mul-right (2 ^ k) (next (m * 2 ^ (j - k)) l)) (le-of-eq (sym e))
-      where
-        back : k ≤ j → j ≡ j - k + k
-        back g = omega arith
-
-        next : (x : ℕ) → q < x → q + 1 ≤ x
-        next x h = omega arith
-
+        le-trans (mul-le-mul-right (2 ^ k) (omega arith)) (le-of-eq (sym e))
 -- below it: z is at most (q - 1) * 2 ^ k, unless q is the least of its binade
 pub below-next : (m j k q : ℕ) → m < 2 ^ 53 → 2 ^ 52 < q → m * 2 ^ j < q * 2 ^ k → m * 2 ^ j ≤ (q - 1) * 2 ^ k
 below-next m j k q a b h = go (decLe (m * 2 ^ j) ((q - 1) * 2 ^ k))
   where
-    less : 2 ^ 52 < q → 2 ^ 52 ≤ q - 1
-    less h = omega arith
-
-    back : 2 ^ 52 < q → q - 1 + 1 ≡ q
-    back h = omega arith
-
     go : Dec (m * 2 ^ j ≤ (q - 1) * 2 ^ k) → m * 2 ^ j ≤ (q - 1) * 2 ^ k
     go (yes l) = l
-    go (no f) = absurd (not-le-of-lt h (subst (λ (x : ℕ). x * 2 ^ k ≤ m * 2 ^ j) (back b) (above-next m j k (q - 1) a (less b) (lt-of-not-le f))))
+    go (no f) = absurd (not-le-of-lt h (subst (λ (x : ℕ). x * 2 ^ k ≤ m * 2 ^ j) (omega arith) (above-next m j k (q - 1) a (omega arith) (lt-of-not-le f))))
 
 -- ---- in fractions
 abbrev pub L : 0 < 2 ^ 1074
@@ -107,8 +89,6 @@ grid (fin false m e) f p h =
     let u = in-units false m e f in
     record { m = u .m; j = u .j; digits = u .digits; is = has→val (fin false m e) false (u .m * 2 ^ u .j) (2 ^ 1074) (pow-pos 1074) (u .value) .1 }
 grid (fin true m e) f p h = record {
-  m = 0;
-  j = 0;
-  digits = pow-pos 53;
+  m = 0; j = 0; digits = pow-pos 53;
   is = zero-both true (m * up e) (down e) (2 ^ 1074) (down-pos e) (pow-pos 1074) (no-less (m * up e) (down e) (down-pos e) h);
 }

@@ -52,9 +52,6 @@ clash : (b : Bool) → T b → T (not b) → ⊥
 clash true t n = n
 clash false t n = t
 
-le-then-less : (a b c : ℚ) → a ≤q b → b <q c → a <q c
-le-then-less a b c h k = T-not (leq c a) (λ t. clash (leq c b) (≤q-trans c a b t h) k)
-
 -- a middle of a d below 0 and r is nearer to 0 than the middle of 0 and r
 smaller-middle : (d r : ℚ) → d ≤q qn 0 → 0≤ (d +q r) → (d +q r) *q (d +q r) ≤q (qn 0 +q r) *q (qn 0 +q r)
 unfolding sameQ den comb
@@ -79,12 +76,11 @@ module _ (x : Float) (f : T (fits binary64 x)) (p : T (finite x)) (a : qn 0 <q v
       (subst (λ z. z <q val r) (sym zero-val) r-positive))
 
   below-zero-nearer : (d : Float) → val d ≤q qn 0 → qn 0 ≤q val d +q val r → (val d +q val r) *q (val d +q val r) <q qn 4 *q val x
-  below-zero-nearer d h k = le-then-less _ _ _ (smaller-middle (val d) (val r) h k) zero-nearer
+  below-zero-nearer d h k = T-not (leq _ _) (λ t. clash (leq _ _) (≤q-trans _ _ _ t (smaller-middle (val d) (val r) h k)) zero-nearer)
 
   nearest : Nearest (val x) r
   nearest = record {
-    double = (root-finite x f p a, root-fits x f p a);
-    above-zero = r-positive;
+    double = (root-finite x f p a, root-fits x f p a); above-zero = r-positive;
     below = λ d D l h.
         either (leq (qn 0) (val d)) (λ t. below-nearer x f p a d (D .1) (D .0) t l)
         (λ t. below-zero-nearer d (≤q-total (qn 0) (val d) t) h);
@@ -123,11 +119,9 @@ root-of-infinity = refl
 
 pub square-root : (x : Float) → T (fits binary64 x) → IsSquareRoot x (sqrt binary64 x)
 square-root x f = record {
-  of-nan = λ e. ap (sqrt binary64) e ∙ root-of-nan;
-  of-below = λ h. root-of-below x (ap (lt x) (sym zero-is) ∙ h);
+  of-nan = λ e. ap (sqrt binary64) e ∙ root-of-nan; of-below = λ h. root-of-below x (ap (lt x) (sym zero-is) ∙ h);
   of-zero = λ h. sym (root-of-zero x (ap (eq x) (sym zero-is) ∙ h));
-  of-infinity = λ e. ap (sqrt binary64) e ∙ root-of-infinity ∙ sym e;
-  of-above = λ p a. nearest x f p a;
+  of-infinity = λ e. ap (sqrt binary64) e ∙ root-of-infinity ∙ sym e; of-above = λ p a. nearest x f p a;
 }
 
 pub rooted : (x : Float) {r : Float} → T (fits binary64 x) → r ≡ sqrt binary64 x → Rooted x r
@@ -159,18 +153,11 @@ same-double (fin false m i) nan p q f g e = absurd q
 same-double (fin false m i) (inf t) p q f g e = absurd q
 same-double (fin false m i) (fin true n j) p q f g e = absurd q
 same-double (fin false m i) (fin false n j) p q f g e =
-    let x = fin false m i in
-    let a = m * up i in
-    let b = n * up j in
-    let x-is = sgF false a (down i) (down-pos i) in
-    let y-is = sgF false b (down j) (down-pos j) in
+    let x = fin false m i in let a = m * up i in let b = n * up j in
+    let x-is = sgF false a (down i) (down-pos i) in let y-is = sgF false b (down j) (down-pos j) in
     let le = mk-≤ x-is y-is (subst (λ z. val x ≤q z) e (≤q-refl (val x))) in
     let ge = mk-≤ y-is x-is (subst (λ z. z ≤q val x) e (≤q-refl (val x))) in
-    value-unique binary64 x (fin false n j) false a (down i) (down-pos i) f g (refl, refl) (refl, cross a b (down i) (down j) le ge)
-  where
-    cross : (a b c d : ℕ) → a * d + 0 * c ≤ b * c + 0 * d → b * c + 0 * d ≤ a * d + 0 * c → b * c ≡ a * d
-    cross a b c d h k = omega arith
-
+    value-unique binary64 x (fin false n j) false a (down i) (down-pos i) f g (refl, refl) (refl, omega arith)
 nearest-unique : (x : ℚ) (r s : Float) → Nearest x r → Nearest x s → r ≡ s
 nearest-unique x r s R S =
     same-double r s (positive-of r (R .double .0) (R .above-zero)) (positive-of s (S .double .0) (S .above-zero))

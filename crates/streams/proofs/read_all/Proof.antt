@@ -52,9 +52,7 @@ loop-again c =
     let at-bytes = c .before in
     let at-read = at-bytes .before .before .before .before .before .before in
     let at-loop = at-read .before .before .before .before in (
-      omega arith,
-      omega arith,
-      omega (arith, at-read .read-to .ensures .within, at-bytes .bytes .ensures),
+      omega arith, omega arith, omega (arith, at-read .read-to .ensures .within, at-bytes .bytes .ensures),
       omega arith,
       reading-more _ _ (at-loop .loop .inv .4) (at-read .read-to .ensures) (at-bytes .bytes .ensures) (back at-read)
           (c .if1 .left),

@@ -48,8 +48,7 @@ loop-again c =
     let at-loop = at-test .before in
     let start = at-loop .before .before .before in
     let inv = at-loop .loop .inv in (
-      omega (arith, at-test .loop-test .taken),
-      at-put .put-body .kept .0 ∙ inv .1,
+      omega (arith, at-test .loop-test .taken), at-put .put-body .kept .0 ∙ inv .1,
       bodies-more (now (start .args .file)) (start .args .t3) (at-loop .loop .k) (now (start .args .table)) (inv .2) (at-put .put-body .ensures),
     )
 

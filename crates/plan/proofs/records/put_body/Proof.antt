@@ -25,8 +25,7 @@ loop-again c =
     let at-loop = at-loop-test .before in
     let start = at-loop .before .before .before in
     let inv = at-loop .loop .inv in (
-      omega arith,
-      simp length-set (inv .1),
+      omega arith, simp length-set (inv .1),
       put-more (now (start .args .bodies)) (start .args .at) (now (start .args .file)) (at-loop .loop .i) (omega arith)
           (at-loop-test .loop-test .taken) (inv .2) (c .double-at .ensures),
     )

@@ -24,8 +24,7 @@ loop-again c =
     let at-loop = at-loop-test .before in
     let start = at-loop .before in
     let inv = at-loop .loop .inv in (
-      omega arith,
-      simp length-set (inv .1),
+      omega arith, simp length-set (inv .1),
       copy-more (now (start .args .out)) (start .args .at) (now (start .args .text)) (at-loop .loop .i) (start .pre)
           (at-loop-test .loop-test .taken) (inv .2),
     )
