@@ -8,7 +8,7 @@ mod path;
 pub mod places;
 mod search;
 pub mod solver;
-pub mod values;
+mod values;
 
 ghost use mathlib.Core.Path.{_≡_};
 ghost use Rattle.solves.specs.Answer.{isDone, endedWith};
