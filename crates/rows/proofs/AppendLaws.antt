@@ -4,11 +4,8 @@ use mathlib.Core.Path.{_≡_, refl, sym, _∙_, ap, subst}
 use mathlib.Core.Bool.{Bool, true, false}
 use mathlib.Core.List.{List, [], _∷_, append-nil}
 use native.Mathlib.Omega.{arith}
-use native.Mathlib.Decide.{ℕ-discrete}
-use lib.Ieee.{Float, nan}
-use lib.ListN.{length, set}
-use lib.Seq.{getD-set-same}
-use Rattle.arith.specs.Real.{ratio}
+use lib.Ieee.{Float}
+use lib.ListN.{length}
 use Rattle.arith.specs.Flow.{go, stop, _>>=_, tab}
 use Rattle.arith.specs.FlowLaws.{then-go, then-stop}
 use Rattle.rows.specs.declared.geometry.EqualityRow.{EqualityRow}
@@ -18,10 +15,10 @@ use Rattle.rows.specs.declared.geometry.Written.{Written}
 use Rattle.rows.specs.declared.geometry.Written.the-variants as Written
 use Rattle.rows.specs.Fault.{Fault, Result}
 use Rattle.rows.specs.Geometry.{rowIf}
-use Rattle.rows.specs.View.{at, rowAt, Out, Kept}
+use Rattle.rows.specs.View.{rowAt, Out, Kept}
 use Rattle.rows.specs.Answer.{writtenAs}
-use Rattle.rows.specs.Append.{rowAs, countOf, appended, added, spanOf, There, Room, Appends, Adds, Cleared, followedBy}
-use Rattle.rows.specs.Region.{kept-refl, kept-then, kept-more, kept-set, kept-row, tab-ext, tab-more}
+use Rattle.rows.specs.Append.{rowAs, countOf, appended, added, spanOf, There, Room, Appends, Adds, followedBy}
+use Rattle.rows.specs.Region.{kept-refl, kept-then, kept-more, kept-row, tab-ext, tab-more}
 
 -- ---- one answer
 pub append-value : {i n : ℕ} {s t : List Float} {answer : RowAnswer} {row : EqualityRow} → answer ≡ Row.Value row
@@ -162,22 +159,3 @@ adds-more {a} {b} {i} {k} {s} {t} {u} {w} {r} {answer} {d} locked D h p q l m = 
 pub adds-as : {a b i k k' : ℕ} {s t : List Float} {r : Written} {d d' : Result (List EqualityRow)} → k ≤ k' → d ≡ d'
     → Adds a b i k s t r d → Adds a b i k' s t r d'
 adds-as h e p = record { kept = p .kept; within = omega (arith, p .within); is = p .is ∙ e }
-
--- ---- zeros
-pub cleared-none : (i : ℕ) (s : List Float) → Cleared i 0 s s
-cleared-none i s = record { kept = kept-refl _ s; zero = λ k h. absurd (omega arith) }
-
-pub cleared-more : {i n : ℕ} {s t : List Float} {z : Float} → Cleared i n s t → i + n < length t → z ≡ ratio 0 1 → Cleared i (n + 1) s (set t (i + n) z)
-cleared-more {i} {n} {s} {t} {z} p h e = record {
-  kept = kept-then (kept-more (p .kept) (λ k x. omega arith)) (kept-set t (i + n) z) (λ k x. omega arith);
-  zero = λ k l. step k l (ℕ-discrete k n);
-}
-  where
-    step : (k : ℕ) → k < n + 1 → Dec (k ≡ n) → at (set t (i + n) z) (i + k) ≡ ratio 0 1
-    step k l (yes q) = ap (λ (j : ℕ). at (set t (i + n) z) (i + j)) q ∙ getD-set-same t (i + n) z nan h ∙ e
-    step k l (no q) = kept-set t (i + n) z .same (i + k) (omega arith) ∙ p .zero k (omega arith)
-
-pub cleared-all : {i n m : ℕ} {s t : List Float} → m ≤ n → n ≤ m → Cleared i m s t → Cleared i n s t
-cleared-all {i} {n} {m} {s} {t} h g p =
-    let same : m ≡ n = omega arith in
-    subst (λ (k : ℕ). Cleared i k s t) same p

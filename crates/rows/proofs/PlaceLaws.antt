@@ -12,25 +12,6 @@ use Rattle.rows.specs.View.{at, vec3At, rowAt, Out, Kept}
 use Rattle.rows.specs.Append.{Stored2}
 use Rattle.rows.specs.Region.{kept-set, kept-then, kept-more, kept-vec3}
 
-pub stored3 : (s : List Float) (i : ℕ) (v : Vec3) → i + 3 ≤ length s
-    → (Kept (λ k. Out i 3 k) s (set (set (set s i (v .x)) (i + 1) (v .y)) (i + 2) (v .z)))
-    × (vec3At (set (set (set s i (v .x)) (i + 1) (v .y)) (i + 2) (v .z)) i ≡ v)
-stored3 s i v h =
-    let s₁ = set s i (v .x) in
-    let s₂ = set s₁ (i + 1) (v .y) in
-    let k₁ = kept-set s i (v .x) in
-    let k₂ = kept-set s₁ (i + 1) (v .y) in
-    let k₃ = kept-set s₂ (i + 2) (v .z) in
-    let l₁ : length s₁ ≡ length s = k₁ .size in
-    let l₂ : length s₂ ≡ length s₁ = k₂ .size in (
-      kept-then (kept-then (kept-more k₁ (λ j p. omega arith)) k₂ (λ j p. omega arith)) k₃ (λ j p. omega arith),
-      λ j. record {
-        x = (k₃ .same i (omega arith) ∙ k₂ .same i (omega arith) ∙ getD-set-same s i (v .x) nan (omega arith)) j;
-        y = (k₃ .same (i + 1) (omega arith) ∙ getD-set-same s₁ (i + 1) (v .y) nan (omega arith)) j;
-        z = getD-set-same s₂ (i + 2) (v .z) nan (omega arith) j;
-      },
-    )
-
 pub stored2 : (s : List Float) (i : ℕ) (x y : Float) → i + 2 ≤ length s → Stored2 i x y s (set (set s i x) (i + 1) y)
 stored2 s i x y h =
     let s₁ = set s i x in

@@ -1,12 +1,12 @@
 -- The rows of a joint, written part by part, are the definition's list.
-use Prim.Native.Nat.{ℕ, zero, _+_}
+use Prim.Native.Nat.{ℕ, _+_}
 use mathlib.Core.Path.{_≡_, refl, sym, _∙_, ap, subst}
 use mathlib.Core.Bool.{Bool, true, false, cond, not}
 use mathlib.Core.List.{List, [], _∷_, _++_, append-assoc, append-nil}
 use native.Mathlib.Omega.{arith}
 use lib.Ieee.{Float}
 use lib.ListN.{length}
-use Rattle.arith.specs.Real.{F}
+use Rattle.arith.specs.Real.{F, ratio}
 use Rattle.arith.specs.Flow.{go, stop, _>>=_, returnIf}
 use Rattle.arith.specs.FlowLaws.{then-go, then-stop}
 use Rattle.vectors.specs.declared.vector.Vec3.{Vec3}
@@ -39,10 +39,10 @@ use Rattle.rows.specs.Motions.{motionsOf}
 use Rattle.rows.specs.Geometry.{endsOf, toleranceOf, distanceRow, linearRow, rowIf, axesOf, linearRows, relativeOf, swingX, swingY, gradientRow}
 use Rattle.rows.specs.Geometry.{swingLocked, swingRow, twistLocked, twistRow, coneRows, alignedOf, alignRow, alignRows, turningRows, finiteValues}
 use Rattle.rows.specs.Geometry.{frameRows, motionRows, writeEqualityRows, rowCount}
-use Rattle.rows.specs.View.{rowsAt, Out, Kept}
+use Rattle.rows.specs.View.{rowsAt, Out, Kept, Filled}
 use Rattle.rows.specs.Answer.{refusalNumber, writtenAs, Writes}
 use Rattle.rows.specs.AnswerLaws.{written-number}
-use Rattle.rows.specs.Append.{rowAs, countOf, spanOf, Appends, Adds, Follows, Cleared, followedBy}
+use Rattle.rows.specs.Append.{rowAs, countOf, spanOf, Appends, Adds, Follows, followedBy}
 use Rattle.rows.specs.Region.{kept-refl, kept-then, kept-more, tab-length}
 use Rattle.rows.proofs.UnitLaws.{no-turn}
 use Rattle.rows.proofs.CountLaws.{rows-sized}
@@ -386,7 +386,8 @@ unfolding writeEqualityRows
 kind-lost joint a b s h = record { kept = kept-refl _ s; within = omega arith; is = then-stop _ h }
 
 -- a failed write, cleared
-module _ (joint : Joint) (a b : MomentumBody) {i : ℕ} {s t u : List Float} {r : Written} (p : AddsAll joint a b i s t r) (z : Cleared i 84 t u) where
+module _ (joint : Joint) (a b : MomentumBody) {i : ℕ} {s t u : List Float} {r : Written} (p : AddsAll joint a b i s t r)
+    (z : Filled i 84 (λ _. ratio 0 1) t u) where
   abbrev in-list : List Float → Written → Rows
   in-list l w = writtenAs w l i (joint .«body_a») (joint .«body_b»)
 
@@ -398,7 +399,7 @@ module _ (joint : Joint) (a b : MomentumBody) {i : ℕ} {s t u : List Float} {r 
     is = x ∙ sym v ∙ sym (ap (in-list t) h) ∙ p .is;
     numbered = written-number w t i (joint .«body_a») (joint .«body_b») ∙ ap refusalNumber (sym (ap (in-list t) h) ∙ p .is);
     behind = λ m e. absurd (n m e);
-    cleared = λ g e. z .zero;
+    cleared = λ g e. z .there;
   }
 
   pub writes-nonconvergent : r ≡ Written.NonConvergent → Writes joint a b i s u Written.NonConvergent

@@ -1,11 +1,10 @@
 -- What the functions that make rows and write them one behind the other promise of each other.
 -- Only contracts of private functions cite this file.
-use Prim.Native.Nat.{ℕ, _+_, _*_, _≤_, _<_}
+use Prim.Native.Nat.{ℕ, _+_, _*_, _≤_}
 use mathlib.Core.Path.{_≡_}
 use mathlib.Core.List.{List, [], _∷_, _++_}
 use lib.Ieee.{Float}
 use lib.ListN.{length}
-use Rattle.arith.specs.Real.{ratio}
 use Rattle.arith.specs.Flow.{go, stop, _>>=_}
 use Rattle.vectors.specs.declared.vector.Vec3.{Vec3}
 use Rattle.rows.specs.declared.geometry.Joint.{Joint}
@@ -108,11 +107,6 @@ pub record Adds (a b i most : ℕ) (s t : List Float) (r : Written) (defined : R
   pub kept : Kept (λ k. Out i (spanOf r) k) s t
   pub within : countOf r ≤ most
   pub is : writtenAs r t i a b ≡ defined
-
--- the n doubles at i are 0 in t, and nothing else differs from s
-pub record Cleared (i n : ℕ) (s t : List Float) : Type 0 where
-  pub kept : Kept (λ k. Out i n k) s t
-  pub zero : (k : ℕ) → k < n → at t (i + k) ≡ ratio 0 1
 
 -- what was written before, and more rows behind it
 abbrev pub followedBy : Result (List EqualityRow) → Result (List EqualityRow) → Result (List EqualityRow)

@@ -10,6 +10,7 @@ use lib.Ieee.{Float, nan}
 use lib.ListN.{length, getD, set, length-set, length-append, List·getD-append}
 use lib.Seq.{ext-getD, getD-set-same, getD-set-other, getD-at}
 use Rattle.arith.specs.Flow.{tab}
+use Rattle.vectors.specs.declared.vector.Vec3.{Vec3}
 use Rattle.rows.specs.declared.geometry.Kind.{Kind}
 use Rattle.rows.specs.declared.geometry.Linear.{Linear}
 use Rattle.rows.specs.declared.geometry.Linear.the-variants.{Point, Line, Plane}
@@ -19,7 +20,7 @@ use Rattle.rows.specs.declared.geometry.Motions.{Motions}
 use Rattle.rows.specs.declared.geometry.Motions.the-variants.{Rod, Frame}
 use Rattle.rows.specs.Motions.{motionsOf}
 use Rattle.rows.specs.Geometry.{swingLocked, twistLocked, oneIf, linearCount, turningCount, motionCount, rowCount}
-use Rattle.rows.specs.View.{at, vec3At, rowAt, rowsAt, Out, Kept}
+use Rattle.rows.specs.View.{at, vec3At, rowAt, rowsAt, Out, Kept, Filled}
 
 module _ {A : Type 0} where
   pub tab-length : (n : ℕ) (f : ℕ → A) → length (tab n f) ≡ n
@@ -103,6 +104,47 @@ module _ {P : ℕ → Type 0} {s t : List Float} (kept : Kept P s t) where
 
   pub kept-rows : (i a b n : ℕ) → Over P i (14 * n) → rowsAt t i a b n ≡ rowsAt s i a b n
   kept-rows i a b n w = tab-ext n λ k h. kept-row (i + 14 * k) a b (λ m p q. w m (omega arith) (omega arith))
+
+-- Three doubles, one after the other.
+pub stored3 : (s : List Float) (i : ℕ) (v : Vec3) → i + 3 ≤ length s
+    → (Kept (λ k. Out i 3 k) s (set (set (set s i (v .x)) (i + 1) (v .y)) (i + 2) (v .z)))
+    × (vec3At (set (set (set s i (v .x)) (i + 1) (v .y)) (i + 2) (v .z)) i ≡ v)
+stored3 s i v h =
+    let s₁ = set s i (v .x) in
+    let s₂ = set s₁ (i + 1) (v .y) in
+    let k₁ = kept-set s i (v .x) in
+    let k₂ = kept-set s₁ (i + 1) (v .y) in
+    let k₃ = kept-set s₂ (i + 2) (v .z) in
+    let l₁ : length s₁ ≡ length s = k₁ .size in
+    let l₂ : length s₂ ≡ length s₁ = k₂ .size in (
+      kept-then (kept-then (kept-more k₁ (λ j p. omega arith)) k₂ (λ j p. omega arith)) k₃ (λ j p. omega arith),
+      λ j. record {
+        x = (k₃ .same i (omega arith) ∙ k₂ .same i (omega arith) ∙ getD-set-same s i (v .x) nan (omega arith)) j;
+        y = (k₃ .same (i + 1) (omega arith) ∙ getD-set-same s₁ (i + 1) (v .y) nan (omega arith)) j;
+        z = getD-set-same s₂ (i + 2) (v .z) nan (omega arith) j;
+      },
+    )
+
+-- A loop that fills: none yet, one more, all.
+pub filled-none : (off : ℕ) (f : ℕ → Float) (s : List Float) → Filled off 0 f s s
+filled-none off f s = record { kept = kept-refl _ s; there = λ k h. absurd (omega arith) }
+
+pub filled-more : {off k : ℕ} {f : ℕ → Float} {s t : List Float} {v : Float} → Filled off k f s t → off + k < length t → v ≡ f k
+    → Filled off (k + 1) f s (set t (off + k) v)
+filled-more {off} {k} {f} {s} {t} {v} fill h e = record {
+  kept = kept-then (kept-more (fill .kept) (λ i p. omega arith)) (kept-set t (off + k) v) (λ i p. omega arith);
+  there = λ j q. step j q (ℕ-discrete j k);
+}
+  where
+    step : (j : ℕ) → j < k + 1 → Dec (j ≡ k) → at (set t (off + k) v) (off + j) ≡ f j
+    step j q (yes r) = rw r (getD-set-same t (off + k) v nan h ∙ e)
+    step j q (no r) = kept-set t (off + k) v .same (off + j) (omega arith) ∙ fill .there j (omega arith)
+
+pub filled-all : {off n k : ℕ} {f : ℕ → Float} {s t : List Float} → k ≤ n → n ≤ k → Filled off k f s t → Filled off n f s t
+filled-all {off} {n} {k} {f} {s} {t} a b e = record {
+  kept = kept-more (e .kept) (λ i p. omega arith);
+  there = λ j h. e .there j (omega arith);
+}
 
 -- ---- no joint has more than six rows
 pub one-most : (b : Bool) → oneIf b ≤ 1

@@ -20,6 +20,7 @@ ghost use mathlib.Core.Bool.{true};
 ghost use Prim.Native.Nat.{ℕ, _+_, _*_, _≤_};
 ghost use lib.ListN.{length};
 ghost use lib.Ieee as Ieee;
+ghost use Rattle.arith.specs.Real.{ratio};
 ghost use Rattle.arith.specs.Flow.{go};
 ghost use Rattle.rows.specs.Fault.{arithmeticOverflow, numberOr};
 ghost use Rattle.rows.specs.Motions.{motionsOf};
@@ -27,10 +28,10 @@ ghost use Rattle.rows.specs.Geometry.{turning, endsOf, toleranceOf, dist
 ghost use Rattle.rows.specs.Geometry.{anyLocked, halfTurned, relativeOf, swingX, swingY, localOf, gradientRow, swingLocked, swingRow};
 ghost use Rattle.rows.specs.Geometry.{twistLocked, twistRow, coneRows, alignedOf, alignRow, alignRows, turningRows, finiteValues};
 ghost use Rattle.rows.specs.Geometry.{frameRows, writeEqualityRows, oneIf, linearCount, turningCount, rowCount};
-ghost use Rattle.rows.specs.View.{vec3At, rowAt, rowsAt, Out, Kept};
+ghost use Rattle.rows.specs.View.{vec3At, rowAt, rowsAt, Out, Kept, Filled};
 ghost use Rattle.rows.specs.Answer.{Writes};
 ghost use Rattle.rows.specs.Unit.{UnitOf};
-ghost use Rattle.rows.specs.Append.{endsAs, axisAs, relativeAs, rowAs, Stored2, countOf, Room, Appends, Adds, Follows, Cleared};
+ghost use Rattle.rows.specs.Append.{endsAs, axisAs, relativeAs, rowAs, Stored2, countOf, Room, Appends, Adds, Follows};
 
 // The doubles of a row.
 pub const ROW: usize = 14;
@@ -172,7 +173,7 @@ enum AxisAnswer {
     ArithmeticOverflow,
 }
 
-fn load3(s: &[f64], at: usize) -> Vec3
+pub fn load3(s: &[f64], at: usize) -> Vec3
     requires { ⌜ at + 3 ≤ length (now s) ⌝ }
     ensures { λ r. ⌜ r ≡ vec3At (now (s .entry)) at ⌝ }
 {
@@ -183,7 +184,7 @@ fn load3(s: &[f64], at: usize) -> Vec3
     }
 }
 
-fn store3(s: &mut [f64], at: usize, v: Vec3)
+pub fn store3(s: &mut [f64], at: usize, v: Vec3)
     requires { ⌜ at + 3 ≤ length (now s) ⌝ }
     ensures { λ _. ⌜ (Kept (λ k. Out at 3 k) (now (s .entry)) (now (s .exit))) × (vec3At (now (s .exit)) at ≡ v) ⌝ }
 {
@@ -745,11 +746,11 @@ fn write_kind(s: &mut [f64], at: usize, joint: Joint, a: MomentumBody, b: Moment
     }
 }
 
-fn clear(s: &mut [f64], at: usize)
-    requires { ⌜ at + 84 ≤ length (now s) ⌝ }
-    ensures { λ _. ⌜ Cleared at 84 (now (s .entry)) (now (s .exit)) ⌝ }
+pub fn clear(s: &mut [f64], at: usize, size: usize)
+    requires { ⌜ at + size ≤ length (now s) ⌝ }
+    ensures { λ _. ⌜ Filled at size (λ _. ratio 0 1) (now (s .entry)) (now (s .exit)) ⌝ }
 {
-    for k in 0..SPACE {
+    for k in 0..size {
         s[at + k] = 0.0;
     }
 }
@@ -769,11 +770,11 @@ pub fn write_equality_rows(
     match write_kind(s, at, joint, a, b) {
         Written::Rows(n) => Written::Rows(n),
         Written::NonConvergent => {
-            clear(s, at);
+            clear(s, at, SPACE);
             Written::NonConvergent
         }
         Written::ArithmeticOverflow => {
-            clear(s, at);
+            clear(s, at, SPACE);
             Written::ArithmeticOverflow
         }
     }

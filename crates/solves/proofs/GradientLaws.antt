@@ -1,5 +1,5 @@
 -- The conjugate gradients: the test of a residual, the diagonal, and a pass in its two halves; then what stands before the loop.
-use Prim.Native.Nat.{ℕ, _+_, _*_, _≤_, _<_, _^_}
+use Prim.Native.Nat.{ℕ, _+_, _≤_, _<_, _^_}
 use mathlib.Core.Path.{_≡_, refl, sym, _∙_, ap}
 use mathlib.Core.Bool.{Bool, true, false, not, _||_}
 use mathlib.Core.List.{List, [], _∷_, _++_}
@@ -31,7 +31,7 @@ use Rattle.solves.specs.Region.{vecAt, Filled, Does}
 use Rattle.solves.specs.RegionLaws.{vec-at, vec-in, kept-vec, vec-more, filled-vec, filled-more}
 use Rattle.solves.specs.Solver.{rowIn, massIn, dot, operator, plus, minus, difference, within, toleranceFor, Search, diagonalOf, Prepared}
 use Rattle.solves.specs.Solver.{prepareRow, prepare, Tested, trueResidual, scaledSquare, nextDirection, advance}
-use Rattle.solves.specs.Search.{settle, gradientPass, gradients}
+use Rattle.solves.specs.Search.{gradientMost, settle, gradientPass, gradients}
 use Rattle.solves.specs.Answer.{ranAs, testAs, trueAs}
 use Rattle.solves.specs.View.{rowOn, rowsOn, massAt, massesAt, systemOn, searchAt, preparedAt, Rows, Beside, Moves, Passing, Preparing, Testing, Work}
 use Rattle.solves.specs.View.{VECTOR, ROWS-MOST, MASSES, RHS, SOLUTION, RESIDUAL, DIRECTION, PRODUCT, DIAGONAL}
@@ -476,12 +476,12 @@ module _ {s : List Float} {ia ib : List ℕ} (table : Table) (pre : Rows s ia ib
 
       pub gradients-whole : {t : List Float} {y : Counting (List Float)}
           → Does Work s₁ t y
-          (upTo (2 * n₅ + 32) nonConvergent (gradientPass (systemOn ia ib s₁ table) (vecAt s₁ RHS n₅) (vecAt s₁ DIAGONAL n₅) tolerance) (searchAt s₁ n₅ rho))
+          (upTo (gradientMost n₅) nonConvergent (gradientPass (systemOn ia ib s₁ table) (vecAt s₁ RHS n₅) (vecAt s₁ DIAGONAL n₅) tolerance) (searchAt s₁ n₅ rho))
           → Does Work s t y Gradients
       unfolding gradients
       gradients-whole {t} {y} d = record {
         kept = kept-then kk (d .kept) (λ i q. q);
         is = d .is
-            ∙ (λ j. upTo (2 * len j + 32) nonConvergent (gradientPass (work-system table pre kk j) (rhs₁ j) (vecAt s₁ DIAGONAL n₅) tolerance) (begun j))
+            ∙ (λ j. upTo (gradientMost (len j)) nonConvergent (gradientPass (work-system table pre kk j) (rhs₁ j) (vecAt s₁ DIAGONAL n₅) tolerance) (begun j))
             ∙ try-go _ (e ∙ ap (toleranceFor (ratio 1 (10 ^ 12))) rhs₁) ∙ try-go _ (d₁ .is);
       }

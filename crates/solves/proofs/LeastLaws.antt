@@ -1,5 +1,5 @@
 -- least_squares: a pass is five writes, with the views between them; then what stands before the loop.
-use Prim.Native.Nat.{ℕ, _+_, _*_, _^_}
+use Prim.Native.Nat.{ℕ, _^_}
 use mathlib.Core.Path.{_≡_, refl, sym, _∙_, ap}
 use mathlib.Core.Bool.{true, false}
 use mathlib.Core.List.{List}
@@ -20,7 +20,7 @@ use Rattle.solves.specs.System.{System, Counting}
 use Rattle.solves.specs.Region.{vecAt, Does}
 use Rattle.solves.specs.RegionLaws.{kept-vec}
 use Rattle.solves.specs.Solver.{dot, operator, plus, minus, toleranceFor, Search}
-use Rattle.solves.specs.Search.{leastPass, leastSquares}
+use Rattle.solves.specs.Search.{leastMost, leastPass, leastSquares}
 use Rattle.solves.specs.View.{rowOn, systemOn, searchAt, Rows, Beside, Moves, Passing, Work, RHS, SOLUTION, RESIDUAL, DIRECTION, PRODUCT, NORMAL}
 use Rattle.solves.specs.ViewLaws.{passing-vector, passing-moves, passing-normal}
 use Rattle.solves.proofs.SearchLaws.{passing-system, work-system}
@@ -181,10 +181,10 @@ module _ {s : List Float} {ia ib : List ℕ} (table : Table) (pre : Rows s ia ib
         len = sym (tab-length m (rowOn ia ib s (table .place)))
 
         pub least-whole : {t : List Float} {y : Counting (List Float)}
-            → Does Work s₂ t y (upTo (4 * m + 64) nonConvergent (leastPass (systemOn ia ib s₂ table) tolerance) (searchAt s₂ m norm)) → Does Work s t y Least
+            → Does Work s₂ t y (upTo (leastMost m) nonConvergent (leastPass (systemOn ia ib s₂ table) tolerance) (searchAt s₂ m norm)) → Does Work s t y Least
         unfolding leastSquares
         least-whole {t} {y} d = record {
           kept = kept-then k₂ (d .kept) (λ i q. q);
-          is = d .is ∙ (λ j. upTo (4 * len j + 64) nonConvergent (leastPass (work-system table pre k₂ j) tolerance) (begun j))
+          is = d .is ∙ (λ j. upTo (leastMost (len j)) nonConvergent (leastPass (work-system table pre k₂ j) tolerance) (begun j))
               ∙ try-go _ (e₂ ∙ rhs₁) ∙ try-go _ e₁ ∙ try-go _ (d₁ .is);
         }

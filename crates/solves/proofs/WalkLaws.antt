@@ -431,7 +431,12 @@ length-is : (order : Order) → length (orderOf order) ≡ order .count
 length-is order = tab-length (order .count) (λ k. getD (order .rows) k 0)
 
 pub no-path-is : {r : PathOrder} {n : ℕ} {d : Turn (List ℕ) (Unit {0})} → r ≡ noPath → stop tt ≡ d → Ordered n r d
-no-path-is {r} {n} h e = record { is = ap (λ (x : PathOrder). orderAs x n) h ∙ e; along = λ f. absurd (not-found f); blank = λ f. absurd (not-found f); none = λ _. h }
+no-path-is {r} {n} h e = record {
+  is = ap (λ (x : PathOrder). orderAs x n) h ∙ e;
+  along = λ f. absurd (not-found f);
+  blank = λ f. absurd (not-found f);
+  none = λ _. h;
+}
   where
     not-found : r .found ≡ true → ⊥
     not-found f = false-true (sym (ap (λ (x : PathOrder). x .found) h) ∙ f)

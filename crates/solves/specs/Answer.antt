@@ -1,5 +1,5 @@
 -- The code's answers as the definitions' results.
-use Prim.Native.Nat.{ℕ, _+_, _*_}
+use Prim.Native.Nat.{ℕ}
 use mathlib.Core.Bool.{Bool, true, false, cond}
 use mathlib.Core.List.{List}
 use lib.Ieee.{Float}
@@ -28,7 +28,7 @@ use Rattle.solves.specs.declared.path.PathOrder.{PathOrder}
 use Rattle.solves.specs.System.{System, Counting}
 use Rattle.solves.specs.Solver.{Search, Prepared, Tested}
 use Rattle.solves.specs.Path.{Seen}
-use Rattle.solves.specs.Search.{leastPass, gradientPass}
+use Rattle.solves.specs.Search.{leastMost, gradientMost, leastPass, gradientPass}
 use Rattle.solves.specs.Lent.{Lent, came, left}
 use Rattle.solves.specs.Region.{vecAt, Does}
 use Rattle.solves.specs.View.{searchAt, preparedAt, listAt, rowsOn, sharesIn, systemIn, Shares, Work, SOLUTION}
@@ -73,8 +73,8 @@ passOf Whichs.LeastSquares system rhs diagonal tolerance = leastPass system tole
 passOf Whichs.Gradients system rhs diagonal tolerance = gradientPass system rhs diagonal tolerance
 
 abbrev pub limitOf : Which → ℕ → ℕ
-limitOf Whichs.LeastSquares n = 4 * n + 64
-limitOf Whichs.Gradients n = 2 * n + 32
+limitOf Whichs.LeastSquares n = leastMost n
+limitOf Whichs.Gradients n = gradientMost n
 
 -- ---- solves
 abbrev pub endedWith : End → ℕ → Ended

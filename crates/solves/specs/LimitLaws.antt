@@ -1,5 +1,5 @@
--- The most passes that a linear solve counts, link by link of its definition: 4 n + 64 for any, less where the solve is known.
-use Prim.Native.Nat.{ℕ, _+_, _*_, _≤_}
+-- The most passes that a linear solve counts, link by link of its definition: those of least squares for any, less where the solve is known.
+use Prim.Native.Nat.{ℕ, _≤_}
 use mathlib.Core.Bool.{Bool}
 use mathlib.Core.List.{List}
 use native.Mathlib.Omega.{arith}
@@ -8,14 +8,14 @@ use Rattle.arith.specs.UpToLaws.{AtMost, most-try, most-none, most-tick, most-i
 use Rattle.solves.specs.System.{System, rowsIn, sideOf, Counting}
 use Rattle.solves.specs.Solver.{Search}
 use Rattle.solves.specs.Path.{Factor, Refined}
-use Rattle.solves.specs.Search.{leastPass, leastSquares, settle, gradientPass, gradients, refinement, pathAlong}
+use Rattle.solves.specs.Search.{leastMost, gradientMost, leastPass, leastSquares, settle, gradientPass, gradients, refinement, pathAlong}
 use Rattle.solves.specs.Search.{Choice, byLeastSquares, byPath, byGradients, choose, solveBy, linearSolve}
 
 -- the limit of a solve over n rows
 abbrev pub limitBy : Choice → ℕ → ℕ
-limitBy byLeastSquares n = 4 * n + 64
+limitBy byLeastSquares n = leastMost n
 limitBy (byPath order) n = 4
-limitBy byGradients n = 2 * n + 32
+limitBy byGradients n = gradientMost n
 
 -- ---- one pass counts one
 module _ (system : System) (rhs : List Float) (tolerance : Float) where
@@ -46,21 +46,21 @@ module _ (system : System) (rhs : List Float) where
   unfolding solveBy leastSquares pathAlong gradients
   solve-most byLeastSquares solution =
       most-try _ _ λ normal. most-try _ _ λ norm. most-try _ _ λ tolerance.
-      less (most-loop (leastPass system tolerance) (least-one system rhs tolerance) (4 * rowsIn system + 64) _ _) (omega arith)
+      less (most-loop (leastPass system tolerance) (least-one system rhs tolerance) (leastMost (rowsIn system)) _ _) (omega arith)
   solve-most (byPath order) solution =
       most-try _ _ λ factor. most-try _ _ λ tolerance.
       less (most-loop (refinement system rhs order factor tolerance) (refinement-one system rhs tolerance order factor) 4 _ _) (omega arith)
   solve-most byGradients solution =
       most-try _ _ λ p. most-try _ _ λ tolerance.
-      less (most-loop (gradientPass system rhs (p .diagonal) tolerance) (gradient-one system rhs tolerance (p .diagonal)) (2 * rowsIn system + 32) _ _)
+      less (most-loop (gradientPass system rhs (p .diagonal) tolerance) (gradient-one system rhs tolerance (p .diagonal)) (gradientMost (rowsIn system)) _ _)
       (omega arith)
 
-limit-most : (choice : Choice) (n : ℕ) → limitBy choice n ≤ 4 * n + 64
+limit-most : (choice : Choice) (n : ℕ) → limitBy choice n ≤ leastMost n
 limit-most byLeastSquares n = omega arith
 limit-most (byPath order) n = omega arith
 limit-most byGradients n = omega arith
 
-pub linear-most : (cyclic : Bool) (system : System) (rhs : List Float) → AtMost (4 * rowsIn system + 64) (linearSolve cyclic system rhs)
+pub linear-most : (cyclic : Bool) (system : System) (rhs : List Float) → AtMost (leastMost (rowsIn system)) (linearSolve cyclic system rhs)
 unfolding linearSolve
 linear-most cyclic system rhs =
     let choice : Choice = choose cyclic (sideOf (λ r. r .a) (system .rows)) (sideOf (λ r. r .b) (system .rows)) (rowsIn system) in

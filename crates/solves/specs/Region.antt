@@ -1,19 +1,15 @@
 -- Doubles of a slice as a list, and what a function does to a slice. Over rows' places (at, Out, Kept); for this crate and the step.
-use Prim.Native.Nat.{ℕ, _+_, _<_}
+use Prim.Native.Nat.{ℕ, _+_}
 use mathlib.Core.Path.{_≡_}
 use mathlib.Core.List.{List}
 use lib.Ieee.{Float}
 use Rattle.arith.specs.Flow.{tab}
-use Rattle.rows.specs.View.{at, Out, Kept}
+use Rattle.rows.specs.View.{at, Kept}
+pub use Rattle.rows.specs.View.{Filled}
 
 -- the n doubles at off
 abbrev pub vecAt : List Float → ℕ → ℕ → List Float
 vecAt s off n = tab n (λ k. at s (off + k))
-
--- t is s with f 0, .. , f (n - 1) at off
-pub record Filled (off n : ℕ) (f : ℕ → Float) (s t : List Float) : Type 0 where
-  pub kept : Kept (λ i. Out off n i) s t
-  pub there : (k : ℕ) → k < n → at t (off + k) ≡ f k
 
 -- what a function does: it leaves t for s as P allows, and its answer x is what is defined
 pub record Does {A : Type 0} (P : ℕ → Type 0) (s t : List Float) (x defined : A) : Type 0 where

@@ -15,6 +15,13 @@ use Rattle.solves.specs.System.{System, rowsIn, sideOf, Counting}
 use Rattle.solves.specs.Solver.{operator, dot, plus, minus, within, toleranceFor, Search, prepare, trueResidual, scaledSquare, nextDirection, advance}
 use Rattle.solves.specs.Path.{Factor, Refined, pathOrder, pathFactored, refine}
 
+-- the most passes over n rows, of least squares and of the gradients
+abbrev pub leastMost : ℕ → ℕ
+leastMost n = 4 * n + 64
+
+abbrev pub gradientMost : ℕ → ℕ
+gradientMost n = 2 * n + 32
+
 -- ---- fn least_squares
 -- a pass is counted when it was gone through whole
 unfoldable pub leastPass : System → Float → Search → Counting (Turn Search (List Float))
@@ -39,7 +46,7 @@ leastSquares system rhs solution residual = do
   normal ← try (operator system residual)
   norm ← try (dot normal normal)
   tolerance ← try (toleranceFor (ratio 1 (10 ^ 14)) rhs)
-  upTo (4 * rowsIn system + 64) nonConvergent (leastPass system tolerance)
+  upTo (leastMost (rowsIn system)) nonConvergent (leastPass system tolerance)
       (record { solution = solution; residual = residual; direction = normal; rho = norm })
 
 -- ---- fn linear_solve: the diagonal-scaled conjugate gradients
@@ -68,7 +75,7 @@ unfoldable pub gradients : System → List Float → List Float → List Float �
 gradients system rhs solution residual = do
   p ← try (prepare system residual)
   tolerance ← try (toleranceFor (ratio 1 (10 ^ 12)) rhs)
-  upTo (2 * rowsIn system + 32) nonConvergent (gradientPass system rhs (p .diagonal) tolerance)
+  upTo (gradientMost (rowsIn system)) nonConvergent (gradientPass system rhs (p .diagonal) tolerance)
       (record { solution = solution; residual = residual; direction = p .direction; rho = p .rho })
 
 -- ---- fn path_solve, along an order of the rows

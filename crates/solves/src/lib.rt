@@ -8,7 +8,7 @@ mod path;
 pub mod places;
 mod search;
 pub mod solver;
-pub mod values;
+mod values;
 
 pub use rows::End;
 pub use rows::done;

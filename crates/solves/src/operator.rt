@@ -13,10 +13,10 @@ use crate::places::load_generalized;
 use crate::places::load_mass;
 use crate::places::load_row;
 use crate::places::store_generalized;
-use crate::values::clear;
 use arith::number::is_finite;
 use arith::root::sqrt;
 use rows::geometry::EqualityRow;
+use rows::geometry::clear;
 use vectors::vector::Vec3;
 ghost use mathlib.Core.Path.{_≡_};
 ghost use Prim.Native.Nat.{_+_, _≤_, _<_};
@@ -80,31 +80,31 @@ fn pushed(body: Generalized, linear: Vec3, angular: Vec3, value: f64) -> General
     }
 }
 
-fn push_into(s: &mut [f64], index: usize, linear: Vec3, angular: Vec3, value: f64, bodies: usize)
-    requires { ⌜ (END ≤ length (now s)) × (index < bodies) × (bodies ≤ BODIES-MOST) ⌝ }
-    ensures { λ _. ⌜
-        Does Shares (came s) (left s) (checked (sharesIn (left s) bodies))
-        (checkedThen (pushInto index linear angular value) (sharesIn (came s) bodies)) ⌝ }
+fn push_into(s: &mut [f64], index: usize, linear: Vec3, angular: Vec3, value: f64, body_count: usize)
+    requires { ⌜ (END ≤ length (now s)) × (index < «body_count») × («body_count» ≤ BODIES-MOST) ⌝ }
+    ensures { λ _. ⌜ Does Shares (came s) (left s) (checked (sharesIn (left s) «body_count»))
+        (checkedThen (pushInto index linear angular value) (sharesIn (came s) «body_count»)) ⌝ }
 {
     let body = load_generalized(s, GENERALIZED, index);
     let share = pushed(body, linear, angular, value);
     store_generalized(s, GENERALIZED, index, share);
 }
 
-fn push_row(s: &mut [f64], row: EqualityRow, value: f64, bodies: usize)
-    requires { ⌜ (END ≤ length (now s)) × (row .a < bodies) × (row .b < bodies) × (bodies ≤ BODIES-MOST) ⌝ }
-    ensures { λ _. ⌜ Does Shares (came s) (left s) (checked (sharesIn (left s) bodies)) (checkedThen (pushRow row value) (sharesIn (came s) bodies)) ⌝ }
+fn push_row(s: &mut [f64], row: EqualityRow, value: f64, body_count: usize)
+    requires { ⌜ (END ≤ length (now s)) × (row .a < «body_count») × (row .b < «body_count») × («body_count» ≤ BODIES-MOST) ⌝ }
+    ensures { λ _. ⌜ Does Shares (came s) (left s) (checked (sharesIn (left s) «body_count»))
+        (checkedThen (pushRow row value) (sharesIn (came s) «body_count»)) ⌝ }
 {
-    push_into(s, row.a, row.linear_a, row.angular_a, value, bodies);
-    push_into(s, row.b, row.linear_b, row.angular_b, value, bodies);
+    push_into(s, row.a, row.linear_a, row.angular_a, value, body_count);
+    push_into(s, row.b, row.linear_b, row.angular_b, value, body_count);
 }
 
 // Whether every body's share is finite.
-fn shares_finite(s: &[f64], bodies: usize) -> bool
-    requires { ⌜ (END ≤ length (now s)) × (bodies ≤ BODIES-MOST) ⌝ }
-    ensures { λ r. ⌜ r ≡ allFinite (sharesIn (came s) bodies) ⌝ }
+fn shares_finite(s: &[f64], body_count: usize) -> bool
+    requires { ⌜ (END ≤ length (now s)) × («body_count» ≤ BODIES-MOST) ⌝ }
+    ensures { λ r. ⌜ r ≡ allFinite (sharesIn (came s) «body_count») ⌝ }
 {
-    for k in 0..bodies {
+    for k in 0..body_count {
         let share = load_generalized(s, GENERALIZED, k);
         if !share.linear.is_finite() {
             return false;
@@ -122,14 +122,14 @@ pub fn transpose(s: &mut [f64], ia: &[usize; 96], ib: &[usize; 96], t: Table, va
     ensures { λ r. ⌜ Pushes s ia ib t r (λ rows. transposeOf rows (vecAt (came s) values (t .rows)) (t .bodies)) ⌝ }
 {
     let n = t.rows;
-    let bodies = t.bodies;
-    clear(s, GENERALIZED, SHARE * bodies);
+    let body_count = t.bodies;
+    clear(s, GENERALIZED, SHARE * body_count);
     for k in 0..n {
         let row = load_row(s, ia, ib, t.place, k);
         let value = s[values + k];
-        push_row(s, row, value, bodies);
+        push_row(s, row, value, body_count);
     }
-    if shares_finite(s, bodies) {
+    if shares_finite(s, body_count) {
         return End::Done;
     }
     End::ArithmeticOverflow
@@ -152,12 +152,12 @@ fn scaled(value: Generalized, mass: MassResponse) -> Share
     Share::ArithmeticOverflow
 }
 
-fn scale_all(s: &mut [f64], bodies: usize) -> End
-    requires { ⌜ (END ≤ length (now s)) × (bodies ≤ BODIES-MOST) ⌝ }
-    ensures { λ r. ⌜ Does Shares (came s) (left s) (ranAs r (sharesIn (left s) bodies))
-        (scaleAll (sharesIn (came s) bodies) (massesAt (came s) MASSES bodies) bodies) ⌝ }
+fn scale_all(s: &mut [f64], body_count: usize) -> End
+    requires { ⌜ (END ≤ length (now s)) × («body_count» ≤ BODIES-MOST) ⌝ }
+    ensures { λ r. ⌜ Does Shares (came s) (left s) (ranAs r (sharesIn (left s) «body_count»))
+        (scaleAll (sharesIn (came s) «body_count») (massesAt (came s) MASSES «body_count») «body_count») ⌝ }
 {
-    for k in 0..bodies {
+    for k in 0..body_count {
         let value = load_generalized(s, GENERALIZED, k);
         let mass = load_mass(s, MASSES, k);
         if let Share::Value(g) = scaled(value, mass) {
@@ -232,7 +232,7 @@ fn through(mass: MassResponse, al: Vec3, aa: Vec3, bl: Vec3, ba: Vec3) -> f64
 // One end of row a, on body `ai`, against one end of row b: nothing where that is on another body.
 fn add_through(
     s: &[f64],
-    bodies: usize,
+    body_count: usize,
     value: f64,
     ai: usize,
     al: Vec3,
@@ -241,8 +241,8 @@ fn add_through(
     bl: Vec3,
     ba: Vec3,
 ) -> f64
-    requires { ⌜ (END ≤ length (now s)) × (ai < bodies) × (bodies ≤ BODIES-MOST) ⌝ }
-    ensures { λ r. ⌜ r ≡ addThrough (massesAt (came s) MASSES bodies) ai al aa bi bl ba value ⌝ }
+    requires { ⌜ (END ≤ length (now s)) × (ai < «body_count») × («body_count» ≤ BODIES-MOST) ⌝ }
+    ensures { λ r. ⌜ r ≡ addThrough (massesAt (came s) MASSES «body_count») ai al aa bi bl ba value ⌝ }
 {
     if ai == bi {
         let mass = load_mass(s, MASSES, ai);
@@ -254,27 +254,27 @@ fn add_through(
 // One end of row a against both ends of row b.
 fn cross_end(
     s: &[f64],
-    bodies: usize,
+    body_count: usize,
     value: f64,
     ai: usize,
     al: Vec3,
     aa: Vec3,
     b: EqualityRow,
 ) -> f64
-    requires { ⌜ (END ≤ length (now s)) × (ai < bodies) × (bodies ≤ BODIES-MOST) ⌝ }
-    ensures { λ r. ⌜ r ≡ crossEnd (massesAt (came s) MASSES bodies) ai al aa b value ⌝ }
+    requires { ⌜ (END ≤ length (now s)) × (ai < «body_count») × («body_count» ≤ BODIES-MOST) ⌝ }
+    ensures { λ r. ⌜ r ≡ crossEnd (massesAt (came s) MASSES «body_count») ai al aa b value ⌝ }
 {
-    let half = add_through(s, bodies, value, ai, al, aa, b.a, b.linear_a, b.angular_a);
-    add_through(s, bodies, half, ai, al, aa, b.b, b.linear_b, b.angular_b)
+    let half = add_through(s, body_count, value, ai, al, aa, b.a, b.linear_a, b.angular_a);
+    add_through(s, body_count, half, ai, al, aa, b.b, b.linear_b, b.angular_b)
 }
 
 // The entry of the rows' Schur matrix.
-pub(crate) fn cross_mass(s: &[f64], a: EqualityRow, b: EqualityRow, bodies: usize) -> Sum
-    requires { ⌜ (END ≤ length (now s)) × (a .a < bodies) × (a .b < bodies) × (bodies ≤ BODIES-MOST) ⌝ }
-    ensures { λ r. ⌜ sumAs r ≡ crossMass a b (massesAt (came s) MASSES bodies) ⌝ }
+pub(crate) fn cross_mass(s: &[f64], a: EqualityRow, b: EqualityRow, body_count: usize) -> Sum
+    requires { ⌜ (END ≤ length (now s)) × (a .a < «body_count») × (a .b < «body_count») × («body_count» ≤ BODIES-MOST) ⌝ }
+    ensures { λ r. ⌜ sumAs r ≡ crossMass a b (massesAt (came s) MASSES «body_count») ⌝ }
 {
-    let half = cross_end(s, bodies, 0.0, a.a, a.linear_a, a.angular_a, b);
-    let value = cross_end(s, bodies, half, a.b, a.linear_b, a.angular_b, b);
+    let half = cross_end(s, body_count, 0.0, a.a, a.linear_a, a.angular_a, b);
+    let value = cross_end(s, body_count, half, a.b, a.linear_b, a.angular_b, b);
     if is_finite(value) {
         return Sum::Value(value);
     }

@@ -19,11 +19,11 @@ use crate::operator::cross_mass;
 use crate::operator::operator;
 use crate::operator::tolerance_for;
 use crate::places::load_row;
-use crate::values::clear;
 use crate::values::copy;
 use crate::values::difference;
 use arith::number::is_finite;
 use arith::root::sqrt;
+use rows::geometry::clear;
 ghost use mathlib.Core.Path.{_≡_};
 ghost use Prim.Native.Nat.{_+_, _-_, _≤_, _<_, min};
 ghost use lib.ListN.{length};
@@ -393,11 +393,11 @@ fn side_line(from: usize) -> Line
     }
 }
 
-fn place(line: Line, t: usize) -> usize
-    requires { ⌜ Stands line t ⌝ }
-    ensures { λ r. ⌜ r ≡ placeOf line t ⌝ }
+fn place(line: Line, k: usize) -> usize
+    requires { ⌜ Stands line k ⌝ }
+    ensures { λ r. ⌜ r ≡ placeOf line k ⌝ }
 {
-    line.first + line.on * t - line.back * t
+    line.first + line.on * k - line.back * k
 }
 
 // `start` less the products of two lines, one after the other: the three sums of the Rust.
@@ -406,8 +406,8 @@ fn less_products(s: &[f64], start: f64, a: Line, b: Line, terms: usize) -> f64
     ensures { λ r. ⌜ r ≡ lessProducts (lineAt (came s) a) (lineAt (came s) b) terms start ⌝ }
 {
     let mut value = start;
-    for t in 0..terms {
-        value = value - s[place(a, t)] * s[place(b, t)];
+    for k in 0..terms {
+        value = value - s[place(a, k)] * s[place(b, k)];
     }
     value
 }

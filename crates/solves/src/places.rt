@@ -3,12 +3,14 @@ use crate::layout::MASS;
 use crate::layout::SHARE;
 use rows::geometry::EqualityRow;
 use rows::geometry::ROW;
+use rows::geometry::load3;
+use rows::geometry::store3;
 use vectors::matrix::Mat3;
 use vectors::vector::Vec3;
 ghost use mathlib.Core.Path.{_≡_};
 ghost use Prim.Native.Nat.{_+_, _*_, _≤_, _<_};
 ghost use lib.ListN.{length};
-ghost use Rattle.rows.specs.View.{vec3At, Out, Kept};
+ghost use Rattle.rows.specs.View.{Out, Kept};
 ghost use Rattle.solves.specs.Lent.{came, left};
 ghost use Rattle.solves.specs.View.{rowOn, generalizedAt, massAt, massOf};
 
@@ -23,31 +25,11 @@ pub struct MassResponse {
     pub angular: Mat3,
 }
 
-pub fn load3(s: &[f64], i: usize) -> Vec3
-    requires { ⌜ i + 3 ≤ length (now s) ⌝ }
-    ensures { λ r. ⌜ r ≡ vec3At (came s) i ⌝ }
+pub fn load_row(s: &[f64], ia: &[usize; 96], ib: &[usize; 96], place: usize, k: usize) -> EqualityRow
+    requires { ⌜ (place + 14 * k + 14 ≤ length (now s)) × (k < 96) ⌝ }
+    ensures { λ r. ⌜ r ≡ rowOn (came ia) (came ib) (came s) place k ⌝ }
 {
-    Vec3 {
-        x: s[i],
-        y: s[i + 1],
-        z: s[i + 2],
-    }
-}
-
-pub fn store3(s: &mut [f64], i: usize, v: Vec3)
-    requires { ⌜ i + 3 ≤ length (now s) ⌝ }
-    ensures { λ _. ⌜ (Kept (λ j. Out i 3 j) (came s) (left s)) × (vec3At (left s) i ≡ v) ⌝ }
-{
-    s[i] = v.x;
-    s[i + 1] = v.y;
-    s[i + 2] = v.z;
-}
-
-pub fn load_row(s: &[f64], ia: &[usize; 96], ib: &[usize; 96], rows: usize, k: usize) -> EqualityRow
-    requires { ⌜ (rows + 14 * k + 14 ≤ length (now s)) × (k < 96) ⌝ }
-    ensures { λ r. ⌜ r ≡ rowOn (came ia) (came ib) (came s) rows k ⌝ }
-{
-    EqualityRow::load(s, rows + ROW * k, ia[k], ib[k])
+    EqualityRow::load(s, place + ROW * k, ia[k], ib[k])
 }
 
 pub fn load_generalized(s: &[f64], off: usize, k: usize) -> Generalized

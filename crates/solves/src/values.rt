@@ -1,20 +1,8 @@
 // Loops over whole vectors of the scratch.
-ghost use Prim.Native.Nat.{_+_, _≤_};
-ghost use lib.ListN.{length};
-ghost use Rattle.arith.specs.Real.{ratio};
 ghost use Rattle.solves.specs.Solver.{plus, minus, difference as differenceOf};
 ghost use Rattle.solves.specs.Lent.{came, left};
-ghost use Rattle.solves.specs.Region.{vecAt, Filled, Does};
+ghost use Rattle.solves.specs.Region.{vecAt, Does};
 ghost use Rattle.solves.specs.View.{Beside, Onto};
-
-pub fn clear(s: &mut [f64], off: usize, n: usize)
-    requires { ⌜ off + n ≤ length (now s) ⌝ }
-    ensures { λ _. ⌜ Filled off n (λ _. ratio 0 1) (came s) (left s) ⌝ }
-{
-    for k in 0..n {
-        s[off + k] = 0.0;
-    }
-}
 
 pub(crate) fn copy(s: &mut [f64], to: usize, from: usize, n: usize)
     requires { ⌜ Onto s n to from ⌝ }

@@ -1,5 +1,5 @@
 -- What the passes and the loops count at most, so that the code's sums do not wrap: link by link, from the limit of a linear solve.
-use Prim.Native.Nat.{ℕ, _+_, _*_, _≤_}
+use Prim.Native.Nat.{ℕ, _*_, _≤_}
 use mathlib.Core.Path.{_≡_, ap}
 use mathlib.Core.Bool.{Bool}
 use mathlib.Core.List.{List}
@@ -20,13 +20,14 @@ use Rattle.solves.specs.Region.{Does}
 use Rattle.solves.specs.View.{ROWS-MOST, ROWS, rowOn, rowsOn, systemOn}
 use Rattle.step.specs.RunView.{startedAt, foundAt, Sides}
 use Rattle.solves.specs.System.{System, rowsIn}
+use Rattle.solves.specs.Search.{leastMost}
 use Rattle.solves.specs.LimitLaws.{linear-most}
 use Rattle.step.specs.Bodies.{Job, Started, Found}
 use Rattle.step.specs.Step.{nonlinearPass, nonlinearLoop, velocityPass, velocityLoop, finishOf}
 
 -- the limit of a solve over n rows
 abbrev pub limit : ℕ → ℕ
-limit n = 4 * n + 64
+limit n = leastMost n
 
 -- and of one in the scratch
 abbrev pub LIMIT : ℕ

@@ -42,7 +42,7 @@ use solves::places::MassResponse;
 use solves::places::load_generalized;
 use solves::places::store_mass;
 use solves::solver::linear_solve;
-use solves::values::clear;
+use rows::geometry::clear;
 use vectors::matrix::inverse_spd;
 use vectors::vector::Vec3;
 ghost use mathlib.Core.Path.{_≡_};

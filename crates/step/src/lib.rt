@@ -15,7 +15,7 @@ use crate::layout::RECORD;
 use crate::layout::SCRATCH;
 use rows::geometry::Joint;
 use solves::End;
-use solves::values::clear;
+use rows::geometry::clear;
 ghost use mathlib.Core.Path.{_≡_};
 ghost use Prim.Native.Nat.{_%_, _≤_};
 ghost use lib.ListN.{length, replicate};

@@ -1,5 +1,5 @@
 -- `geometry::store3` meets its contract: three writes side by side.
-use Rattle.rows.proofs.PlaceLaws.{stored3}
+use Rattle.rows.specs.Region.{stored3}
 use borrow.Author.Needs.{needs}
 use lib.ListN.{length-set}
 use native.Mathlib.Omega.{arith}

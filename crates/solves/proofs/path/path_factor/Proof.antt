@@ -34,7 +34,8 @@ same-length : tie.Need-same-length Inv-loop μ-loop
 same-length c =
     let at-path-row = c .before .before .before .before in
     let at-loop = at-path-row .before .before .before in
-    at-path-row .path-row .ensures .kept .size ∙ at-loop .loop .inv .1 .kept .size ∙ at-loop .before .before .before .clear .ensures .kept .size
+    let at-clear = at-loop .before .before .before in
+    at-path-row .path-row .ensures .kept .size ∙ at-loop .loop .inv .1 .kept .size ∙ at-clear .clear .ensures .kept .size
 
 returns : tie.Need-returns Inv-loop μ-loop
 returns c =
@@ -64,7 +65,8 @@ loop-again c =
 same-length-2 : tie.Need-same-length-2 Inv-loop μ-loop
 same-length-2 c =
     let at-loop = c .before in
-    at-loop .loop .inv .1 .kept .size ∙ at-loop .before .before .before .clear .ensures .kept .size
+    let at-clear = at-loop .before .before .before in
+    at-loop .loop .inv .1 .kept .size ∙ at-clear .clear .ensures .kept .size
 
 returns-2 : tie.Need-returns-2 Inv-loop μ-loop
 returns-2 c =

@@ -8,6 +8,11 @@ use Rattle.solves.proofs.FactorLaws.{factored-unscaled, factored-on}
 use Rattle.solves.proofs.path.path_factored.Statement.{statement}
 use Rattle.solves.proofs.path.path_factored.Tie as tie
 
+same-length : tie.Need-same-length
+same-length c =
+    let at-path-scale = c .before .before .before .before in
+    at-path-scale .path-scale .ensures .kept .size
+
 returns : tie.Need-returns
 returns c =
     let at-done = c .before in
@@ -43,5 +48,5 @@ returns-2 c =
 pub path-factored-spec : {M : Type 1} → statement M
 path-factored-spec =
     tie.close (tie.spec
-    (λ c κs. c .before .before .pre) (λ c κs. search needs) (λ c. c .before .before .before .before .path-scale .ensures .kept .size) returns
+    (λ c κs. c .before .before .pre) (λ c κs. search needs) same-length returns
     path-factor-requires same-length-2 returns-2)

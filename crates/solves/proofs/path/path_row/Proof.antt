@@ -14,7 +14,8 @@ use Rattle.solves.proofs.path.path_row.Tie as tie
 abbrev Inv-loop : tie.InvT-loop
 Inv-loop s₀ ia ib t order i j₀ j-end s j =
     (i - 11 ≤ j) × (j ≤ i + 1)
-    × (BandSo (t .rows) (λ k band. bandOn ia ib order (t .place) (t .rows) (t .bodies) s₀ (λ r m o c. pathEntry r m o c i (i - 11 + k) band)) s₀ (j - (i - 11)) s)
+    × (BandSo (t .rows) (λ k band. bandOn ia ib order (t .place) (t .rows) (t .bodies) s₀ (λ r m o c. pathEntry r m o c i (i - 11 + k) band)) s₀
+    (j - (i - 11)) s)
 
 abbrev μ-loop : tie.MeasureT-loop
 μ-loop s₀ ia ib t order i j₀ j-end s j = i + 1 - j
@@ -33,12 +34,14 @@ path-entry-requires c κs =
     let at-loop-test = c .before in
     let at-loop = at-loop-test .before in
     let pre = at-loop .before .before .before .pre in
-    (rows-kept (pre .0) (at-loop .loop .inv .2 .kept .size), pre .1, pre .2, omega (arith, at-loop-test .loop-test .taken), omega (arith, at-loop .loop .inv .0))
+    let so = at-loop .loop .inv in
+    (rows-kept (pre .0) (so .2 .kept .size), pre .1, pre .2, omega (arith, at-loop-test .loop-test .taken), omega (arith, so .0))
 
 same-length : tie.Need-same-length Inv-loop μ-loop
 same-length c =
     let at-path-entry = c .before .before .before .before in
-    at-path-entry .path-entry .ensures .kept .size ∙ at-path-entry .before .before .before .loop .inv .2 .kept .size
+    let at-loop = at-path-entry .before .before .before in
+    at-path-entry .path-entry .ensures .kept .size ∙ at-loop .loop .inv .2 .kept .size
 
 returns : tie.Need-returns Inv-loop μ-loop
 returns c =

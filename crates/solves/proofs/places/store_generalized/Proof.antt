@@ -1,6 +1,5 @@
 -- store_generalized: two vectors side by side, each kept by the other's write.
 use borrow.Author.Needs.{needs}
-use lib.ListN.{length}
 use Rattle.solves.proofs.PlaceLaws.{stored-generalized}
 use Rattle.solves.proofs.places.store_generalized.Statement.{statement}
 use Rattle.solves.proofs.places.store_generalized.Tie as tie

@@ -6,7 +6,6 @@ use Prim.Native.Nat.{_*_, _≤_, _-_}
 use lib.ListN.{length}
 use denote.Ref.{now}
 use Rattle.step.specs.RunView.{impulsesAt, foundAt, jobFor, Trying}
-use Rattle.step.proofs.StepLaws.{rows-at}
 use Rattle.step.proofs.CountLaws.{LIMIT, nonlinear-few}
 use Rattle.step.proofs.PassLaws.{left-is, Looping, loop-none, loop-spent, loop-again as looped-again, loop-over}
 use Rattle.step.proofs.NonlinearLaws.{passFrom, same-pass, from-none}

@@ -7,7 +7,6 @@ use lib.ListN.{length}
 use denote.Ref.{now}
 use Rattle.step.specs.View.{candidatesAt}
 use Rattle.step.specs.RunView.{Correcting}
-use Rattle.step.proofs.StepLaws.{rows-at}
 use Rattle.step.proofs.CountLaws.{LIMIT, velocity-few}
 use Rattle.step.proofs.PassLaws.{ended-is, Looping, loop-none, loop-spent, loop-again as looped-again, loop-over}
 use Rattle.step.proofs.VelocityLaws.{passOver, same-pass, rests}
