@@ -9,8 +9,8 @@ use lib.Ieee.{Float, nan}
 use Rattle.arith.specs.Real.{ratio}
 use Rattle.arith.specs.Flow.{Turn, go, stop, tab}
 use Rattle.arith.specs.FlowLaws.{not-no}
-use Rattle.arith.specs.Run.{ran, over, upTo}
-use Rattle.arith.specs.RunLaws.{try-go, try-stop, leave-yes, leave-no}
+use Rattle.arith.specs.Run.{ran, upTo}
+use Rattle.arith.specs.RunLaws.{try-go, try-stop, leave-yes, leave-no, over}
 use Rattle.rows.specs.Fault.{nonConvergent, Result}
 use Rattle.rows.specs.View.{Kept}
 use Rattle.rows.specs.Region.{tab-length, is-tab, kept-then, kept-more}

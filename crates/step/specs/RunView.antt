@@ -13,7 +13,7 @@ use Rattle.rows.specs.declared.geometry.Joint.{Joint}
 use Rattle.rows.specs.declared.geometry.EqualityRow.{EqualityRow}
 use Rattle.rows.specs.Fault.{arithmeticOverflow, Result, vectorOr}
 use Rattle.rows.specs.Body.{omegaOf}
-use Rattle.rows.specs.Geometry.{rowCount}
+use Rattle.rows.specs.Count.{rowCount}
 use Rattle.rows.specs.View.{Out}
 use Rattle.solves.specs.declared.Table.{Table}
 use Rattle.solves.specs.declared.places.MassResponse.{MassResponse}
