@@ -10,7 +10,8 @@ use lib.Ieee.{Float, nan, inf, fin, binary64, ofBits, toBits, fits, isNan, le}
 use lib.Ieee.Bits.{ofBits-toBits}
 use Rattle.arith.specs.Real.{F}
 use Rattle.arith.specs.RealLaws.{no}
-use Rattle.arith.specs.Root.{sqrt, roundRoot, NearRoot}
+use Rattle.arith.specs.Root.{sqrt, roundRoot}
+use Rattle.arith.specs.Answered.{NearRoot}
 use Rattle.arith.specs.Laws.RootBits.{joined, sqrt-high}
 
 -- ---- the halves a and b of q

@@ -18,8 +18,9 @@ use Rattle.arith.specs.Real.{_⊕_, _⊖_, _⊗_, _⊘_, F, isFinite, ab
 use Rattle.arith.specs.Root.{sqrt}
 use Rattle.arith.specs.Hypot.{hypotOf, scaledRoot}
 use Rattle.arith.specs.Fault.{number, arithmeticOverflow}
-use Rattle.arith.specs.Angle.{PI, TAU, sineSum, cosineSum, halfTurn, doubled, turnOf, sinCosOf, sinCosNumber, SinCosAnswered}
-use Rattle.arith.specs.Angle.{halfTangent, arcSum, octant, quadrant, facing, angleOf, atan2Of, angleNumber, Atan2Answered, remTauOf}
+use Rattle.arith.specs.Angle.{PI, TAU, sineSum, cosineSum, halfTurn, doubled, turnOf, sinCosOf}
+use Rattle.arith.specs.Angle.{halfTangent, arcSum, octant, quadrant, facing, angleOf, atan2Of, remTauOf}
+use Rattle.arith.specs.Answered.{sinCosNumber, SinCosAnswered, angleNumber, Atan2Answered}
 use Rattle.arith.specs.declared.angle.Turn.{Turn}
 use Rattle.arith.specs.declared.angle.SinCos.{SinCos}
 use Rattle.arith.specs.declared.angle.SinCos.the-variants as Sines

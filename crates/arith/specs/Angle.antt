@@ -1,18 +1,8 @@
 -- Sine and cosine of an angle from 0 to 4, the arc tangent of a quotient and the remainder by a whole turn: SPECIFICATION §2.3 to §2.5.
+use Rattle.arith.specs.Words.{ℕ, zero, suc, _*_, cond, _&&_, List, [], _∷_, Float, binary64, neg, Turn, SinCos, Angle}
 use lib.Ieee as Ieee
-use lib.Ieee.{Float, binary64, neg}
-use mathlib.Core.Path.{_≡_}
-use mathlib.Core.Bool.{cond, _&&_}
-use mathlib.Core.List.{List, [], _∷_}
-use Prim.Native.Nat.{ℕ, zero, suc, _*_}
 use Rattle.arith.specs.Real.{_⊕_, _⊖_, _⊗_, _⊘_, F, ratio, isFinite, absOf}
 use Rattle.arith.specs.Root.{sqrt}
-use Rattle.arith.specs.Fault.{number, arithmeticOverflow}
-use Rattle.arith.specs.declared.angle.Turn.{Turn}
-use Rattle.arith.specs.declared.angle.SinCos.{SinCos}
-use Rattle.arith.specs.declared.angle.SinCos.the-variants as Sines
-use Rattle.arith.specs.declared.angle.Angle.{Angle}
-use Rattle.arith.specs.declared.angle.Angle.the-variants as Angles
 
 -- Rust's doubles: the nearest to 3.14159265358979323846264338327950288 and to 6.28318530717958647692528676655900577, Rust's literals (Laws.Constants)
 abbrev pub PI : Float
@@ -37,15 +27,13 @@ plus n = ratio 1 n
 abbrev pub minus : ℕ → Float
 minus n = neg (ratio 1 n)
 
--- ---- sine and cosine
--- x - x³/3! + .. + x¹³/13!: Horner in x², then times x
+-- ---- sine and cosine: x - x³/3! + .. + x¹³/13!, by Horner in x², then times x
 unfoldable pub sineSum : Float → Float
 sineSum x =
     horner (x ⊗ x) (plus (factorial 13))
     (minus (factorial 11) ∷ plus (factorial 9) ∷ minus (factorial 7) ∷ plus (factorial 5) ∷ minus (factorial 3) ∷ plus 1 ∷ []) ⊗ x
 
--- 1 - x²/2! + .. - x¹⁴/14!
-unfoldable pub cosineSum : Float → Float
+unfoldable pub cosineSum : Float → Float  -- 1 - x²/2! + .. - x¹⁴/14!
 cosineSum x =
     horner (x ⊗ x) (minus (factorial 14))
     (plus (factorial 12) ∷ minus (factorial 10) ∷ plus (factorial 8) ∷ minus (factorial 6) ∷ plus (factorial 4) ∷ minus (factorial 2) ∷ plus 1 ∷ [])
@@ -53,8 +41,7 @@ cosineSum x =
 unfoldable pub halfTurn : Float → Turn
 halfTurn x = record { s = sineSum x; c = cosineSum x }
 
--- s becomes (2 times s) times c, and c becomes 1 - (2 times s) times s, both from the old s and c
-unfoldable pub doubled : Turn → Turn
+unfoldable pub doubled : Turn → Turn  -- s becomes (2 times s) times c, and c becomes 1 - (2 times s) times s, both from the old s and c
 doubled t = record { s = ratio 2 1 ⊗ t .s ⊗ t .c; c = ratio 1 1 ⊖ ratio 2 1 ⊗ t .s ⊗ t .s }
 
 -- the angle x halved until it is at most 1/2, the sums there, doubled as often. k is the halvings allowed
@@ -64,64 +51,35 @@ turnOf (suc k) x = cond (Ieee.le x (ratio 1 2)) (halfTurn x) (doubled (turnOf k 
 
 -- below 0, above 4 or not a number: refused. An angle of at most 4 is at most 1/2 after three halvings
 unfoldable pub sinCosOf : Float → SinCos
-sinCosOf h = cond (Ieee.lt h (ratio 0 1)) Sines.Refused (cond (Ieee.le h (ratio 4 1)) (Sines.Value (turnOf 3 h)) Sines.Refused)
+sinCosOf h = cond (Ieee.lt h (ratio 0 1)) SinCos.Refused (cond (Ieee.le h (ratio 4 1)) (SinCos.Value (turnOf 3 h)) SinCos.Refused)
 
--- the number of an answer (SPECIFICATION §1.5): 0 for a value
-abbrev pub sinCosNumber : SinCos → ℕ
-sinCosNumber (Sines.Value t) = 0
-sinCosNumber Sines.Refused = number arithmeticOverflow
-
--- what `sin_cos` promises: its value, and that it is refused unless 0 ≤ h ≤ 4
-pub record SinCosAnswered (h : Float) (r : SinCos) : Type 0 where
-  pub is : r ≡ sinCosOf h
-  pub numbered : sinCosNumber r ≡ cond (Ieee.le (ratio 0 1) h && Ieee.le h (ratio 4 1)) 0 (number arithmeticOverflow)
-
--- ---- arc tangent
--- q becomes q / (1 + sqrt(1 + q times q))
+-- ---- arc tangent: q becomes q / (1 + sqrt(1 + q times q))
 unfoldable pub halfTangent : Float → Float
 halfTangent q = q ⊘ (ratio 1 1 ⊕ sqrt binary64 (ratio 1 1 ⊕ q ⊗ q))
 
--- q - q³/3 + .. - q²³/23: Horner in q², then times q
-unfoldable pub arcSum : Float → Float
+unfoldable pub arcSum : Float → Float  -- q - q³/3 + .. - q²³/23: Horner in q², then times q
 arcSum q =
     horner (q ⊗ q) (minus 23) (plus 21 ∷ minus 19 ∷ plus 17 ∷ minus 15 ∷ plus 13 ∷ minus 11 ∷ plus 9 ∷ minus 7 ∷ plus 5 ∷ minus 3 ∷ plus 1 ∷ []) ⊗ q
 
--- the angle whose tangent is q, at most 1
-unfoldable pub octant : Float → Float
+unfoldable pub octant : Float → Float  -- the angle whose tangent is q, at most 1
 octant q = arcSum (halfTangent (halfTangent q)) ⊗ ratio 4 1
 
--- the angle of the magnitudes: q is the smaller over the larger; PI/2 - v where |y| > |x|
-unfoldable pub quadrant : Float → Float → Float
+unfoldable pub quadrant : Float → Float → Float  -- the angle of the magnitudes: q is the smaller over the larger; PI/2 - v where |y| > |x|
 quadrant ay ax = cond (Ieee.lt ax ay) (PI ⊘ ratio 2 1 ⊖ octant (ax ⊘ ay)) (octant (ay ⊘ ax))
 
--- then PI - v where x < 0
-unfoldable pub facing : Float → Float → Float
+unfoldable pub facing : Float → Float → Float  -- then PI - v where x < 0
 facing v x = cond (Ieee.lt x (ratio 0 1)) (PI ⊖ v) v
 
--- then -v where y < 0
-unfoldable pub angleOf : Float → Float → Float
-angleOf y x =
-    let w = facing (quadrant (absOf y) (absOf x)) x in
-    cond (Ieee.lt y (ratio 0 1)) (neg w) w
+unfoldable pub angleOf : Float → Float → Float  -- then -v where y < 0
+angleOf y x = let w = facing (quadrant (absOf y) (absOf x)) x in cond (Ieee.lt y (ratio 0 1)) (neg w) w
 
 -- signs by comparison, so -0 counts as 0; both 0 gives +0; an argument that is not finite is refused
 unfoldable pub atan2Of : Float → Float → Angle
 atan2Of y x =
     cond (isFinite y && isFinite x)
-    (Angles.Value (cond (Ieee.eq x (ratio 0 1) && Ieee.eq y (ratio 0 1)) (ratio 0 1) (angleOf y x)))
-    Angles.Refused
-
-abbrev pub angleNumber : Angle → ℕ
-angleNumber (Angles.Value v) = 0
-angleNumber Angles.Refused = number arithmeticOverflow
-
--- what `atan2` promises: its value, and that it is refused unless both arguments are finite
-pub record Atan2Answered (y x : Float) (r : Angle) : Type 0 where
-  pub is : r ≡ atan2Of y x
-  pub numbered : angleNumber r ≡ cond (isFinite y && isFinite x) 0 (number arithmeticOverflow)
+    (Angle.Value (cond (Ieee.eq x (ratio 0 1) && Ieee.eq y (ratio 0 1)) (ratio 0 1) (angleOf y x)))
+    Angle.Refused
 
 -- ---- `rem_euclid` by TAU: the language's %, plus TAU where that is below 0
 unfoldable pub remTauOf : Float → Float
-remTauOf x =
-    let r = Ieee.rem binary64 x TAU in
-    cond (Ieee.lt r (ratio 0 1)) (r ⊕ TAU) r
+remTauOf x = let r = Ieee.rem binary64 x TAU in cond (Ieee.lt r (ratio 0 1)) (r ⊕ TAU) r

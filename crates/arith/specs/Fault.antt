@@ -1,9 +1,8 @@
 -- How a call of the solver fails, as far as the Rust's CollisionError occurs, with the number of each (SPECIFICATION §7.2).
-use Prim.Native.Nat.{ℕ}
+use Rattle.arith.specs.Words.{ℕ}
 
 pub data Fault : Type 0 where
-  nonConvergent : Fault
-  arithmeticOverflow : Fault
+  nonConvergent arithmeticOverflow : Fault
 
 abbrev pub number : Fault → ℕ
 number nonConvergent = 10

@@ -1,4 +1,6 @@
--- Definitions that a reader must believe: Real, Root, SquareRoot, Hypot, Fault, Angle, ExactSums, Flow and Run. The others are laws of them.
+-- Definitions that a reader must believe: Real, Root, SquareRoot, Hypot, Fault, Angle, ExactSums, Flow and Run. Words passes names on, Answered has
+-- what contracts say beside. The others are laws of them.
+pub mod Words
 pub mod Real
 pub mod Root
 pub mod SquareRoot
@@ -8,6 +10,7 @@ pub mod Angle
 pub mod ExactSums
 pub mod Flow
 pub mod Run
+pub mod Answered
 pub mod FlowLaws
 pub mod RunLaws
 pub mod UpToLaws

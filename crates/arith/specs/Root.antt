@@ -2,19 +2,13 @@
 -- fractions in `SquareRoot`, is proved (Laws/SquareRoot.antt `square-root`).
 -- `root n` is the largest r with r * r ≤ n (`root-is`). `sqrt f x` is the value of the format f that is nearest to the square root of x, a
 -- tie to the even one: NaN and what is below zero give `nan`, and ±0 and +infinity give themselves.
-use Prim.Native.Nat.{ℕ, zero, suc, _+_, _-_, _*_, _/_, _^_, _<_, _≤_, compare}
-use mathlib.Core.Bool.{false, cond}
-use lib.Dec.{leb}
+use Rattle.arith.specs.Words.{ℕ, zero, suc, _+_, _-_, _*_, _/_, _^_, compare, false, cond, leb}
 use lib.Ieee.{Float, nan, inf, fin, Format, prec, low, up, down, size, units, nearest}
 
--- r with its last binary digit raised where the square still is at most n
-abbrev pub raise : ℕ → ℕ → ℕ
-raise n r = cond (leb ((r + 1) * (r + 1)) n) (r + 1) r
-
--- The whole square root of an n of at most d digits to the base 4, digit by digit.
+-- The whole square root of an n of at most d digits to the base 4, digit by digit, each raised where the square still is at most n.
 unfoldable pub rootIn : ℕ → ℕ → ℕ
 rootIn zero n = 0
-rootIn (suc d) n = let r = 2 * rootIn d (n / 4) in raise n r
+rootIn (suc d) n = let r = 2 * rootIn d (n / 4) in cond (leb ((r + 1) * (r + 1)) n) (r + 1) r
 
 unfoldable pub root : ℕ → ℕ
 unfolding rootIn size
@@ -26,9 +20,7 @@ root n = rootIn (size n) n
 unfoldable pub roundRoot : Format → ℕ → Float
 unfolding root size units
 roundRoot f v =
-    let k = size (root v) - prec f in
-    let u = 2 ^ k * 2 ^ k in
-    let q = root (v / u) in
+    let k = size (root v) - prec f in let u = 2 ^ k * 2 ^ k in let q = root (v / u) in
     units f false (nearest q (compare (4 * v) ((2 * q + 1) * (2 * q + 1) * u))) k
 
 -- A value that fits is a whole number of the format's smallest value 1 / 2 ^ low, so the division is exact.
@@ -38,7 +30,3 @@ sqrt f nan = nan
 sqrt f (inf s) = cond s nan (inf false)
 sqrt f (fin s zero e) = fin s zero e
 sqrt f (fin s (suc m) e) = cond s nan (roundRoot f (suc m * up e * 2 ^ low f / down e * 2 ^ low f))
-
--- r is the whole number nearest to the square root of n: (2 * r - 1)² < 4 * n < (2 * r + 1)², in whole numbers. There is no tie.
-abbrev pub NearRoot : ℕ → ℕ → Type 0
-NearRoot n r = (r * r < n + r) × (n ≤ r * r + r)

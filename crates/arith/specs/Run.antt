@@ -2,8 +2,7 @@
 -- counted on the way.
 -- In a `do` block of a file that imports these `_>>=_` and `_>>_`, `x ← e` is `let x = e?` and the counts add up; a failure leaves with the
 -- counts as they stand.
-use Prim.Native.Nat.{ℕ, zero, suc, _+_}
-use mathlib.Core.Bool.{Bool, cond}
+use Rattle.arith.specs.Words.{ℕ, zero, suc, _+_, Bool, cond}
 use Rattle.arith.specs.Flow.{Turn, go, stop}
 
 pub record Run (A E : Type 0) : Type 0 where
@@ -11,16 +10,13 @@ pub record Run (A E : Type 0) : Type 0 where
   pub nonlinear : ℕ
   pub linear : ℕ
 
--- what ended as t, with so many passes of either kind
-abbrev pub ran : {A E : Type 0} → Turn A E → ℕ → ℕ → Run A E
+abbrev pub ran : {A E : Type 0} → Turn A E → ℕ → ℕ → Run A E  -- what ended as t, with so many passes of either kind
 ran t n l = record { ends = t; nonlinear = n; linear = l }
 
--- r, after so many passes of either kind
-abbrev pub after : {A E : Type 0} → ℕ → ℕ → Run A E → Run A E
+abbrev pub after : {A E : Type 0} → ℕ → ℕ → Run A E → Run A E  -- r, after so many passes of either kind
 after n l r = ran (r .ends) (n + r .nonlinear) (l + r .linear)
 
--- e?, of what counts nothing
-abbrev pub try : {A E : Type 0} → Turn A E → Run A E
+abbrev pub try : {A E : Type 0} → Turn A E → Run A E  -- e?, of what counts nothing
 try r = ran r 0 0
 
 abbrev pub ok : {A E : Type 0} → A → Run A E
@@ -40,16 +36,14 @@ abbrev pub onward : {A B E : Type 0} → (A → Run B E) → Turn A E → Run B 
 onward f (go a) = f a
 onward f (stop e) = fail e
 
-infixl 10 _>>=_
-infixl 10 _>>_
+infixl 10 _>>=_ _>>_
 unfoldable pub _>>=_ : {A B E : Type 0} → Run A E → (A → Run B E) → Run B E
 r >>= f = after (r .nonlinear) (r .linear) (onward f (r .ends))
 
 abbrev pub _>>_ : {A B E : Type 0} → Run A E → Run B E → Run B E
 r >> s = r >>= λ _. s
 
--- if test { return Err(e); }
-unfoldable pub failIf : {E : Type 0} → Bool → E → Run (Unit {0}) E
+unfoldable pub failIf : {E : Type 0} → Bool → E → Run (Unit {0}) E  -- if test { return Err(e); }
 failIf test e = cond test (fail e) (ok tt)
 
 -- how a pass ends: the next one starts from a, or the loop is left with b
@@ -59,20 +53,13 @@ again a = ok (go a)
 abbrev pub leave : {A B E : Type 0} → B → Run (Turn A B) E
 leave b = ok (stop b)
 
--- if test { leave with b; } rest
-unfoldable pub leaveIf : {A B E : Type 0} → Bool → B → Run (Turn A B) E → Run (Turn A B) E
+unfoldable pub leaveIf : {A B E : Type 0} → Bool → B → Run (Turn A B) E → Run (Turn A B) E  -- if test { leave with b; } rest
 leaveIf test b rest = cond test (leave b) rest
-
--- a pass after which the loop is over, as t says: left with b, or failed
-abbrev pub over : {A B E : Type 0} → Turn B E → Turn (Turn A B) E
-over (go b) = go (stop b)
-over (stop e) = stop e
 
 abbrev pub next : {A B E : Type 0} → (A → Run B E) → Turn A B → Run B E
 next f (go a) = f a
 next f (stop b) = ok b
 
--- for _ in 0..most { pass } Err(e)
-unfoldable pub upTo : {A B E : Type 0} → ℕ → E → (A → Run (Turn A B) E) → A → Run B E
+unfoldable pub upTo : {A B E : Type 0} → ℕ → E → (A → Run (Turn A B) E) → A → Run B E  -- for _ in 0..most { pass } Err(e)
 upTo zero e pass a = fail e
 upTo (suc k) e pass a = pass a >>= next (upTo k e pass)

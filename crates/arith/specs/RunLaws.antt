@@ -5,7 +5,12 @@ use mathlib.Core.Bool.{Bool, true, false}
 use native.Mathlib.Nat.{zero-add, add-assoc}
 use native.Mathlib.Omega.{arith}
 use Rattle.arith.specs.Flow.{Turn, go, stop}
-use Rattle.arith.specs.Run.{Run, ran, after, fail, try, onward, _>>=_, _>>_, tick, failIf, leave, leaveIf, over, next, upTo}
+use Rattle.arith.specs.Run.{Run, ran, after, fail, try, onward, _>>=_, _>>_, tick, failIf, leave, leaveIf, next, upTo}
+
+-- a pass after which the loop is over, as t says: left with b, or failed
+abbrev pub over : {A B E : Type 0} → Turn B E → Turn (Turn A B) E
+over (go b) = go (stop b)
+over (stop e) = stop e
 
 -- equal in its three parts
 pub run-is : {A E : Type 0} {t : Turn A E} {n m l k : ℕ} → n ≡ m → l ≡ k → ran t n l ≡ ran t m k

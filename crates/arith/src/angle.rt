@@ -4,8 +4,9 @@ use crate::number::is_finite;
 use crate::remainder::remainder_tau;
 use crate::root::sqrt;
 ghost use mathlib.Core.Path.{_≡_};
-ghost use Rattle.arith.specs.Angle.{sineSum, cosineSum, halfTurn, doubled, turnOf, SinCosAnswered};
-ghost use Rattle.arith.specs.Angle.{halfTangent, arcSum, octant, quadrant, facing, angleOf, Atan2Answered, remTauOf};
+ghost use Rattle.arith.specs.Angle.{sineSum, cosineSum, halfTurn, doubled, turnOf};
+ghost use Rattle.arith.specs.Angle.{halfTangent, arcSum, octant, quadrant, facing, angleOf, remTauOf};
+ghost use Rattle.arith.specs.Answered.{SinCosAnswered, Atan2Answered};
 
 pub const PI: f64 = 3.141592653589793;
 

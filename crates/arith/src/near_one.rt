@@ -6,7 +6,7 @@ ghost use mathlib.Core.Bool.{true};
 ghost use Prim.Native.Nat.{_*_, _^_, _<_};
 ghost use lib.Ieee.{binary64};
 ghost use Rattle.arith.specs.Root as Root;
-ghost use Rattle.arith.specs.Root.{NearRoot};
+ghost use Rattle.arith.specs.Answered.{NearRoot};
 
 // That q is the whole number nearest to the root of m * 2^52, where this says so. With q = a * 2^26 + b,
 // m * 2^52 - q * q = ((m - a * a) * 2^25 - a * b) * 2^27 - b * b, which must lie above -q and at most at q.

@@ -7,7 +7,7 @@ ghost use mathlib.Core.Path.{_≡_};
 ghost use Prim.Native.Nat.{_+_, _-_, _*_, _/_, _%_, _^_, _≤_, _<_};
 ghost use lib.Ieee.{binary64, ofBits};
 ghost use Rattle.arith.specs.Root as Root;
-ghost use Rattle.arith.specs.Root.{NearRoot};
+ghost use Rattle.arith.specs.Answered.{NearRoot};
 ghost use Rattle.arith.specs.SquareRoot.{Rooted};
 ghost use Rattle.arith.specs.Hypot.{hypotOf, scaledRoot};
 

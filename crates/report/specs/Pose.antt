@@ -6,7 +6,7 @@ use mathlib.Core.Bool.{cond}
 use lib.Dec.{leb, eqb}
 use lib.ListN.{length, take, replicate}
 use lib.Ieee.{Float, binary64, ofBits}
-use Rattle.step.specs.Layout.{RECORD, SCRATCH}
+use Rattle.step.specs.Records.{RECORD, SCRATCH}
 use Rattle.step.specs.Checks.{numberOf as stepNumber}
 use Rattle.step.specs.Step.{Stepped, solveOf}
 use Rattle.plan.specs.declared.reader.Plan.{Plan}

@@ -8,7 +8,7 @@ use lib.ListN.{length, getD, take, drop}
 use lib.Ieee.{Float, nan, binary64, toBits}
 use Rattle.io.specs.Digits.{digits}
 use Rattle.arith.specs.Flow.{turns}
-use Rattle.step.specs.Layout.{RECORD, MOVING}
+use Rattle.step.specs.Records.{RECORD, MOVING}
 
 -- how many digits n has in base ten, where at most k + 1
 unfoldable pub places : ℕ → ℕ → ℕ

@@ -4,7 +4,7 @@ ghost use mathlib.Core.Path.{_≡_};
 ghost use lib.ListN.{length};
 ghost use lib.Ieee.{binary64, toBits};
 ghost use Rattle.io.specs.Counts.{Counts};
-ghost use Rattle.step.specs.Layout.{RECORD};
+ghost use Rattle.step.specs.Records.{RECORD};
 ghost use Rattle.report.specs.Text as Text;
 use step::layout::RECORD;
 

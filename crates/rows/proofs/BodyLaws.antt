@@ -14,7 +14,8 @@ use Rattle.vectors.specs.declared.quaternion.OptionQuat.{OptionQuat}
 use Rattle.vectors.specs.declared.quaternion.OptionQuat.the-variants.{None}
 use Rattle.vectors.specs.Vector.{finiteOf, addOf, subOf, scaleOf, divOf}
 use Rattle.vectors.specs.Matrix.{applyOf}
-use Rattle.vectors.specs.Quaternion.{conjugateOf, quatTryNormalizeOf, isNormalizedOf, integrateOf, integrateAsUnitOf}
+use Rattle.vectors.specs.Quaternion.{conjugateOf, quatTryNormalizeOf, isNormalizedOf, integrateOf}
+use Rattle.vectors.specs.Answered.{integrateAsUnitOf}
 use Rattle.vectors.specs.Laws.AsUnit.{integrates-as-unit}
 use Rattle.rows.specs.declared.body.RigidBody.{RigidBody}
 use Rattle.rows.specs.declared.body.BodyState.{BodyState}

@@ -26,7 +26,8 @@ use Rattle.rows.specs.Fault.{Fault, Result}
 use Rattle.rows.specs.Motions.{motionsOf}
 use Rattle.rows.specs.Geometry.{linearRow, rowIf, linearRows}
 use Rattle.rows.specs.Geometry.{swingLocked, twistLocked, coneRows, alignRows, turningRows}
-use Rattle.rows.specs.Geometry.{frameRows, motionRows, writeEqualityRows, oneIf, linearCount, turningCount, motionCount, rowCount}
+use Rattle.rows.specs.Geometry.{frameRows, motionRows, writeEqualityRows}
+use Rattle.rows.specs.Count.{oneIf, linearCount, turningCount, motionCount, rowCount}
 use Rattle.rows.proofs.Constants.{zero-is}
 
 abbrev Rows : Type 0

@@ -20,7 +20,8 @@ use Rattle.vectors.specs.declared.vector.OptionF64.the-variants as Number
 use Rattle.vectors.specs.declared.quaternion.Quat.{Quat}
 use Rattle.vectors.specs.Vector.{vec, axisZ, addOf, subOf, scaleOf, negOf, dotOf, crossOf, tryNormalizeOf}
 use Rattle.vectors.specs.VectorLaws.{zero-vec-is, axis-z-is}
-use Rattle.vectors.specs.Quaternion.{conjugateOf, productOf, quatTryNormalizeOf, rotateAsUnitOf}
+use Rattle.vectors.specs.Quaternion.{conjugateOf, productOf, quatTryNormalizeOf}
+use Rattle.vectors.specs.Answered.{rotateAsUnitOf}
 use Rattle.rows.specs.declared.body.MomentumBody.{MomentumBody}
 use Rattle.rows.specs.declared.geometry.Joint.{Joint}
 use Rattle.rows.specs.declared.geometry.EqualityRow.{EqualityRow}

@@ -38,7 +38,8 @@ use Rattle.rows.specs.Fault.{Fault, nonConvergent, arithmeticOverflow, R
 use Rattle.rows.specs.Motions.{motionsOf}
 use Rattle.rows.specs.Geometry.{endsOf, toleranceOf, distanceRow, linearRow, rowIf, axesOf, linearRows, relativeOf, swingX, swingY, gradientRow}
 use Rattle.rows.specs.Geometry.{swingLocked, swingRow, twistLocked, twistRow, coneRows, alignedOf, alignRow, alignRows, turningRows, finiteValues}
-use Rattle.rows.specs.Geometry.{frameRows, motionRows, writeEqualityRows, rowCount}
+use Rattle.rows.specs.Geometry.{frameRows, motionRows, writeEqualityRows}
+use Rattle.rows.specs.Count.{rowCount}
 use Rattle.rows.specs.View.{rowsAt, Out, Kept, Filled}
 use Rattle.rows.specs.Answer.{refusalNumber, writtenAs, Writes}
 use Rattle.rows.specs.AnswerLaws.{written-number}

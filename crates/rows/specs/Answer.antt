@@ -11,7 +11,9 @@ use Rattle.rows.specs.declared.End.the-variants as Ends
 use Rattle.rows.specs.declared.body.Pass.{Pass}
 use Rattle.rows.specs.declared.body.Pass.the-variants as Passes
 use Rattle.vectors.specs.declared.vector.Vec3.{Vec3}
+use Rattle.vectors.specs.declared.matrix.Mat3.{Mat3}
 use Rattle.vectors.specs.declared.quaternion.Quat.{Quat}
+use Rattle.rows.specs.declared.body.RigidBody.{RigidBody}
 use Rattle.rows.specs.declared.body.BodyState.{BodyState}
 use Rattle.rows.specs.declared.body.MomentumBody.{MomentumBody}
 use Rattle.rows.specs.declared.body.BodyAnswer.{BodyAnswer}
@@ -22,7 +24,9 @@ use Rattle.rows.specs.declared.geometry.EqualityRow.{EqualityRow}
 use Rattle.rows.specs.declared.geometry.Written.{Written}
 use Rattle.rows.specs.declared.geometry.Written.the-variants as Written
 use Rattle.rows.specs.Fault.{Fault, nonConvergent, arithmeticOverflow, number, Result}
-use Rattle.rows.specs.Geometry.{rowCount, writeEqualityRows}
+use Rattle.rows.specs.Body.{bodyWith}
+use Rattle.rows.specs.Geometry.{writeEqualityRows}
+use Rattle.rows.specs.Count.{rowCount}
 use Rattle.rows.specs.View.{at, rowsAt, Out, Kept}
 
 -- ---- the number of an answer: 0 where there is one, else the fault's
@@ -61,6 +65,11 @@ ranAs Ends.NonConvergent x = stop nonConvergent
 ranAs Ends.ArithmeticOverflow x = stop arithmeticOverflow
 
 -- ---- bodies and states
+-- the record's own numbers, which stand beside a failure of `new`
+abbrev pub standing : RigidBody → Mat3 → MomentumBody
+standing body inverse =
+    bodyWith (body .origin) (body .rotation) (body .«linear_velocity») (body .«angular_velocity») (body .mass) (body .«center_of_mass») inverse
+
 -- what a call that was to move a body hands back: beside a fault, the body `old`
 unfoldable pub answerOf : MomentumBody → Result MomentumBody → BodyAnswer
 answerOf old (go body) = record { outcome = Ends.Done; body = body }

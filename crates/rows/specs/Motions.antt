@@ -1,19 +1,14 @@
 -- What each kind of joint holds: the one match on a kind. All else about a kind follows from it: its rows, how many they are, the
 -- tests of its numbers, and what demand 3 promises of it.
-use Rattle.rows.specs.declared.geometry.Kind.{Kind}
-use Rattle.rows.specs.declared.geometry.Kind.the-variants.{Ball, Hinge, Cylindrical, Planar, Distance, ConeTwist}
-use Rattle.rows.specs.declared.geometry.Linear.the-variants.{Point, Line, Plane}
-use Rattle.rows.specs.declared.geometry.Turning.the-variants.{Free, Align, Cone}
-use Rattle.rows.specs.declared.geometry.Motions.{Motions}
-use Rattle.rows.specs.declared.geometry.Motions.the-variants.{Rod, Frame}
+use Rattle.rows.specs.Words.{Kind, Ball, Hinge, Cylindrical, Planar, Distance, ConeTwist, Point, Line, Plane, Turning, Motions, Rod, Frame}
 
 -- a rod between the anchors; or b's anchor at a's, on the line through it along frame a's Z, or on the plane through it across that,
 -- while frame b turns freely, keeps its Z along a's, or stays within a cone and a twist
 abbrev pub motionsOf : Kind → Motions
-motionsOf Ball = Frame Point Free
-motionsOf Hinge = Frame Point Align
-motionsOf Cylindrical = Frame Line Align
-motionsOf Planar = Frame Plane Align
+motionsOf Ball = Frame Point Turning.Free
+motionsOf Hinge = Frame Point Turning.Align
+motionsOf Cylindrical = Frame Line Turning.Align
+motionsOf Planar = Frame Plane Turning.Align
 motionsOf (Distance length) = Rod length
 motionsOf (ConeTwist swingX swingY lower upper) =
-    Frame Point (Cone (record { «swing_x» = swingX; «swing_y» = swingY; «twist_lower» = lower; «twist_upper» = upper }))
+    Frame Point (Turning.Cone (record { «swing_x» = swingX; «swing_y» = swingY; «twist_lower» = lower; «twist_upper» = upper }))

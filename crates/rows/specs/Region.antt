@@ -19,7 +19,8 @@ use Rattle.rows.specs.declared.geometry.Turning.the-variants as Turns
 use Rattle.rows.specs.declared.geometry.Motions.{Motions}
 use Rattle.rows.specs.declared.geometry.Motions.the-variants.{Rod, Frame}
 use Rattle.rows.specs.Motions.{motionsOf}
-use Rattle.rows.specs.Geometry.{swingLocked, twistLocked, oneIf, linearCount, turningCount, motionCount, rowCount}
+use Rattle.rows.specs.Geometry.{swingLocked, twistLocked}
+use Rattle.rows.specs.Count.{oneIf, linearCount, turningCount, motionCount, rowCount}
 use Rattle.rows.specs.View.{at, vec3At, rowAt, rowsAt, Out, Kept, Filled}
 
 module _ {A : Type 0} where

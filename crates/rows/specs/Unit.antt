@@ -9,7 +9,8 @@ use Rattle.vectors.specs.declared.quaternion.Quat.{Quat}
 use Rattle.vectors.specs.declared.quaternion.OptionQuat.the-variants.{Some}
 use Rattle.vectors.specs.Vector.{addOf}
 use Rattle.vectors.specs.Matrix.{applyOf}
-use Rattle.vectors.specs.Quaternion.{conjugateOf, quatTryNormalizeOf, rotateAsUnitOf, integrateAsUnitOf}
+use Rattle.vectors.specs.Quaternion.{conjugateOf, quatTryNormalizeOf}
+use Rattle.vectors.specs.Answered.{rotateAsUnitOf, integrateAsUnitOf}
 use Rattle.rows.specs.Fault.{arithmeticOverflow, Result, vectorOr, quatOr, tryFinite}
 
 -- q normalizes to unit

@@ -2,18 +2,11 @@
 use Prim.Native.Nat.{ℕ, suc, _+_, _*_, _-_, _<_, min}
 use mathlib.Core.Path.{_≡_}
 use mathlib.Core.List.{List}
-use lib.ListN.{length, getD}
-use lib.Ieee.{Float, nan}
+use lib.ListN.{length}
+use lib.Ieee.{Float}
 use Rattle.arith.specs.Flow.{tab}
-use Rattle.vectors.specs.declared.vector.Vec3.{Vec3}
+pub use Rattle.vectors.specs.Vector.{at, vec3At}
 use Rattle.rows.specs.declared.geometry.EqualityRow.{EqualityRow}
-
--- s[i]
-abbrev pub at : List Float → ℕ → Float
-at s i = getD s i nan
-
-abbrev pub vec3At : List Float → ℕ → Vec3
-vec3At s i = record { x = at s i; y = at s (i + 1); z = at s (i + 2) }
 
 -- the row at i, between the bodies a and b
 abbrev pub rowAt : List Float → ℕ → ℕ → ℕ → EqualityRow

@@ -10,10 +10,10 @@ ghost use mathlib.Core.Path.{_≡_};
 ghost use mathlib.Core.Bool.{_&&_};
 ghost use Rattle.arith.specs.Flow.{stop, loop};
 ghost use Rattle.rows.specs.Fault.{arithmeticOverflow, vectorOr, tryFinite};
-ghost use Rattle.rows.specs.Body.{newOf, standing, inverseAngularMassOf, omegaOf, kickOf, anchorOf, placedAt, passOf, driftOf};
+ghost use Rattle.rows.specs.Body.{newOf, inverseAngularMassOf, omegaOf, kickOf, anchorOf, placedAt, passOf, driftOf};
 ghost use Rattle.rows.specs.Body.{originOf, stateOf, sameVec3, sameQuat};
 ghost use Rattle.rows.specs.Unit.{UnitOf, inFrame, integrateAsUnit, worldCenterAsUnit};
-ghost use Rattle.rows.specs.Answer.{answerOf, BodyAnswered, passAs, StateAnswered};
+ghost use Rattle.rows.specs.Answer.{answerOf, BodyAnswered, passAs, StateAnswered, standing};
 
 const MAX_ITERATIONS: usize = 32;
 

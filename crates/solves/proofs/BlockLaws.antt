@@ -12,10 +12,14 @@ use lib.Seq.{getD-set-same, getD-set-other}
 use Rattle.arith.specs.Flow.{Turn, go, stop, turns, loop, tab}
 use Rattle.arith.specs.FlowLaws.{turns-none, turns-more, then-go, then-stop, loop-none, loop-more, loop-stop, cond-yes, cond-no}
 use Rattle.rows.specs.Region.{tab-length, tab-ext, tab-at, tab-more}
-use Rattle.solves.specs.Path.{index, none, begins, startTurn, pathStarts, addEdge, blockEdges}
+use Rattle.solves.specs.Path.{index, none, begins, pathStarts, addEdge, blockEdges}
 use Rattle.solves.specs.Answer.{edgesAs}
 use Rattle.solves.specs.View.{listAt}
 use Rattle.solves.specs.PathView.{Bodies, Blocks, startsOf, rowsOf, Blocked, Parted, Linked, Linking, edgesOn}
+
+-- a turn of `pathStarts`
+abbrev pub startTurn : List ℕ → List ℕ → ℕ → List ℕ → List ℕ
+startTurn a b i starts = cond (begins a b i) (starts ++ (i ∷ [])) starts
 
 -- an element of the first n
 pub list-at : (l : List ℕ) (n k : ℕ) → k < n → getD l k 0 ≡ index (listAt l n) k

@@ -19,7 +19,8 @@ use Rattle.vectors.specs.Vector.{addOf, scaleOf, finiteOf}
 use Rattle.vectors.specs.Laws.UnitTest.{add-finite}
 use Rattle.rows.specs.Fault.{arithmeticOverflow, tryFinite}
 use Rattle.solves.specs.declared.places.Generalized.{Generalized}
-use Rattle.solves.specs.Solver.{generalizedIn, noGeneralized, noShare, pushed, pushInto}
+use Rattle.solves.specs.Solver.{generalizedIn, noShare, pushed, pushInto}
+use Rattle.solves.specs.View.{noGeneralized}
 use Rattle.solves.specs.Checked.{added, finiteShare, allFinite, checked}
 
 -- ---- chains and loops

@@ -11,8 +11,8 @@ use Rattle.arith.specs.Real.{ratio, isFinite, _⊕_, _⊗_, _⊘_}
 use Rattle.arith.specs.Root.{sqrt}
 use Rattle.arith.specs.Flow.{Turn, go, stop, turns, loop, tab}
 use Rattle.arith.specs.FlowLaws.{turns-more, turns-end, then-go, then-stop, loop-none, loop-more, loop-stop, loop-end}
-use Rattle.arith.specs.Run.{ran, again, leave, fail, over, upTo}
-use Rattle.arith.specs.RunLaws.{ticks, try-go, try-stop, leave-yes, leave-no}
+use Rattle.arith.specs.Run.{ran, again, leave, fail, upTo}
+use Rattle.arith.specs.RunLaws.{ticks, try-go, try-stop, leave-yes, leave-no, over}
 use Rattle.vectors.specs.declared.vector.Vec3.{Vec3}
 use Rattle.vectors.specs.Vector.{dotOf}
 use Rattle.vectors.specs.Matrix.{applyOf}

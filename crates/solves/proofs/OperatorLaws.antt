@@ -23,11 +23,11 @@ use Rattle.solves.specs.declared.places.MassResponse.{MassResponse}
 use Rattle.solves.specs.declared.Table.{Table}
 use Rattle.solves.specs.Region.{vecAt, Filled, Does}
 use Rattle.solves.specs.RegionLaws.{vec-at, vec-in, kept-vec, vec-more}
-use Rattle.solves.specs.Solver.{rowIn, generalizedIn, massIn, noGeneralized, noMass, tryNumber, sumProducts, dot, pushInto, pushRow, transpose}
+use Rattle.solves.specs.Solver.{rowIn, generalizedIn, massIn, tryNumber, sumProducts, dot, pushInto, pushRow, transpose}
 use Rattle.solves.specs.Solver.{scaled, scaleAll, rate, rates, operator, noShare, through, addThrough, crossEnd, crossMass}
 use Rattle.solves.specs.Checked.{added, finiteShare, allFinite, checked}
 use Rattle.solves.specs.View.{rowOn, rowsOn, generalizedAt, sharesIn, massAt, massesAt, systemOn, Rows, Place, Shares, Beside, Moves}
-use Rattle.solves.specs.View.{BODIES-MOST, VECTOR, RHS, GENERALIZED, MASSES, END}
+use Rattle.solves.specs.View.{BODIES-MOST, VECTOR, RHS, GENERALIZED, MASSES, END, noGeneralized, noMass}
 use Rattle.solves.specs.DoesLaws.{number-yes, number-no, does-stop, does-then}
 use Rattle.solves.specs.ViewLaws.{out-within, kept-rows, kept-masses, row-in, share-in, mass-in, shares-set, shares-more, shares-none}
 use Rattle.solves.proofs.CheckedLaws.{then-then, loop-next, push-is, zeros-checked}

@@ -10,8 +10,8 @@ use Rattle.arith.specs.Real.{F, ratio, _⊕_, _⊗_}
 use Rattle.arith.specs.Root.{sqrt}
 use Rattle.arith.specs.Flow.{Turn, go, stop}
 use Rattle.arith.specs.FlowLaws.{then-go, then-stop}
-use Rattle.arith.specs.Run.{ran, over, upTo}
-use Rattle.arith.specs.RunLaws.{run-is, Reached, reached-none, reached-again, reached-over, reached-spent}
+use Rattle.arith.specs.Run.{ran, upTo}
+use Rattle.arith.specs.RunLaws.{run-is, Reached, reached-none, reached-again, reached-over, reached-spent, over}
 use Rattle.rows.specs.Fault.{nonConvergent, arithmeticOverflow, Result}
 use Rattle.rows.specs.View.{Kept}
 use Rattle.rows.specs.Region.{Over, kept-refl, kept-then}

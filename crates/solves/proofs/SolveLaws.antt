@@ -9,8 +9,8 @@ use lib.Ieee.{Float}
 use Rattle.arith.specs.Real.{ratio}
 use Rattle.arith.specs.Flow.{Turn, go, stop, tab}
 use Rattle.arith.specs.FlowLaws.{then-go, then-stop, cond-yes, cond-no}
-use Rattle.arith.specs.Run.{ran, after, fail, over, upTo}
-use Rattle.arith.specs.RunLaws.{ticks, try-go, try-stop, leave-yes, leave-no}
+use Rattle.arith.specs.Run.{ran, after, fail, upTo}
+use Rattle.arith.specs.RunLaws.{ticks, try-go, try-stop, leave-yes, leave-no, over}
 use Rattle.rows.specs.declared.geometry.EqualityRow.{EqualityRow}
 use Rattle.rows.specs.Fault.{Fault, nonConvergent, Result}
 use Rattle.rows.specs.View.{Kept}

@@ -4,7 +4,8 @@ use mathlib.Core.Bool.{Bool, true, false, cond}
 use mathlib.Core.List.{List}
 use lib.Ieee.{Float}
 use Rattle.arith.specs.Flow.{Turn, go, stop}
-use Rattle.arith.specs.Run.{ran, over}
+use Rattle.arith.specs.Run.{ran}
+use Rattle.arith.specs.RunLaws.{over}
 use Rattle.rows.specs.declared.End.{End}
 use Rattle.rows.specs.declared.geometry.EqualityRow.{EqualityRow}
 use Rattle.rows.specs.Fault.{nonConvergent, arithmeticOverflow, Result}

@@ -7,7 +7,7 @@ use lib.Ieee.{Float}
 use Rattle.arith.specs.Real.{isFinite}
 use Rattle.arith.specs.Flow.{go, stop, _>>=_, returnIf}
 use Rattle.arith.specs.FlowLaws.{then-go, then-stop}
-use Rattle.arith.specs.Run.{over}
+use Rattle.arith.specs.RunLaws.{over}
 use Rattle.vectors.specs.declared.vector.Vec3.{Vec3}
 use Rattle.vectors.specs.Vector.{finiteOf}
 use Rattle.rows.specs.Fault.{Fault, arithmeticOverflow, Result, tryFinite}

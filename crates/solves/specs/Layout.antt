@@ -1,12 +1,10 @@
 -- The scratch of a linear solve: one region behind the other, as src/layout.rt. Only here are places. Behind END a caller lays its own regions.
 use Prim.Native.Nat.{ℕ, _+_, _*_}
+pub use Rattle.solves.specs.System.{BODIES-MOST}
 
--- the most rows and the most bodies of a solve
+-- the most rows of a solve; System has the most bodies
 abbrev pub ROWS-MOST : ℕ
 ROWS-MOST = 96
-
-abbrev pub BODIES-MOST : ℕ
-BODIES-MOST = 16
 
 -- sizes: a table of rows (14 doubles each), the mass responses (10), a number for each row, the bodies' shares (6), the path's band (12)
 abbrev pub ROW-TABLE : ℕ

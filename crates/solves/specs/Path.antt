@@ -1,24 +1,13 @@
 -- solver.rs, fn path_solve up to its refinements. A path's Schur matrix is block tridiagonal once its rows are ordered along the path, and a
 -- Cholesky factor of band 12 solves it.
-use Prim.Native.Nat.{ℕ, _+_, _*_, _-_, min}
-use mathlib.Core.List.{List, [], _∷_, _++_}
-use mathlib.Core.Bool.{Bool, true, false, cond, not, _&&_, _||_}
-use lib.Dec.{eqb}
-use lib.ListN.{length, getD, set, replicate}
+use Rattle.solves.specs.Words.{ℕ, _+_, _*_, _-_, min, List, [], _∷_, _++_, Bool, false, cond, not, _||_, true, _&&_, length, getD, set, replicate, eqb}
+use Rattle.solves.specs.Words.{Float, binary64, _⊕_, _⊖_, _⊗_, _⊘_, ratio, isFinite, sqrt, go, stop, _>>=_, turns, loop, tab, each, returnIf, Turn, at}
+use Rattle.solves.specs.Words.{EqualityRow, nonConvergent, Result, MassResponse}
 use lib.Ieee as Ieee
-use lib.Ieee.{Float, binary64}
-use Rattle.arith.specs.Real.{_⊕_, _⊖_, _⊗_, _⊘_, ratio, isFinite}
-use Rattle.arith.specs.Root.{sqrt}
-use Rattle.arith.specs.Flow.{Turn, go, stop, _>>=_, turns, loop, tab, each, returnIf}
-use Rattle.rows.specs.declared.geometry.EqualityRow.{EqualityRow}
-use Rattle.rows.specs.Fault.{nonConvergent, Result}
-use Rattle.rows.specs.View.{at}
-use Rattle.solves.specs.declared.places.MassResponse.{MassResponse}
 use Rattle.solves.specs.System.{System, rowsIn}
 use Rattle.solves.specs.Solver.{rowIn, operator, crossMass, difference}
 
--- l[i]
-abbrev pub index : List ℕ → ℕ → ℕ
+abbrev pub index : List ℕ → ℕ → ℕ  -- l[i]
 index l i = getD l i 0
 
 -- no block: usize::MAX in the Rust. There are at most 96 blocks.
@@ -30,12 +19,8 @@ none = 96
 unfoldable pub begins : List ℕ → List ℕ → ℕ → Bool
 begins a b i = eqb i 0 || not (eqb (index a i) (index a (i - 1)) && eqb (index b i) (index b (i - 1)))
 
--- the first row of each block
-abbrev pub startTurn : List ℕ → List ℕ → ℕ → List ℕ → List ℕ
-startTurn a b i starts = cond (begins a b i) (starts ++ (i ∷ [])) starts
-
-unfoldable pub pathStarts : List ℕ → List ℕ → ℕ → List ℕ
-pathStarts a b n = turns (startTurn a b) n []
+unfoldable pub pathStarts : List ℕ → List ℕ → ℕ → List ℕ  -- the first row of each block
+pathStarts a b n = turns (λ i starts. cond (begins a b i) (starts ++ (i ∷ [])) starts) n []
 
 -- ---- self.path_edges: two places for each body; a third block on a body declines the path
 unfoldable pub addEdge : ℕ → ℕ → List ℕ → Turn (List ℕ) (Unit {0})
@@ -50,20 +35,16 @@ blockEdges a b starts block edges = addEdge (index a (index starts block)) block
 unfoldable pub pathEdges : List ℕ → List ℕ → List ℕ → Turn (List ℕ) (Unit {0})
 pathEdges a b starts = loop (length starts) (blockEdges a b starts) (replicate 32 none)
 
--- the other block on a body
-unfoldable pub neighbor : List ℕ → ℕ → ℕ → ℕ
+unfoldable pub neighbor : List ℕ → ℕ → ℕ → ℕ  -- the other block on a body
 neighbor edges body block = cond (eqb (index edges (2 * body)) block) (index edges (2 * body + 1)) (index edges (2 * body))
 
--- *next != usize::MAX && *next != previous
-unfoldable pub follows : ℕ → ℕ → Bool
+unfoldable pub follows : ℕ → ℕ → Bool  -- *next != usize::MAX && *next != previous
 follows block previous = not (eqb block none) && not (eqb block previous)
 
--- .find(follows)
-unfoldable pub nextBlock : ℕ → ℕ → ℕ → ℕ
+unfoldable pub nextBlock : ℕ → ℕ → ℕ → ℕ  -- .find(follows)
 nextBlock x y previous = cond (follows x previous) x (cond (follows y previous) y none)
 
--- ---- self.path_order
--- self.path_order and self.path_visited
+-- ---- self.path_order, and self.path_visited
 pub record Seen : Type 0 where
   pub order : List ℕ
   pub visited : List Bool
@@ -73,8 +54,7 @@ pub record Walk : Type 0 where
   pub current : ℕ
   pub previous : ℕ
 
--- from..to
-abbrev pub run : ℕ → ℕ → List ℕ
+abbrev pub run : ℕ → ℕ → List ℕ  -- from..to
 run from to = tab (to - from) (λ k. from + k)
 
 -- after as many turns as there are blocks the next one was visited
@@ -85,19 +65,18 @@ walked (stop seen) = seen
 module _ (a b : List ℕ) (n : ℕ) (starts edges : List ℕ) where
   -- one turn of the loop along a path: a visited block declines, and where no block follows the walk is at its end
   unfoldable pub walkTurn : ℕ → Walk → Turn Walk (Turn Seen (Unit {0}))
-  walkTurn k w =
-      let row : ℕ = index starts (w .current) in
-      let seen : Seen = record { order = w .seen .order ++ run row (getD starts (w .current + 1) n); visited = set (w .seen .visited) (w .current) true } in
-      let next : ℕ = nextBlock (neighbor edges (index a row) (w .current)) (neighbor edges (index b row) (w .current)) (w .previous) in do
-        _ ← returnIf (getD (w .seen .visited) (w .current) false) (stop tt)
-        _ ← returnIf (eqb next none) (go seen)
-        go (record { seen = seen; current = next; previous = w .current })
+  walkTurn k w = do
+    let row = index starts (w .current)
+    let seen : Seen = record { order = w .seen .order ++ run row (getD starts (w .current + 1) n); visited = set (w .seen .visited) (w .current) true }
+    let next = nextBlock (neighbor edges (index a row) (w .current)) (neighbor edges (index b row) (w .current)) (w .previous)
+    _ ← returnIf (getD (w .seen .visited) (w .current) false) (stop tt)
+    _ ← returnIf (eqb next none) (go seen)
+    go (record { seen = seen; current = next; previous = w .current })
 
   unfoldable pub walk : ℕ → Seen → Turn Seen (Unit {0})
   walk first seen = walked (loop (length starts) walkTurn (record { seen = seen; current = first; previous = none }))
 
-  -- a block that was not visited and has no neighbor on one of its bodies
-  unfoldable pub isEnd : List Bool → ℕ → Bool
+  unfoldable pub isEnd : List Bool → ℕ → Bool  -- a block that was not visited and has no neighbor on one of its bodies
   isEnd visited block =
       not (getD visited block false)
       && (eqb (neighbor edges (index a (index starts block)) block) none || eqb (neighbor edges (index b (index starts block)) block) none)
@@ -108,40 +87,35 @@ module _ (a b : List ℕ) (n : ℕ) (starts edges : List ℕ) where
   unfoldable pub pathWalks : Turn Seen (Unit {0})
   pathWalks = loop (length starts) walkFrom (record { order = []; visited = replicate 96 false })
 
--- the rows along the paths, or declined
-unfoldable pub pathOrder : List ℕ → List ℕ → ℕ → Turn (List ℕ) (Unit {0})
-pathOrder a b n =
-    let starts : List ℕ = pathStarts a b n in do
-      edges ← pathEdges a b starts
-      seen ← pathWalks a b n starts edges
-      _ ← returnIf (not (eqb (length (seen .order)) n)) tt
-      go (seen .order)
+unfoldable pub pathOrder : List ℕ → List ℕ → ℕ → Turn (List ℕ) (Unit {0})  -- the rows along the paths, or declined
+pathOrder a b n = do
+  let starts = pathStarts a b n
+  edges ← pathEdges a b starts
+  seen ← pathWalks a b n starts edges
+  _ ← returnIf (not (eqb (length (seen .order)) n)) tt
+  go (seen .order)
 
 -- ---- the factor: self.path_scale and self.path_band, twelve doubles a row, one row after the other
 -- path_band[i][d]
 abbrev pub cell : List Float → ℕ → ℕ → Float
 cell band i d = at band (12 * i + d)
 
--- i.saturating_sub(BAND_WIDTH - 1)
-abbrev pub bandStart : ℕ → ℕ
+abbrev pub bandStart : ℕ → ℕ  -- i.saturating_sub(BAND_WIDTH - 1)
 bandStart i = i - 11
 
--- for t in 0..terms { value -= x(t) * y(t); }
-abbrev pub lessProducts : (ℕ → Float) → (ℕ → Float) → ℕ → Float → Float
+abbrev pub lessProducts : (ℕ → Float) → (ℕ → Float) → ℕ → Float → Float  -- for t in 0..terms { value -= x(t) * y(t); }
 lessProducts x y terms value = turns (λ t value. value ⊖ x t ⊗ y t) terms value
 
 -- for k in band_start..j { value -= path_band[i][i - k] * path_band[j][j - k]; }
 unfoldable pub reduced : List Float → ℕ → ℕ → Float → Float
-reduced band i j value =
-    lessProducts (λ t. cell band i (i - (bandStart i + t))) (λ t. cell band j (j - (bandStart i + t))) (j - bandStart i) value
+reduced band i j value = lessProducts (λ t. cell band i (i - (bandStart i + t))) (λ t. cell band j (j - (bandStart i + t))) (j - bandStart i) value
 
 pub record Factor : Type 0 where
   pub scale : List Float
   pub band : List Float
 
 module _ (rows : List EqualityRow) (masses : List MassResponse) (order : List ℕ) where
-  -- rows[path_order[i]]
-  abbrev pub rowOf : ℕ → EqualityRow
+  abbrev pub rowOf : ℕ → EqualityRow  -- rows[path_order[i]]
   rowOf i = rowIn rows (index order i)
 
   unfoldable pub scaleAt : ℕ → Result Float
@@ -161,8 +135,7 @@ module _ (rows : List EqualityRow) (masses : List MassResponse) (order : List �
         (cond (not (isFinite value) || Ieee.le value (ratio 0 1)) (stop nonConvergent) (go (set band (12 * i) (sqrt binary64 value))))
         (go (set band (12 * i + (i - j)) (value ⊘ cell band j 0)))
 
-  -- for j in band_start..=i
-  unfoldable pub pathRow : List Float → ℕ → List Float → Result (List Float)
+  unfoldable pub pathRow : List Float → ℕ → List Float → Result (List Float)  -- for j in band_start..=i
   pathRow scale i band = loop (i + 1 - bandStart i) (λ t band. pathEntry scale i (bandStart i + t) band) band
 
   unfoldable pub pathFactor : List Float → ℕ → Result (List Float)
@@ -188,8 +161,7 @@ pub record Back : Type 0 where
   pub solution : List Float
 
 module _ (n : ℕ) (order : List ℕ) (scale band : List Float) where
-  -- path_rhs[i] = value / path_band[i][0]
-  abbrev pub forwardTurn : List Float → ℕ → List Float → List Float
+  abbrev pub forwardTurn : List Float → ℕ → List Float → List Float  -- path_rhs[i] = value / path_band[i][0]
   forwardTurn residual i y = y ++ (forwardSum band y i (at residual (index order i) ⊘ at scale i) ⊘ cell band i 0 ∷ [])
 
   unfoldable pub forward : List Float → List Float
@@ -198,8 +170,7 @@ module _ (n : ℕ) (order : List ℕ) (scale band : List Float) where
   -- for i in (0..n).rev() { path_rhs[i] = value / path_band[i][0]; solution[path_order[i]] += path_rhs[i] / path_scale[i]; }
   unfoldable pub backwardTurn : ℕ → Back → Back
   backwardTurn k s =
-      let i : ℕ = n - 1 - k in
-      let value : Float = backwardSum n band (s .y) i (at (s .y) i) ⊘ cell band i 0 in
+      let i : ℕ = n - 1 - k in let value : Float = backwardSum n band (s .y) i (at (s .y) i) ⊘ cell band i 0 in
       record { y = set (s .y) i value; solution = set (s .solution) (index order i) (at (s .solution) (index order i) ⊕ value ⊘ at scale i) }
 
   unfoldable pub backward : List Float → List Float → List Float
@@ -213,8 +184,7 @@ pub record Refined : Type 0 where
 -- the factor's solution of the residual, added to the solution, and the residual again
 unfoldable pub refine : System → List Float → List ℕ → Factor → Refined → Result Refined
 refine system rhs order factor s =
-    let n : ℕ = rowsIn system in
-    let y : List Float = forward n order (factor .scale) (factor .band) (s .residual) in
+    let n : ℕ = rowsIn system in let y : List Float = forward n order (factor .scale) (factor .band) (s .residual) in
     let solution : List Float = backward n order (factor .scale) (factor .band) y (s .solution) in do
       product ← operator system solution
       go (record { solution = solution; residual = difference rhs product })

@@ -1,16 +1,8 @@
 -- least_squares, path_solve and linear_solve of solver.rs, pass by pass. In a `do` block `x ← e` is `let x = e?` with the passes that it counted;
 -- `try` marks what counts none, `tick` is `self.linear_iterations += 1`.
-use Prim.Native.Nat.{ℕ, _+_, _*_, _^_}
-use mathlib.Core.List.{List}
-use mathlib.Core.Bool.{Bool, cond}
-use lib.ListN.{replicate}
+use Rattle.solves.specs.Words.{ℕ, _+_, _*_, _^_, List, Bool, cond, replicate, Float, binary64, _⊘_, ratio, sqrt, go, stop, Turn, nonConvergent}
 use lib.Ieee as Ieee
-use lib.Ieee.{Float, binary64}
-use Rattle.arith.specs.Real.{_⊘_, ratio}
-use Rattle.arith.specs.Root.{sqrt}
-use Rattle.arith.specs.Flow.{Turn, go, stop}
 use Rattle.arith.specs.Run.{_>>=_, _>>_, try, tick, failIf, again, leaveIf, upTo}
-use Rattle.rows.specs.Fault.{nonConvergent}
 use Rattle.solves.specs.System.{System, rowsIn, sideOf, Counting}
 use Rattle.solves.specs.Solver.{operator, dot, plus, minus, within, toleranceFor, Search, prepare, trueResidual, scaledSquare, nextDirection, advance}
 use Rattle.solves.specs.Path.{Factor, Refined, pathOrder, pathFactored, refine}
@@ -18,12 +10,10 @@ use Rattle.solves.specs.Path.{Factor, Refined, pathOrder, pathFactored, 
 -- the most passes over n rows, of least squares and of the gradients
 abbrev pub leastMost : ℕ → ℕ
 leastMost n = 4 * n + 64
-
 abbrev pub gradientMost : ℕ → ℕ
 gradientMost n = 2 * n + 32
 
--- ---- fn least_squares
--- a pass is counted when it was gone through whole
+-- ---- fn least_squares: a pass is counted when it was gone through whole
 unfoldable pub leastPass : System → Float → Search → Counting (Turn Search (List Float))
 leastPass system tolerance s = leaveIf (Ieee.le (sqrt binary64 (s .rho)) tolerance) (s .solution) do
   product ← try (operator system (s .direction))
@@ -34,35 +24,24 @@ leastPass system tolerance s = leaveIf (Ieee.le (sqrt binary64 (s .rho)) toleran
   normal ← try (operator system residual)
   next ← try (dot normal normal)
   tick
-  again (record {
-    solution = plus (s .solution) alpha (s .direction);
-    residual = residual;
-    direction = plus normal (next ⊘ s .rho) (s .direction);
-    rho = next;
-  })
+  again (record { solution = plus (s .solution) alpha (s .direction); residual = residual; direction = plus normal (next ⊘ s .rho) (s .direction); rho = next })
 
 unfoldable pub leastSquares : System → List Float → List Float → List Float → Counting (List Float)
 leastSquares system rhs solution residual = do
   normal ← try (operator system residual)
   norm ← try (dot normal normal)
   tolerance ← try (toleranceFor (ratio 1 (10 ^ 14)) rhs)
-  upTo (leastMost (rowsIn system)) nonConvergent (leastPass system tolerance)
-      (record { solution = solution; residual = residual; direction = normal; rho = norm })
+  upTo (leastMost (rowsIn system)) nonConvergent (leastPass system tolerance) (record { solution = solution; residual = residual; direction = normal; rho = norm })
 
--- ---- fn linear_solve: the diagonal-scaled conjugate gradients
--- the second half of a pass: done, or the next direction
+-- ---- fn linear_solve, the diagonal-scaled conjugate gradients: the second half of a pass, which is done or takes the next direction
 unfoldable pub settle : System → List Float → List Float → Float → Search → Counting (Turn Search (List Float))
 settle system rhs diagonal tolerance s = do
   tested ← try (trueResidual system rhs tolerance (s .solution) (s .residual))
   leaveIf (tested .solved) (s .solution) do
     let next = scaledSquare (tested .residual) diagonal
+    let direction = nextDirection (tested .residual) diagonal (next ⊘ s .rho) (s .direction)
     tick
-    again (record {
-      solution = s .solution;
-      residual = tested .residual;
-      direction = nextDirection (tested .residual) diagonal (next ⊘ s .rho) (s .direction);
-      rho = next;
-    })
+    again (record { solution = s .solution; residual = tested .residual; direction = direction; rho = next })
 
 unfoldable pub gradientPass : System → List Float → List Float → Float → Search → Counting (Turn Search (List Float))
 gradientPass system rhs diagonal tolerance s = do
@@ -78,8 +57,7 @@ gradients system rhs solution residual = do
   upTo (gradientMost (rowsIn system)) nonConvergent (gradientPass system rhs (p .diagonal) tolerance)
       (record { solution = solution; residual = residual; direction = p .direction; rho = p .rho })
 
--- ---- fn path_solve, along an order of the rows
--- a refinement is counted once its residual is known
+-- ---- fn path_solve, along an order of the rows: a refinement is counted once its residual is known
 unfoldable pub refinement : System → List Float → List ℕ → Factor → Float → Refined → Counting (Turn Refined (List Float))
 refinement system rhs order factor tolerance s = do
   s ← try (refine system rhs order factor s)
@@ -95,12 +73,10 @@ pathAlong system rhs solution order = do
 
 -- ---- which solve is begun: from the bodies that the rows join alone
 pub data Choice : Type 0 where
-  byLeastSquares : Choice
+  byLeastSquares byGradients : Choice
   byPath : List ℕ → Choice
-  byGradients : Choice
 
--- a third block on a body, or a ring of blocks, declines the path
-abbrev pub ordered : Turn (List ℕ) (Unit {0}) → Choice
+abbrev pub ordered : Turn (List ℕ) (Unit {0}) → Choice  -- a third block on a body, or a ring of blocks, declines the path
 ordered (go order) = byPath order
 ordered (stop _) = byGradients
 

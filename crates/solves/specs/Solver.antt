@@ -1,80 +1,44 @@
 -- solver.rs below `solve`, what counts no pass: over plain values (rows, mass responses, lists of doubles), in the Rust's names and order of
 -- operations. Sums start from +0 and go from the left. `Result A` is the Rust's Result, and in a `do` block `x ← e` is `let x = e?`.
 -- The path of joints is in Path.antt, what counts its passes in Search.antt.
-use Prim.Native.Nat.{ℕ}
-use mathlib.Core.List.{List, [], _∷_, _++_}
-use mathlib.Core.Bool.{Bool, false, cond, not, _||_}
-use lib.Dec.{eqb}
-use lib.ListN.{length, getD, set, replicate}
+use Rattle.solves.specs.Words.{ℕ, List, [], _∷_, _++_, Bool, false, cond, not, _||_, length, getD, set, replicate, eqb, Float, nan, binary64, _⊕_, _⊖_}
+use Rattle.solves.specs.Words.{_⊗_, _⊘_, ratio, isFinite, sqrt, go, stop, _>>=_, turns, loop, tab, each, returnIf, Vec3, zeroVec, dotOf, addOf, scaleOf}
+use Rattle.solves.specs.Words.{at, applyOf, EqualityRow, nonConvergent, arithmeticOverflow, Result, tryFinite, MassResponse, Generalized}
 use lib.Ieee as Ieee
-use lib.Ieee.{Float, nan, binary64}
-use Rattle.arith.specs.Real.{_⊕_, _⊖_, _⊗_, _⊘_, ratio, isFinite}
-use Rattle.arith.specs.Root.{sqrt}
-use Rattle.arith.specs.Flow.{go, stop, _>>=_, turns, loop, tab, each, returnIf}
-use Rattle.vectors.specs.declared.vector.Vec3.{Vec3}
-use Rattle.vectors.specs.Vector.{zeroVec, dotOf, addOf, scaleOf}
-use Rattle.vectors.specs.Matrix.{applyOf}
-use Rattle.rows.specs.declared.geometry.EqualityRow.{EqualityRow}
-use Rattle.rows.specs.Fault.{nonConvergent, arithmeticOverflow, Result, tryFinite}
-use Rattle.rows.specs.View.{at}
-use Rattle.solves.specs.declared.places.Generalized.{Generalized}
-use Rattle.solves.specs.declared.places.MassResponse.{MassResponse}
 use Rattle.solves.specs.System.{System, rowsIn}
 
--- What a list has past its end; no index below goes there.
+-- rows[i], generalized[i], masses[i]; past the end, where no index below goes, nothing that is a number
 abbrev pub noVec : Vec3
 noVec = record { x = nan; y = nan; z = nan }
 
-abbrev pub noRow : EqualityRow
-noRow = record {
-  a = 0;
-  b = 0;
-  «linear_a» = noVec;
-  «angular_a» = noVec;
-  «linear_b» = noVec;
-  «angular_b» = noVec;
-  value = nan;
-  tolerance = nan;
-}
-
-abbrev pub noGeneralized : Generalized
-noGeneralized = record { linear = noVec; angular = noVec }
-
-abbrev pub noMass : MassResponse
-noMass = record { linear = nan; angular = record { columns = [] } }
-
--- rows[i], generalized[i], masses[i]
 abbrev pub rowIn : List EqualityRow → ℕ → EqualityRow
-rowIn rows i = getD rows i noRow
+rowIn rows i = getD rows i
+    (record { a = 0; b = 0; «linear_a» = noVec; «angular_a» = noVec; «linear_b» = noVec; «angular_b» = noVec; value = nan; tolerance = nan })
 
 abbrev pub generalizedIn : List Generalized → ℕ → Generalized
-generalizedIn out i = getD out i noGeneralized
+generalizedIn out i = getD out i (record { linear = noVec; angular = noVec })
 
 abbrev pub massIn : List MassResponse → ℕ → MassResponse
-massIn masses i = getD masses i noMass
+massIn masses i = getD masses i (record { linear = nan; angular = record { columns = [] } })
 
--- value.is_finite().then_some(value).ok_or(ArithmeticOverflow)
-abbrev pub tryNumber : Float → Result Float
+abbrev pub tryNumber : Float → Result Float  -- value.is_finite().then_some(value).ok_or(ArithmeticOverflow)
 tryNumber value = cond (isFinite value) (go value) (stop arithmeticOverflow)
 
--- ---- fn dot
--- the first n products, summed
+-- ---- fn dot: the first n products, summed
 abbrev pub sumProducts : List Float → List Float → ℕ → Float
 sumProducts a b n = turns (λ k sum. sum ⊕ at a k ⊗ at b k) n (ratio 0 1)
 
 unfoldable pub dot : List Float → List Float → Result Float
 dot a b = tryNumber (sumProducts a b (length a))
 
--- ---- fn transpose
--- body[0] = finite(body[0] + linear * value)?; body[1] = finite(body[1] + angular * value)?
+-- ---- fn transpose: body[0] = finite(body[0] + linear * value)?; body[1] = finite(body[1] + angular * value)?
 unfoldable pub pushed : Generalized → Vec3 → Vec3 → Float → Result Generalized
 pushed body linear angular value = do
   l ← tryFinite (addOf (body .linear) (scaleOf linear value))
   a ← tryFinite (addOf (body .angular) (scaleOf angular value))
   go (record { linear = l; angular = a })
 
--- out[index]
-unfoldable pub pushInto : ℕ → Vec3 → Vec3 → Float → List Generalized → Result (List Generalized)
+unfoldable pub pushInto : ℕ → Vec3 → Vec3 → Float → List Generalized → Result (List Generalized)  -- out[index]
 pushInto index linear angular value out = do
   body ← pushed (generalizedIn out index) linear angular value
   go (set out index body)
@@ -90,8 +54,7 @@ noShare = record { linear = zeroVec; angular = zeroVec }
 unfoldable pub transpose : List EqualityRow → List Float → ℕ → Result (List Generalized)
 transpose rows values bodies = loop (length rows) (λ k out. pushRow (rowIn rows k) (at values k) out) (replicate bodies noShare)
 
--- ---- fn operator
--- value[0] = finite(value[0] * mass.linear)?; value[1] = finite(mass.angular * value[1])?
+-- ---- fn operator: value[0] = finite(value[0] * mass.linear)?; value[1] = finite(mass.angular * value[1])?
 unfoldable pub scaled : Generalized → MassResponse → Result Generalized
 scaled value mass = do
   l ← tryFinite (scaleOf (value .linear) (mass .linear))
@@ -108,64 +71,53 @@ rate row a b =
 
 -- a = generalized[row.a]; b = generalized[row.b]; the rate, if finite
 abbrev pub rates : List EqualityRow → ℕ → List Generalized → Result (List Float)
-rates rows n moved = each n λ k.
-    tryNumber (rate (rowIn rows k) (generalizedIn moved (rowIn rows k .a)) (generalizedIn moved (rowIn rows k .b)))
+rates rows n moved = each n λ k. tryNumber (rate (rowIn rows k) (generalizedIn moved (rowIn rows k .a)) (generalizedIn moved (rowIn rows k .b)))
 
 unfoldable pub operator : System → List Float → Result (List Float)
-operator system input =
-    let bodies : ℕ = length (system .masses) in do
-      generalized ← transpose (system .rows) input bodies
-      moved ← scaleAll generalized (system .masses) bodies
-      rates (system .rows) (rowsIn system) moved
+operator system input = do
+  let bodies = length (system .masses)
+  generalized ← transpose (system .rows) input bodies
+  moved ← scaleAll generalized (system .masses) bodies
+  rates (system .rows) (rowsIn system) moved
 
--- ---- fn cross_mass
--- mass.linear * al.dot(bl) + aa.dot(mass.angular * ba)
+-- ---- fn cross_mass: mass.linear * al.dot(bl) + aa.dot(mass.angular * ba)
 unfoldable pub through : MassResponse → Vec3 → Vec3 → Vec3 → Vec3 → Float
 through mass al aa bl ba = mass .linear ⊗ dotOf al bl ⊕ dotOf aa (applyOf (mass .angular) ba)
 
--- if ai == bi { value += .. }
-abbrev pub addThrough : List MassResponse → ℕ → Vec3 → Vec3 → ℕ → Vec3 → Vec3 → Float → Float
+abbrev pub addThrough : List MassResponse → ℕ → Vec3 → Vec3 → ℕ → Vec3 → Vec3 → Float → Float  -- if ai == bi { value += .. }
 addThrough masses ai al aa bi bl ba value = cond (eqb ai bi) (value ⊕ through (massIn masses ai) al aa bl ba) value
 
--- one end of row a against both ends of row b
-unfoldable pub crossEnd : List MassResponse → ℕ → Vec3 → Vec3 → EqualityRow → Float → Float
+unfoldable pub crossEnd : List MassResponse → ℕ → Vec3 → Vec3 → EqualityRow → Float → Float  -- one end of row a against both ends of row b
 crossEnd masses ai al aa b value =
     addThrough masses ai al aa (b .b) (b .«linear_b») (b .«angular_b»)
     (addThrough masses ai al aa (b .a) (b .«linear_a») (b .«angular_a») value)
 
 unfoldable pub crossMass : EqualityRow → EqualityRow → List MassResponse → Result Float
-crossMass a b masses =
-    tryNumber
+crossMass a b masses = tryNumber
     (crossEnd masses (a .b) (a .«linear_b») (a .«angular_b») b
     (crossEnd masses (a .a) (a .«linear_a») (a .«angular_a») b (ratio 0 1)))
 
--- ---- loops over whole vectors
--- x[i] += alpha * d[i]
+-- ---- loops over whole vectors: x[i] += alpha * d[i], x[i] -= alpha * d[i], a[i] - b[i]
 unfoldable pub plus : List Float → Float → List Float → List Float
 plus x alpha d = tab (length x) (λ i. at x i ⊕ alpha ⊗ at d i)
 
--- x[i] -= alpha * d[i]
 unfoldable pub minus : List Float → Float → List Float → List Float
 minus x alpha d = tab (length x) (λ i. at x i ⊖ alpha ⊗ at d i)
 
--- a[i] - b[i]
 unfoldable pub difference : List Float → List Float → List Float
 difference a b = tab (length a) (λ i. at a i ⊖ at b i)
 
--- dot(&residual, &residual)?.sqrt() <= tolerance
-unfoldable pub within : List Float → Float → Result Bool
+unfoldable pub within : List Float → Float → Result Bool  -- dot(&residual, &residual)?.sqrt() <= tolerance
 within residual tolerance = do
   square ← dot residual residual
   go (Ieee.le (sqrt binary64 square) tolerance)
 
--- scale * (1.0 + dot(&rhs, &rhs)?.sqrt())
-unfoldable pub toleranceFor : Float → List Float → Result Float
+unfoldable pub toleranceFor : Float → List Float → Result Float  -- scale * (1.0 + dot(&rhs, &rhs)?.sqrt())
 toleranceFor scale rhs = do
   square ← dot rhs rhs
   go (scale ⊗ (ratio 1 1 ⊕ sqrt binary64 square))
 
--- ---- what goes from pass to pass
--- self.solution, self.residual, self.direction, and `norm` in least squares, `rho` in the gradients.
+-- ---- what goes from pass to pass: self.solution, self.residual, self.direction, and `norm` in least squares, `rho` in the gradients.
 pub record Search : Type 0 where
   pub solution : List Float
   pub residual : List Float
@@ -185,25 +137,18 @@ pub record Prepared : Type 0 where
   pub direction : List Float
   pub rho : Float
 
--- the diagonal, the first direction and rho, row by row
-unfoldable pub prepareRow : System → List Float → ℕ → Prepared → Result Prepared
-prepareRow system residual i p =
-    let row : EqualityRow = rowIn (system .rows) i in
-    let d : Float = diagonalOf row (massIn (system .masses) (row .a)) (massIn (system .masses) (row .b)) in
-    let x : Float = at residual i ⊘ d in do
-      _ ← returnIf (not (isFinite d) || Ieee.le d (ratio 0 1)) nonConvergent
-      go (record {
-        diagonal = p .diagonal ++ (d ∷ []);
-        direction = p .direction ++ (x ∷ []);
-        rho = p .rho ⊕ at residual i ⊗ x;
-      })
+unfoldable pub prepareRow : System → List Float → ℕ → Prepared → Result Prepared  -- the diagonal, the first direction and rho, row by row
+prepareRow system residual i p = do
+  let row = rowIn (system .rows) i
+  let d = diagonalOf row (massIn (system .masses) (row .a)) (massIn (system .masses) (row .b))
+  let x = at residual i ⊘ d
+  _ ← returnIf (not (isFinite d) || Ieee.le d (ratio 0 1)) nonConvergent
+  go (record { diagonal = p .diagonal ++ (d ∷ []); direction = p .direction ++ (x ∷ []); rho = p .rho ⊕ at residual i ⊗ x })
 
 unfoldable pub prepare : System → List Float → Result Prepared
-prepare system residual =
-    loop (rowsIn system) (prepareRow system residual) (record { diagonal = []; direction = []; rho = ratio 0 1 })
+prepare system residual = loop (rowsIn system) (prepareRow system residual) (record { diagonal = []; direction = []; rho = ratio 0 1 })
 
--- The residual, recomputed where the recurrence says success, and whether it is one.
-pub record Tested : Type 0 where
+pub record Tested : Type 0 where  -- The residual, recomputed where the recurrence says success, and whether it is one.
   pub residual : List Float
   pub solved : Bool
 
@@ -217,26 +162,16 @@ trueResidual system rhs tolerance solution residual = do
         go (record { residual = difference rhs product; solved = near }))
       (go (record { residual = residual; solved = false }))
 
--- the sum of r * r / d
-unfoldable pub scaledSquare : List Float → List Float → Float
-scaledSquare residual diagonal =
-    turns (λ k sum. sum ⊕ at residual k ⊗ at residual k ⊘ at diagonal k) (length residual) (ratio 0 1)
+unfoldable pub scaledSquare : List Float → List Float → Float  -- the sum of r * r / d
+scaledSquare residual diagonal = turns (λ k sum. sum ⊕ at residual k ⊗ at residual k ⊘ at diagonal k) (length residual) (ratio 0 1)
 
--- residual[i] / diagonal[i] + beta * direction[i]
-unfoldable pub nextDirection : List Float → List Float → Float → List Float → List Float
-nextDirection residual diagonal beta direction =
-    tab (length residual) (λ i. at residual i ⊘ at diagonal i ⊕ beta ⊗ at direction i)
+unfoldable pub nextDirection : List Float → List Float → Float → List Float → List Float  -- residual[i] / diagonal[i] + beta * direction[i]
+nextDirection residual diagonal beta direction = tab (length residual) (λ i. at residual i ⊘ at diagonal i ⊕ beta ⊗ at direction i)
 
--- the first half of a pass: along the direction as far as the curvature says
-unfoldable pub advance : System → Search → Result Search
+unfoldable pub advance : System → Search → Result Search  -- the first half of a pass: along the direction as far as the curvature says
 advance system s = do
   product ← operator system (s .direction)
   curvature ← dot (s .direction) product
   _ ← returnIf (Ieee.le curvature (ratio 0 1) || not (isFinite (s .rho))) nonConvergent
-  let alpha : Float = s .rho ⊘ curvature in
-      go (record {
-        solution = plus (s .solution) alpha (s .direction);
-        residual = minus (s .residual) alpha product;
-        direction = s .direction;
-        rho = s .rho;
-      })
+  let alpha = s .rho ⊘ curvature
+  go (record { solution = plus (s .solution) alpha (s .direction); residual = minus (s .residual) alpha product; direction = s .direction; rho = s .rho })

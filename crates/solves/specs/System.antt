@@ -1,11 +1,9 @@
 -- What a linear solve is about: the rows, and the mass response of each body.
-use Prim.Native.Nat.{ℕ}
-use mathlib.Core.List.{List, [], _∷_}
-use lib.ListN.{length}
+use Rattle.solves.specs.Words.{ℕ, List, [], _∷_, length, EqualityRow, Fault, MassResponse}
 use Rattle.arith.specs.Run.{Run}
-use Rattle.rows.specs.declared.geometry.EqualityRow.{EqualityRow}
-use Rattle.rows.specs.Fault.{Fault}
-use Rattle.solves.specs.declared.places.MassResponse.{MassResponse}
+
+abbrev pub BODIES-MOST : ℕ  -- the most bodies of a solve
+BODIES-MOST = 16
 
 pub record System : Type 0 where
   pub rows : List EqualityRow
@@ -14,11 +12,9 @@ pub record System : Type 0 where
 abbrev pub rowsIn : System → ℕ
 rowsIn system = length (system .rows)
 
--- the bodies that rows join, on one side
-unfoldable pub sideOf : (EqualityRow → ℕ) → List EqualityRow → List ℕ
+unfoldable pub sideOf : (EqualityRow → ℕ) → List EqualityRow → List ℕ  -- the bodies that rows join, on one side
 sideOf side [] = []
 sideOf side (row ∷ rows) = side row ∷ sideOf side rows
 
--- a run that may fail as the Rust does
-abbrev pub Counting : Type 0 → Type 0
+abbrev pub Counting : Type 0 → Type 0  -- a run that may fail as the Rust does
 Counting A = Run A Fault

@@ -15,9 +15,9 @@ use Rattle.solves.specs.declared.places.Generalized.{Generalized}
 use Rattle.solves.specs.declared.places.MassResponse.{MassResponse}
 use Rattle.solves.specs.declared.Table.{Table}
 use Rattle.solves.specs.Region.{Filled}
-use Rattle.solves.specs.Solver.{noShare, noRow, noGeneralized, noMass, rowIn, generalizedIn, massIn}
+use Rattle.solves.specs.Solver.{noShare, rowIn, generalizedIn, massIn}
 use Rattle.solves.specs.View.{rowOn, rowsOn, generalizedAt, generalizedsAt, massAt, massesAt, systemOn, Beside, Moves, Passing, Testing}
-use Rattle.solves.specs.View.{Refining, Work, Tables, ROWS, RHS, ROWS-MOST, BODIES-MOST, MASSES, SOLUTION}
+use Rattle.solves.specs.View.{Refining, Work, Tables, ROWS, RHS, ROWS-MOST, BODIES-MOST, MASSES, SOLUTION, noRow, noGeneralized, noMass}
 use Rattle.solves.specs.View.{RESIDUAL, DIRECTION, PRODUCT, DIAGONAL, NORMAL, GENERALIZED, PATH-BAND, PATH-SCALE, PATH-RHS, VECTOR, SHARES, BAND, END}
 
 -- views that a write keeps, and elements of them

@@ -16,7 +16,8 @@ use Rattle.rows.specs.declared.body.MomentumBody.{MomentumBody}
 use Rattle.rows.specs.View.{at, vec3At, Out, Kept}
 use Rattle.rows.specs.Region.{kept-set, kept-refl, kept-then, kept-more, kept-vec3}
 use Rattle.step.specs.Layout.{START, CANDIDATE}
-use Rattle.step.specs.Records.{quatAt, matAt, recordFrom, stateAt}
+use Rattle.step.specs.Records.{quatAt, matAt, recordFrom}
+use Rattle.step.specs.View.{stateAt}
 use Rattle.step.specs.ViewLaws.{kept-quat, kept-mat, kept-state}
 use Rattle.step.specs.View.{colsOf, Moving, Fixed, movingAt, movingOf, fixedAt, fixedOf, bodyFrom, startBodyAt, candidateAt, heldOf, movedTo, Handed}
 

@@ -34,12 +34,12 @@ use Rattle.step.specs.declared.Outcome.{Outcome}
 use Rattle.step.specs.declared.Outcome.the-variants as Outcomes
 use Rattle.step.specs.declared.passes.Ran.{Ran}
 use Rattle.step.specs.Layout.{CANDIDATE, STATES, SCRATCH, USED}
-use Rattle.step.specs.Records.{bodyCount, stateAt}
+use Rattle.step.specs.Records.{bodyCount}
 use Rattle.step.specs.Checks.{withinOf}
-use Rattle.step.specs.View.{candidatesAt, statesAt, Handed}
+use Rattle.step.specs.View.{candidatesAt, statesAt, Handed, stateAt, noState}
 use Rattle.step.specs.ViewLaws.{kept-candidates}
 use Rattle.step.specs.BackLaws.{handed-back}
-use Rattle.step.specs.Bodies.{Job, Started, startOf, prepareMasses, statesOf, noState, stateIn}
+use Rattle.step.specs.Bodies.{Job, Started, startOf, prepareMasses, statesOf, stateIn}
 use Rattle.step.specs.Step.{nonlinearLoop, velocityLoop, finishOf, runOf, Stepped, stepped, grounded, cleared, settledAs, settled}
 use Rattle.step.specs.RunView.{startedAt, foundAt, Sides, candidateTable, Trying, Correcting, leftAs}
 use Rattle.step.proofs.PassLaws.{failed-as}

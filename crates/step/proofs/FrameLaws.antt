@@ -9,9 +9,9 @@ use Rattle.rows.specs.declared.body.MomentumBody.{MomentumBody}
 use Rattle.rows.specs.View.{Kept}
 use Rattle.rows.specs.Region.{Over, tab-at}
 use Rattle.step.specs.Layout.{START, CANDIDATE, BODIES, STATES}
-use Rattle.step.specs.View.{startBodyAt, candidateAt, startBodiesAt, candidatesAt}
+use Rattle.step.specs.View.{startBodyAt, candidateAt, startBodiesAt, candidatesAt, noBody}
 use Rattle.step.specs.ViewLaws.{kept-start, kept-candidate}
-use Rattle.step.specs.Bodies.{noBody, bodyIn}
+use Rattle.step.specs.Bodies.{bodyIn}
 use Rattle.step.specs.RunView.{bodiesAt}
 
 module _ {P : ℕ → Type 0} {s t : List Float} (kept : Kept P s t) where

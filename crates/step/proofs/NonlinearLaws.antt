@@ -8,7 +8,8 @@ use lib.ListN.{length, replicate, length-replicate, getD-replicate}
 use lib.Ieee.{Float, nan}
 use Rattle.arith.specs.Real.{ratio}
 use Rattle.arith.specs.Flow.{Turn, go, stop, tab}
-use Rattle.arith.specs.Run.{ran, over, upTo}
+use Rattle.arith.specs.Run.{ran, upTo}
+use Rattle.arith.specs.RunLaws.{over}
 use Rattle.rows.specs.Fault.{nonConvergent, Result}
 use Rattle.rows.specs.View.{Kept}
 use Rattle.rows.specs.Region.{tab-length, is-tab, kept-then, kept-more}

@@ -15,7 +15,8 @@ use Rattle.rows.specs.declared.geometry.EqualityRow.{EqualityRow}
 use Rattle.rows.specs.declared.geometry.Written.{Written}
 use Rattle.rows.specs.declared.geometry.Written.the-variants as Written
 use Rattle.rows.specs.Fault.{Fault, nonConvergent, arithmeticOverflow, Result}
-use Rattle.rows.specs.Geometry.{rowCount, writeEqualityRows}
+use Rattle.rows.specs.Geometry.{writeEqualityRows}
+use Rattle.rows.specs.Count.{rowCount}
 use Rattle.rows.specs.View.{rowAt, Out, Kept}
 use Rattle.rows.specs.Answer.{writtenAs, Writes}
 use Rattle.rows.specs.Region.{count-most, tab-ext, kept-refl, kept-then, kept-row}

@@ -32,17 +32,17 @@ use Rattle.solves.specs.declared.places.Generalized.{Generalized}
 use Rattle.solves.specs.declared.places.MassResponse.{MassResponse}
 use Rattle.solves.specs.Region.{vecAt, Filled, Does}
 use Rattle.solves.specs.RegionLaws.{vec-at, filled-vec, filled-more}
-use Rattle.solves.specs.Solver.{noRow, rowIn, generalizedIn, tryNumber}
+use Rattle.solves.specs.Solver.{rowIn, generalizedIn, tryNumber}
 use Rattle.solves.specs.DoesLaws.{number-yes, number-no}
 use Rattle.solves.specs.Layout.{MASS-TABLE}
-use Rattle.solves.specs.View.{ROWS, MASSES, RHS, SOLUTION, GENERALIZED, rowOn, rowsOn, generalizedAt, generalizedsAt, massOf, massAt, massesAt, Beside}
+use Rattle.solves.specs.View.{ROWS, MASSES, RHS, SOLUTION, GENERALIZED, rowOn, rowsOn, generalizedAt, generalizedsAt, massOf, massAt, massesAt, Beside, noRow}
 use Rattle.step.specs.Layout.{IMPULSES, START, CANDIDATE, BODIES, STATES}
 use Rattle.solves.specs.ViewLaws.{share-in, masses-more}
 use Rattle.step.specs.declared.integrator.MassAnswer.{MassAnswer}
-use Rattle.step.specs.Records.{recordAt, recordsOf, bodyCount, stateAt}
-use Rattle.step.specs.View.{colsOf, startBodyAt, candidateAt, startBodiesAt, candidatesAt, statesAt, heldOf, movedTo}
+use Rattle.step.specs.Records.{recordAt, recordsOf, bodyCount}
+use Rattle.step.specs.View.{colsOf, startBodyAt, candidateAt, startBodiesAt, candidatesAt, statesAt, heldOf, movedTo, stateAt, noRecord}
 use Rattle.step.specs.ViewLaws.{kept-start, kept-candidate, kept-state}
-use Rattle.step.specs.Bodies.{noRecord, bodyIn, recordIn, startBodies, massResponse, prepareMasses, kickAndDrift, moveBodies, rowsMet, rhsOf, addImpulses, statesOf}
+use Rattle.step.specs.Bodies.{bodyIn, recordIn, startBodies, massResponse, prepareMasses, kickAndDrift, moveBodies, rowsMet, rhsOf, addImpulses, statesOf}
 use Rattle.step.specs.RunView.{bodiesAt, massAs}
 use Rattle.step.proofs.FrameLaws.{candidate-in, start-in, body-in}
 use Rattle.step.proofs.EachLaws.{so-none, so-more, so-put, so-stop, so-end}

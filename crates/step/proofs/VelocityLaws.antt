@@ -10,7 +10,8 @@ use lib.Ieee.{Float, ofBits, round}
 use Rattle.arith.specs.Real.{F, ratio, isFinite, absOf, _⊕_}
 use Rattle.arith.specs.Flow.{Turn, go, stop, _>>=_, each, every}
 use Rattle.arith.specs.FlowLaws.{then-go, then-stop, every-fail, every-end}
-use Rattle.arith.specs.Run.{ran, over, leave, upTo}
+use Rattle.arith.specs.Run.{ran, leave, upTo}
+use Rattle.arith.specs.RunLaws.{over}
 use Rattle.vectors.specs.declared.vector.Vec3.{Vec3}
 use Rattle.vectors.specs.declared.vector.OptionVec3.{OptionVec3}
 use Rattle.vectors.specs.declared.vector.OptionVec3.the-variants.{Some, None}

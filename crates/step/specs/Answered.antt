@@ -1,23 +1,11 @@
 -- What a step says: its answer is the definition's, and the joints of an accepted step are met by the records that it hands back.
 -- SPECIFICATION §0, demands 1, 2 and 3.
-use Prim.Native.Nat.{ℕ, _≤_, _<_}
-use mathlib.Core.Path.{_≡_}
-use mathlib.Core.List.{List}
-use lib.ListN.{length}
-use lib.Ieee.{Float}
-use Rattle.arith.specs.Flow.{stop}
-use Rattle.rows.specs.declared.geometry.Joint.{Joint}
-use Rattle.rows.specs.Fault.{Fault, number}
-use Rattle.rows.specs.ExactGeometry.{Place, recordPlace, Met, Stands, Proper}
-use Rattle.step.specs.declared.Outcome.the-variants.{Accepted}
-use Rattle.step.specs.declared.Report.{Report}
-use Rattle.step.specs.Layout.{SCRATCH}
-use Rattle.step.specs.Records.{recordAt, bodyCount}
+use Rattle.step.specs.Words.{ℕ, _≤_, _<_, List, _≡_, length, Float, stop, Joint, Fault, number, Place, recordPlace, Met, Stands, Proper, Accepted, Report}
+use Rattle.step.specs.Records.{SCRATCH, recordAt, bodyCount}
 use Rattle.step.specs.Checks.{numberOf, jointIn, refusalOf}
 use Rattle.step.specs.Step.{stepped, runFor, cleared, solveOf}
 
--- the first 6,144 doubles are +0, the others as they were
-abbrev pub Zeroed : List Float → List Float → Type 0
+abbrev pub Zeroed : List Float → List Float → Type 0  -- the first 6,144 doubles are +0, the others as they were
 Zeroed scratch left = (SCRATCH ≤ length scratch) × (left ≡ cleared scratch)
 
 -- what is said of a joint and the places of the two records that it joins

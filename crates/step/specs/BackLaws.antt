@@ -16,10 +16,10 @@ use Rattle.rows.specs.declared.body.BodyState.{BodyState}
 use Rattle.rows.specs.View.{at}
 use Rattle.rows.specs.Region.{tab-length, tab-at}
 use Rattle.step.specs.Layout.{RECORD, MOVING, CANDIDATE}
-use Rattle.step.specs.Records.{bodyCount, stateAt}
-use Rattle.step.specs.View.{statesAt, Handed}
+use Rattle.step.specs.Records.{bodyCount}
+use Rattle.step.specs.View.{statesAt, Handed, stateAt, noState}
 use Rattle.step.specs.ViewLaws.{state-at, handed-new, handed-old}
-use Rattle.step.specs.Bodies.{noState, stateIn}
+use Rattle.step.specs.Bodies.{stateIn}
 use Rattle.step.specs.Step.{stateDoubles, handBack}
 
 -- the 13 doubles of the state at i are those at i, and a state is known by its 13

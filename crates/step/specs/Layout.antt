@@ -5,17 +5,8 @@
 --     START       BODIES     `start_bodies`
 --     CANDIDATE   STATES     `move_bodies`, `kick_candidates`; at the end `make_states`, which puts the states there
 use Prim.Native.Nat.{ℕ, _+_, _*_}
+pub use Rattle.step.specs.Records.{RECORD, MOVING, SCRATCH}
 use Rattle.solves.specs.Layout.{BODIES-MOST, VECTOR, END}
-
--- the doubles of a body's record, those of them that move, and the doubles of scratch that a step asks for (SPECIFICATION §6.1 and §7)
-abbrev pub RECORD : ℕ
-RECORD = 26
-
-abbrev pub MOVING : ℕ
-MOVING = 13
-
-abbrev pub SCRATCH : ℕ
-SCRATCH = 6144
 
 -- sizes: the bodies at the start, and what moves of the candidates
 abbrev pub BODIES : ℕ

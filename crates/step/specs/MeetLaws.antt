@@ -27,16 +27,17 @@ use Rattle.rows.specs.ExactGeometry.{statePlace, Met, Stands, Proper}
 use Rattle.rows.specs.Laws.RowsIn.{Each, rows-met, rows-each}
 use Rattle.rows.specs.Laws.Met.{MotionsIn, stands, met}
 use Rattle.rows.specs.Laws.Frames.{proper}
-use Rattle.solves.specs.Solver.{noRow}
+use Rattle.solves.specs.View.{noRow}
 use Rattle.step.specs.declared.Outcome.{Outcome}
 use Rattle.step.specs.declared.Outcome.the-variants.{Accepted, Ground}
 use Rattle.step.specs.declared.Report.{Report}
 use Rattle.step.specs.Layout.{RECORD}
-use Rattle.step.specs.Records.{recordAt, bodyCount, recordsOf, stateAt}
+use Rattle.step.specs.Records.{recordAt, bodyCount, recordsOf}
+use Rattle.step.specs.View.{stateAt, noState, noRecord}
 use Rattle.step.specs.Checks.{numberOf, withinOf, massInRange, bodyInRange, frameOk, motionsOk, jointIn, refusalOf, isAccepted}
 use Rattle.step.specs.CheckLaws.{Ready, number-zero, refused-number, accepted}
 use Rattle.step.specs.NumberLaws.{motions-finite, within-table}
-use Rattle.step.specs.Bodies.{noState, noRecord, bodyIn, recordIn, stateIn, jointRows, writeRows, rowsMet, statesOf}
+use Rattle.step.specs.Bodies.{bodyIn, recordIn, stateIn, jointRows, writeRows, rowsMet, statesOf}
 use Rattle.step.specs.Step.{Stepped, stepped, faultOutcome, grounded, handBack, cleared, settledAs, settled, jobOf, runFor, solveOf}
 use Rattle.step.specs.BackLaws.{back-length, back-state}
 use Rattle.step.specs.TurnLaws.{each-at}

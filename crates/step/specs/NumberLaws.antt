@@ -14,7 +14,11 @@ use Rattle.arith.specs.Real.{ratio, isFinite, absOf}
 use Rattle.arith.specs.Angle.{PI}
 use Rattle.arith.specs.Laws.Magnitude.{finite-same}
 use Rattle.vectors.specs.Laws.Tests.{both, abs-limit}
+use Rattle.vectors.specs.Vector.{vec}
+use Rattle.vectors.specs.Quaternion.{quat}
+use Rattle.rows.specs.declared.geometry.JointFrame.{JointFrame}
 use Rattle.rows.specs.declared.geometry.Joint.{Joint}
+use Rattle.rows.specs.declared.geometry.Kind.the-variants.{Ball}
 use Rattle.rows.specs.declared.geometry.Cone.{Cone}
 use Rattle.rows.specs.declared.geometry.Turning.{Turning}
 use Rattle.rows.specs.declared.geometry.Turning.the-variants as Turns
@@ -22,7 +26,7 @@ use Rattle.rows.specs.declared.geometry.Motions.{Motions}
 use Rattle.rows.specs.declared.geometry.Motions.the-variants.{Rod, Frame}
 use Rattle.rows.specs.ExactGeometry.{turningFinite, motionsFinite}
 use Rattle.rows.specs.Laws.Rods.{length-in}
-use Rattle.step.specs.Checks.{swingOk, twistOk, coneOk, turningOk, motionsOk, jointOk, noJoint, jointIn}
+use Rattle.step.specs.Checks.{swingOk, twistOk, coneOk, turningOk, motionsOk, jointOk, jointIn}
 
 -- ---- the numbers of a kind
 tested : (x : Float) → T (finite x) → T (isFinite x)
@@ -80,6 +84,11 @@ motions-finite (Rod length) t = tested length (length-in length t .0)
 motions-finite (Frame linear turning) t = turning-finite turning t
 
 -- ---- the table's end
+abbrev noJoint : Joint
+noJoint =
+    let frame : JointFrame = record { «local_anchor» = vec nan nan nan; «local_rotation» = quat nan nan nan nan } in
+    record { «body_a» = 0; «body_b» = 0; «frame_a» = frame; «frame_b» = frame; kind = Ball }
+
 past-end-refused : jointOk noJoint ≡ true → ⊥
 unfolding isFinite
 past-end-refused e = subst T (sym e) tt

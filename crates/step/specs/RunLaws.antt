@@ -21,7 +21,8 @@ use Rattle.rows.specs.Laws.SamePlace.{SamePlace, same-place, same-then, kick-pl
 use Rattle.solves.specs.declared.places.Generalized.{Generalized}
 use Rattle.solves.specs.System.{System}
 use Rattle.solves.specs.Search.{linearSolve}
-use Rattle.step.specs.Bodies.{Job, noBody, bodyIn, recordIn, startBodies, writeRows, Started, startOf, Found, kickAndDrift, moveBodies, rowsMet, rhsOf, addImpulses, candidateOf, kickBodies, reactionOf, statesOf}
+use Rattle.step.specs.Bodies.{Job, bodyIn, recordIn, startBodies, writeRows, Started, startOf, Found, kickAndDrift, moveBodies, rowsMet, rhsOf, addImpulses, candidateOf, kickBodies, reactionOf, statesOf}
+use Rattle.step.specs.View.{noBody}
 use Rattle.step.specs.Step.{nonlinearPass, nonlinearLoop, velocityPass, velocityLoop, finishOf, runOf}
 use Rattle.step.specs.TurnLaws.{each-at, went-on, goes-with}
 

@@ -13,7 +13,7 @@ use Rattle.rows.specs.declared.geometry.Joint.{Joint}
 use Rattle.rows.specs.declared.geometry.EqualityRow.{EqualityRow}
 use Rattle.rows.specs.Fault.{arithmeticOverflow, Result, vectorOr}
 use Rattle.rows.specs.Body.{omegaOf}
-use Rattle.rows.specs.Geometry.{rowCount}
+use Rattle.rows.specs.Count.{rowCount}
 use Rattle.rows.specs.View.{Out}
 use Rattle.rows.specs.declared.End.{End}
 use Rattle.solves.specs.declared.Pass.the-variants as Passes

@@ -1,32 +1,16 @@
 -- ConstrainedIntegrator::solve of solver.rs over plain values, pass by pass, with the refusals and the ground of SPECIFICATION §7 and §11.
 -- In a `do` block `x ← e` is `let x = e?` with the passes that it counted; `try` marks what counts none, `begin` is `nonlinear_iterations = iteration + 1`.
 -- Bodies.antt has the parts that count nothing, solves/specs/Search.antt the linear solves.
-use Prim.Native.Nat.{ℕ, _/_, _%_}
-use mathlib.Core.List.{List, [], _∷_, _++_}
-use mathlib.Core.Bool.{Bool, cond}
-use lib.Dec.{ltb, leb}
-use lib.ListN.{length, drop, replicate}
-use lib.Ieee.{Float}
-use Rattle.arith.specs.Real.{ratio}
-use Rattle.arith.specs.Flow.{Turn, go, stop, tab, every}
+use Rattle.step.specs.Words.{ℕ, _/_, _%_, List, [], _++_, _∷_, Bool, cond, length, drop, replicate, Float, ltb, leb, tab, every, go, stop, Turn, ratio}
+use Rattle.step.specs.Words.{at, RigidBody, Joint, BodyState, MomentumBody, arithmeticOverflow, Fault, nonConvergent, System, rowsIn, Counting}
+use Rattle.step.specs.Words.{linearSolve, Outcome}
 use Rattle.arith.specs.Run.{_>>=_, _>>_, try, begin, again, leaveIf, upTo}
-use Rattle.rows.specs.declared.body.RigidBody.{RigidBody}
-use Rattle.rows.specs.declared.body.BodyState.{BodyState}
-use Rattle.rows.specs.declared.body.MomentumBody.{MomentumBody}
-use Rattle.rows.specs.declared.geometry.Joint.{Joint}
-use Rattle.rows.specs.Fault.{Fault, nonConvergent, arithmeticOverflow}
-use Rattle.rows.specs.View.{at}
-use Rattle.solves.specs.System.{System, rowsIn, Counting}
-use Rattle.solves.specs.Search.{linearSolve}
-use Rattle.step.specs.declared.Outcome.{Outcome}
-use Rattle.step.specs.declared.Outcome.the-variants as Outcomes
-use Rattle.step.specs.Layout.{RECORD, MOVING, SCRATCH}
-use Rattle.step.specs.Records.{bodyCount, recordsOf}
+use Rattle.step.specs.Records.{RECORD, MOVING, SCRATCH, bodyCount, recordsOf}
 use Rattle.step.specs.Checks.{withinOf, refusalOf, isAccepted}
-use Rattle.step.specs.Bodies.{Job, Started, startOf, Found, rowsMet, rhsOf, addImpulses, candidateOf, velocityRhs, compatibleOf, reactionOf, prepareMasses, statesOf, stateIn}
+use Rattle.step.specs.Bodies.{Job, Started, startOf, Found, rowsMet, rhsOf, addImpulses, candidateOf, velocityRhs, compatibleOf, reactionOf}
+use Rattle.step.specs.Bodies.{prepareMasses, statesOf, stateIn}
 
--- ---- the run
--- for iteration in 0..32: candidates from the starting bodies, and where their rows are not met a correction along the starting rows
+-- ---- the run. For iteration in 0..32: candidates from the starting bodies, and where their rows are not met a correction along the starting rows
 unfoldable pub nonlinearPass : Job → Started → List Float → Counting (Turn (List Float) Found)
 nonlinearPass job start impulses = do
   begin
@@ -51,8 +35,7 @@ velocityPass cyclic system candidate = do
 unfoldable pub velocityLoop : Bool → System → List MomentumBody → Counting (List MomentumBody)
 velocityLoop cyclic system candidate = upTo 3 nonConvergent (velocityPass cyclic system) candidate
 
--- after the rows were met
-unfoldable pub finishOf : Bool → List RigidBody → Found → Counting (List BodyState)
+unfoldable pub finishOf : Bool → List RigidBody → Found → Counting (List BodyState)  -- after the rows were met
 finishOf cyclic bodies found = do
   masses ← try (prepareMasses (found .candidate))
   candidate ← velocityLoop cyclic (record { rows = found .rows; masses = masses }) (found .candidate)
@@ -64,15 +47,13 @@ runOf job bodies = do
   found ← nonlinearLoop job start
   finishOf (job .cyclic) bodies found
 
--- of a plan: cyclic where joints.len() >= bodies.len()
-abbrev pub jobOf : List Float → List Joint → ℕ → Float → Job
+abbrev pub jobOf : List Float → List Joint → ℕ → Float → Job  -- of a plan: cyclic where joints.len() >= bodies.len()
 jobOf bodies joints count dt = record { joints = joints; count = count; dt = dt; cyclic = leb (bodyCount bodies) count }
 
 abbrev pub runFor : List Float → List Joint → ℕ → Float → Counting (List BodyState)
 runFor bodies joints count dt = runOf (jobOf bodies joints count dt) (recordsOf bodies)
 
--- ---- the step
--- what a step leaves: its answer, both counts, the bodies and the scratch
+-- ---- the step. What it leaves: its answer, both counts, the bodies and the scratch
 pub record Stepped : Type 0 where
   pub outcome : Outcome
   pub nonlinear : ℕ
@@ -81,52 +62,38 @@ pub record Stepped : Type 0 where
   pub scratch : List Float
 
 abbrev pub stepped : Outcome → ℕ → ℕ → List Float → List Float → Stepped
-stepped outcome nonlinear linear bodies scratch = record {
-  outcome = outcome;
-  nonlinear = nonlinear;
-  linear = linear;
-  bodies = bodies;
-  scratch = scratch;
-}
+stepped outcome nonlinear linear bodies scratch = record { outcome = outcome; nonlinear = nonlinear; linear = linear; bodies = bodies; scratch = scratch }
 
--- 10 and 11
-abbrev pub faultOutcome : Fault → Outcome
-faultOutcome nonConvergent = Outcomes.NonConvergent
-faultOutcome arithmeticOverflow = Outcomes.ArithmeticOverflow
+abbrev pub faultOutcome : Fault → Outcome  -- refusals 10 and 11
+faultOutcome nonConvergent = Outcome.NonConvergent
+faultOutcome arithmeticOverflow = Outcome.ArithmeticOverflow
 
--- 12: no coordinate of an origin above 8192 in magnitude
-unfoldable pub grounded : List BodyState → Bool
+unfoldable pub grounded : List BodyState → Bool  -- refusal 12: no coordinate of an origin above 8192 in magnitude
 grounded states = every (length states) (λ k. withinOf (stateIn states k .origin) (ratio 8192 1))
 
--- the 13 doubles of a state
-abbrev pub stateDoubles : BodyState → List Float
+abbrev pub stateDoubles : BodyState → List Float  -- the 13 doubles of a state
 stateDoubles s =
-    s .origin .x ∷ s .origin .y ∷ s .origin .z
-    ∷ s .rotation .x ∷ s .rotation .y ∷ s .rotation .z ∷ s .rotation .w
+    s .origin .x ∷ s .origin .y ∷ s .origin .z ∷ s .rotation .x ∷ s .rotation .y ∷ s .rotation .z ∷ s .rotation .w
     ∷ s .«linear_velocity» .x ∷ s .«linear_velocity» .y ∷ s .«linear_velocity» .z
-    ∷ s .«angular_velocity» .x ∷ s .«angular_velocity» .y ∷ s .«angular_velocity» .z
-    ∷ []
+    ∷ s .«angular_velocity» .x ∷ s .«angular_velocity» .y ∷ s .«angular_velocity» .z ∷ []
 
--- each record of 26 doubles begins with its state; the other 13 stay
-unfoldable pub handBack : List Float → List BodyState → List Float
+unfoldable pub handBack : List Float → List BodyState → List Float  -- each record of 26 doubles begins with its state; the other 13 stay
 handBack bodies states = tab (length bodies) (λ i.
     cond (ltb (i % RECORD) MOVING) (at (stateDoubles (stateIn states (i / RECORD))) (i % RECORD)) (at bodies i))
 
--- the first 6,144 doubles are +0, the others are as they were
-unfoldable pub cleared : List Float → List Float
+unfoldable pub cleared : List Float → List Float  -- the first 6,144 doubles are +0, the others are as they were
 cleared scratch = replicate SCRATCH (ratio 0 1) ++ drop SCRATCH scratch
 
 -- the end of a run, for the caller: bodies move only where the step is accepted
 abbrev pub settledAs : List Float → List Float → ℕ → ℕ → Turn (List BodyState) Fault → Stepped
 settledAs bodies left nonlinear linear (stop fault) = stepped (faultOutcome fault) nonlinear linear bodies left
 settledAs bodies left nonlinear linear (go states) =
-    cond (grounded states) (stepped Outcomes.Accepted nonlinear linear (handBack bodies states) left) (stepped Outcomes.Ground nonlinear linear bodies left)
+    cond (grounded states) (stepped Outcome.Accepted nonlinear linear (handBack bodies states) left) (stepped Outcome.Ground nonlinear linear bodies left)
 
 abbrev pub settled : List Float → List Float → Counting (List BodyState) → Stepped
 settled bodies left run = settledAs bodies left (run .nonlinear) (run .linear) (run .ends)
 
--- SPECIFICATION's step: refusals 1 to 9 touch nothing
-unfoldable pub solveOf : List Float → List Joint → ℕ → Float → List Float → Stepped
+unfoldable pub solveOf : List Float → List Joint → ℕ → Float → List Float → Stepped  -- SPECIFICATION's step: refusals 1 to 9 touch nothing
 solveOf bodies joints count dt scratch =
     let refusal : Outcome = refusalOf bodies joints count dt (length scratch) in
     cond (isAccepted refusal) (settled bodies (cleared scratch) (runFor bodies joints count dt)) (stepped refusal 0 0 bodies scratch)

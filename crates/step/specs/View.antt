@@ -2,18 +2,32 @@
 -- the candidates the 13 that move.
 use Prim.Native.Nat.{ℕ, _+_, _*_, _<_}
 use mathlib.Core.Path.{_≡_}
-use mathlib.Core.List.{List}
-use lib.Ieee.{Float}
+use mathlib.Core.List.{List, []}
+use lib.Ieee.{Float, nan}
 use Rattle.arith.specs.Flow.{tab}
 use Rattle.vectors.specs.declared.vector.Vec3.{Vec3}
 use Rattle.vectors.specs.declared.quaternion.Quat.{Quat}
 use Rattle.vectors.specs.declared.matrix.Mat3.{Mat3}
 use Rattle.vectors.specs.Matrix.{fromCols, columnOf}
+use Rattle.vectors.specs.Quaternion.{quat}
+use Rattle.rows.specs.declared.body.RigidBody.{RigidBody}
 use Rattle.rows.specs.declared.body.BodyState.{BodyState}
 use Rattle.rows.specs.declared.body.MomentumBody.{MomentumBody}
+use Rattle.rows.specs.Body.{bodyWith, stateWith}
 use Rattle.rows.specs.View.{at, vec3At, Out, Kept}
+use Rattle.solves.specs.Solver.{noVec}
 use Rattle.step.specs.Layout.{RECORD, MOVING, START, CANDIDATE}
-use Rattle.step.specs.Records.{quatAt, matAt, stateAt}
+use Rattle.step.specs.Records.{quatAt, matAt, recordWith}
+
+-- what `bodyIn`, `recordIn` and `stateIn` have past the end of a list
+abbrev pub noBody : MomentumBody
+noBody = bodyWith noVec (quat nan nan nan nan) noVec noVec nan noVec (record { columns = [] })
+
+abbrev pub noRecord : RigidBody
+noRecord = recordWith noVec (quat nan nan nan nan) noVec noVec nan noVec (record { columns = [] })
+
+abbrev pub noState : BodyState
+noState = stateWith noVec (quat nan nan nan nan) noVec noVec
 
 -- what moves of a body, and what does not
 pub record Moving : Type 0 where
@@ -54,6 +68,10 @@ bodyFrom s i j = record {
   «center_of_mass» = vec3At s (j + 14);
   «inverse_inertia» = matAt s (j + 17);
 }
+
+-- the 13 doubles at i as a state
+abbrev pub stateAt : List Float → ℕ → BodyState
+stateAt s i = record { origin = vec3At s i; rotation = quatAt s (i + 3); «linear_velocity» = vec3At s (i + 7); «angular_velocity» = vec3At s (i + 10) }
 
 -- the body k at the start of the step
 abbrev pub startBodyAt : List Float → ℕ → MomentumBody

@@ -17,8 +17,8 @@ use Rattle.rows.specs.declared.body.MomentumBody.{MomentumBody}
 use Rattle.rows.specs.View.{at, Out, Kept}
 use Rattle.rows.specs.Region.{Over, kept-vec3, tab-ext}
 use Rattle.step.specs.Layout.{RECORD, MOVING, START, CANDIDATE}
-use Rattle.step.specs.Records.{quatAt, matAt, stateAt}
-use Rattle.step.specs.View.{colsOf, bodyFrom, startBodyAt, candidateAt, startBodiesAt, candidatesAt, heldOf, movedTo, Handed}
+use Rattle.step.specs.Records.{quatAt, matAt}
+use Rattle.step.specs.View.{colsOf, bodyFrom, startBodyAt, candidateAt, startBodiesAt, candidatesAt, heldOf, movedTo, Handed, stateAt}
 
 -- a matrix made of three columns is what a store writes of it
 pub held-cols : (b : MomentumBody) → colsOf (b .«inverse_inertia») ≡ b .«inverse_inertia» → heldOf b ≡ b

@@ -19,11 +19,11 @@ ghost use Rattle.arith.specs.Real.{ratio};
 ghost use Rattle.arith.specs.Flow.{every};
 ghost use Rattle.rows.specs.View.{vec3At, Out, Kept};
 ghost use Rattle.solves.specs.Lent.{came, left};
-ghost use Rattle.solves.specs.Layout.{BODIES-MOST};
-ghost use Rattle.step.specs.Layout.{RECORD, MOVING, START, CANDIDATE, USED};
-ghost use Rattle.step.specs.Records.{quatAt, matAt, recordAt, stateAt};
+ghost use Rattle.solves.specs.System.{BODIES-MOST};
+ghost use Rattle.step.specs.Layout.{START, CANDIDATE, USED};
+ghost use Rattle.step.specs.Records.{RECORD, MOVING, quatAt, matAt, recordAt};
 ghost use Rattle.step.specs.Checks.{withinOf};
-ghost use Rattle.step.specs.View.{colsOf, fixedAt, fixedOf, movingAt, movingOf, bodyFrom, startBodyAt, candidateAt, heldOf, movedTo, Handed};
+ghost use Rattle.step.specs.View.{colsOf, fixedAt, fixedOf, movingAt, movingOf, bodyFrom, startBodyAt, candidateAt, heldOf, movedTo, Handed, stateAt};
 
 fn load4(s: &[f64], i: usize) -> Quat
     requires { ⌜ i + 4 ≤ length (now s) ⌝ }

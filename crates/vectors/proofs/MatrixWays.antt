@@ -18,7 +18,8 @@ use Rattle.vectors.specs.declared.matrix.Factored.{Factored}
 use Rattle.vectors.specs.declared.matrix.Solved.{Solved}
 use Rattle.vectors.specs.declared.matrix.Inverted.{Inverted}
 use Rattle.vectors.specs.Vector.{vec, axisX, axisY, axisZ, divOf, finiteOf}
-use Rattle.vectors.specs.Matrix.{Cells, cell, put, turned, columnOf, fromCols, matOf, zeroMat, finiteMat, matLargestOf, divided, notSymmetric, correctionOf, aboveZero, ranOf, placed, placeOf, factorOf, unfactored, factoredWith, factorSpdOf, forwardOf, backwardOf, unsolved, solveOf, done, solvedBy, solveSpdOf, uninverted, inverseSpdOf}
+use Rattle.vectors.specs.Matrix.{Cells, cell, put, turned, columnOf, fromCols, matOf, zeroMat, finiteMat, matLargestOf, divided, notSymmetric, correctionOf, aboveZero, placed, placeOf, factorOf, unfactored, factoredWith, factorSpdOf, forwardOf, backwardOf, unsolved, solveOf, done, solvedBy, solveSpdOf, uninverted, inverseSpdOf}
+use Rattle.vectors.specs.Answered.{ranOf}
 
 -- ---- column
 module _ (m : Mat3) {c : Cells} (ec : c ≡ m .columns) (index : ℕ) where

@@ -1,48 +1,29 @@
 -- matrix.rs: matrices of three columns of three doubles, their Cholesky factor, and the inverse of solver_mass.rs.
-use Prim.Native.Nat.{ℕ, _+_, _^_}
-use lib.Dec.{eqb}
+use Rattle.vectors.specs.Words.{ℕ, _+_, _^_, List, [], _∷_, Bool, cond, not, _&&_, _||_, true, false, Float, nan, binary64, getD, set, eqb, _⊕_, _⊖_, _⊗_}
+use Rattle.vectors.specs.Words.{_⊘_, ratio, isFinite, absOf, maxOf, sqrt, Turn, go, stop, turns, loop, Vec3, Mat3, CholeskyOutcome, Done, NonFiniteInput}
+use Rattle.vectors.specs.Words.{NotSymmetric, NotPositiveDefinite, ResultOutOfRange, Cholesky3, Factored, Solved, Inverted}
 use lib.Ieee as Ieee
-use lib.Ieee.{Float, nan, binary64}
-use lib.ListN.{getD, set}
-use mathlib.Core.Bool.{Bool, true, false, cond, not, _&&_, _||_}
-use mathlib.Core.List.{List, [], _∷_}
-use Rattle.arith.specs.Real.{_⊕_, _⊖_, _⊗_, _⊘_, ratio, isFinite, absOf, maxOf}
-use Rattle.arith.specs.Root.{sqrt}
-use Rattle.arith.specs.Flow.{Turn, go, stop, turns, loop}
-use Rattle.vectors.specs.declared.vector.Vec3.{Vec3}
-use Rattle.vectors.specs.declared.matrix.Mat3.{Mat3}
-use Rattle.vectors.specs.declared.matrix.CholeskyOutcome.{CholeskyOutcome}
-use Rattle.vectors.specs.declared.matrix.CholeskyOutcome.the-variants.{Done, NonFiniteInput, NotSymmetric, NotPositiveDefinite, ResultOutOfRange}
-use Rattle.vectors.specs.declared.matrix.Cholesky3.{Cholesky3}
-use Rattle.vectors.specs.declared.matrix.Factored.{Factored}
-use Rattle.vectors.specs.declared.matrix.Solved.{Solved}
-use Rattle.vectors.specs.declared.matrix.Inverted.{Inverted}
 use Rattle.vectors.specs.Vector.{vec, zeroVec, axisX, axisY, axisZ, addOf, scaleOf, divOf, finiteOf}
 
--- Three lists of three doubles: columns or rows.
-abbrev pub Cells : Type 0
+abbrev pub Cells : Type 0  -- Three lists of three doubles: columns or rows.
 Cells = List (List Float)
 
--- c[i][j]
-abbrev pub cell : Cells → ℕ → ℕ → Float
+abbrev pub cell : Cells → ℕ → ℕ → Float  -- c[i][j]
 cell c i j = getD (getD c i []) j nan
 
--- c[i][j] = v;
-abbrev pub put : Cells → ℕ → ℕ → Float → Cells
+abbrev pub put : Cells → ℕ → ℕ → Float → Cells  -- c[i][j] = v;
 put c i j v = set c i (set (getD c i []) j v)
 
 abbrev pub triple : Float → Float → Float → List Float
 triple x y z = x ∷ y ∷ z ∷ []
 
--- columns from rows, or rows from columns
-abbrev pub turned : Cells → Cells
+abbrev pub turned : Cells → Cells  -- columns from rows, or rows from columns
 turned c = triple (cell c 0 0) (cell c 1 0) (cell c 2 0) ∷ triple (cell c 0 1) (cell c 1 1) (cell c 2 1) ∷ triple (cell c 0 2) (cell c 1 2) (cell c 2 2) ∷ []
 
 abbrev pub matOf : Cells → Mat3
 matOf c = record { columns = c }
 
--- columns[index]
-abbrev pub columnOf : Mat3 → ℕ → Vec3
+abbrev pub columnOf : Mat3 → ℕ → Vec3  -- columns[index]
 columnOf m index = vec (cell (m .columns) index 0) (cell (m .columns) index 1) (cell (m .columns) index 2)
 
 abbrev pub fromCols : Vec3 → Vec3 → Vec3 → Mat3
@@ -57,50 +38,34 @@ transposeOf m = matOf (turned (m .columns))
 abbrev pub finiteMat : Mat3 → Bool
 finiteMat m = finiteOf (columnOf m 0) && finiteOf (columnOf m 1) && finiteOf (columnOf m 2)
 
--- Mat3 * Vec3
-abbrev pub applyOf : Mat3 → Vec3 → Vec3
+abbrev pub applyOf : Mat3 → Vec3 → Vec3  -- Mat3 * Vec3
 applyOf m v = addOf (addOf (scaleOf (columnOf m 0) (v .x)) (scaleOf (columnOf m 1) (v .y))) (scaleOf (columnOf m 2) (v .z))
 
--- Mat3 * Mat3
-unfoldable pub matProductOf : Mat3 → Mat3 → Mat3
+unfoldable pub matProductOf : Mat3 → Mat3 → Mat3  -- Mat3 * Mat3
 matProductOf m n = fromCols (applyOf m (columnOf n 0)) (applyOf m (columnOf n 1)) (applyOf m (columnOf n 2))
 
--- ---- factor_spd
--- for value in .. { scale = scale.max(value.abs()); }
+-- ---- factor_spd: for value in .. { scale = scale.max(value.abs()); }
 abbrev pub larger : Float → Vec3 → Float
 larger scale v = maxOf (maxOf (maxOf scale (absOf (v .x))) (absOf (v .y))) (absOf (v .z))
 
 abbrev pub matLargestOf : Mat3 → Float
 matLargestOf m = larger (larger (larger (ratio 0 1) (columnOf m 0)) (columnOf m 1)) (columnOf m 2)
 
--- normalized[row][column] = rows[row][column] / scale
-abbrev pub divided : Cells → Float → Cells
+abbrev pub divided : Cells → Float → Cells  -- normalized[row][column] = rows[row][column] / scale
 divided r scale =
-    triple (cell r 0 0 ⊘ scale) (cell r 0 1 ⊘ scale) (cell r 0 2 ⊘ scale)
-    ∷ triple (cell r 1 0 ⊘ scale) (cell r 1 1 ⊘ scale) (cell r 1 2 ⊘ scale)
-    ∷ triple (cell r 2 0 ⊘ scale) (cell r 2 1 ⊘ scale) (cell r 2 2 ⊘ scale)
-    ∷ []
+    let row : ℕ → List Float = λ i. triple (cell r i 0 ⊘ scale) (cell r i 1 ⊘ scale) (cell r i 2 ⊘ scale) in row 0 ∷ row 1 ∷ row 2 ∷ []
 
--- two mirrored numbers differ by more than 32 epsilon
-abbrev pub uneven : Float → Float → Bool
+abbrev pub uneven : Float → Float → Bool  -- two mirrored numbers differ by more than 32 epsilon
 uneven a b = Ieee.lt (ratio 32 (2 ^ 52)) (absOf (a ⊖ b))
 
 abbrev pub notSymmetric : Cells → Bool
 notSymmetric n = uneven (cell n 1 0) (cell n 0 1) || uneven (cell n 2 0) (cell n 0 2) || uneven (cell n 2 1) (cell n 1 2)
 
--- the products of the places before `column` in two rows of the factor, summed from +0
-abbrev pub plusProduct : Cells → ℕ → ℕ → ℕ → Float → Float
-plusProduct lower row column k sum = sum ⊕ cell lower row k ⊗ cell lower column k
-
-unfoldable pub correctionOf : Cells → ℕ → ℕ → Float
-correctionOf lower row column = turns (plusProduct lower row column) column (ratio 0 1)
+unfoldable pub correctionOf : Cells → ℕ → ℕ → Float  -- the products of the places before `column` in two rows of the factor, summed from +0
+correctionOf lower row column = turns (λ k sum. sum ⊕ cell lower row k ⊗ cell lower column k) column (ratio 0 1)
 
 abbrev pub aboveZero : Float → Bool
 aboveZero x = isFinite x && Ieee.lt (ratio 0 1) x
-
--- what the code answers, and the factor's rows as it leaves them: `stop` where a pivot was not above 0
-abbrev pub ranOf : Bool → Cells → Turn Cells Cells
-ranOf done lower = cond done (go lower) (stop lower)
 
 -- `stop lower` where a pivot is not finite and above 0, with the places written until then
 abbrev pub placed : Cells → ℕ → ℕ → Float → Turn Cells Cells
@@ -112,44 +77,37 @@ placed lower row column value =
 unfoldable pub placeOf : Cells → ℕ → ℕ → Cells → Turn Cells Cells
 placeOf n row column lower = placed lower row column (cell n row column ⊖ correctionOf lower row column)
 
--- for column in 0..=row
-unfoldable pub factorRowOf : Cells → ℕ → Cells → Turn Cells Cells
+unfoldable pub factorRowOf : Cells → ℕ → Cells → Turn Cells Cells  -- for column in 0..=row
 factorRowOf n row lower = loop (row + 1) (placeOf n row) lower
 
--- for row in 0..3
-unfoldable pub factorOf : Cells → Cells → Turn Cells Cells
+unfoldable pub factorOf : Cells → Cells → Turn Cells Cells  -- for row in 0..3
 factorOf n lower = loop 3 (factorRowOf n) lower
 
 abbrev pub unfactored : CholeskyOutcome → Factored
 unfactored o = record { outcome = o; factor = record { lower = zeroMat; scale = ratio 0 1 } }
 
--- the factor's rows, held as a matrix
-abbrev pub factoredWith : Float → Turn Cells Cells → Factored
+abbrev pub factoredWith : Float → Turn Cells Cells → Factored  -- the factor's rows, held as a matrix
 factoredWith scale (go lower) = record { outcome = Done; factor = record { lower = matOf (turned lower); scale = scale } }
 factoredWith scale (stop lower) = unfactored NotPositiveDefinite
 
 unfoldable pub factorSpdOf : Mat3 → Factored
 factorSpdOf m =
-    let scale = matLargestOf m in
-    let normalized = divided (turned (m .columns)) scale in
+    let scale = matLargestOf m in let normalized = divided (turned (m .columns)) scale in
     cond (not (finiteMat m)) (unfactored NonFiniteInput)
     (cond (Ieee.eq scale (ratio 0 1)) (unfactored NotPositiveDefinite)
     (cond (notSymmetric normalized) (unfactored NotSymmetric)
     (factoredWith scale (factorOf normalized (zeroMat .columns)))))
 
--- ---- solve
--- for row in 0..3 { for column in 0..row { value -= lower[row][column] * intermediate[column]; } .. }
+-- ---- solve: for row in 0..3 { for column in 0..row { value -= lower[row][column] * intermediate[column]; } .. }
 abbrev pub forwardOf : Cells → Vec3 → Vec3
 forwardOf l v =
-    let x = v .x ⊘ cell l 0 0 in
-    let y = (v .y ⊖ cell l 1 0 ⊗ x) ⊘ cell l 1 1 in
+    let x = v .x ⊘ cell l 0 0 in let y = (v .y ⊖ cell l 1 0 ⊗ x) ⊘ cell l 1 1 in
     vec x y ((v .z ⊖ cell l 2 0 ⊗ x ⊖ cell l 2 1 ⊗ y) ⊘ cell l 2 2)
 
 -- for row in (0..3).rev() { for column in row + 1..3 { value -= lower[column][row] * solution[column]; } .. }
 abbrev pub backwardOf : Cells → Vec3 → Vec3
 backwardOf l v =
-    let z = v .z ⊘ cell l 2 2 in
-    let y = (v .y ⊖ cell l 2 1 ⊗ z) ⊘ cell l 1 1 in
+    let z = v .z ⊘ cell l 2 2 in let y = (v .y ⊖ cell l 2 1 ⊗ z) ⊘ cell l 1 1 in
     vec ((v .x ⊖ cell l 1 0 ⊗ y ⊖ cell l 2 0 ⊗ z) ⊘ cell l 0 0) y z
 
 abbrev pub unsolved : CholeskyOutcome → Solved
@@ -157,8 +115,7 @@ unsolved o = record { outcome = o; solution = zeroVec }
 
 unfoldable pub solveOf : Cholesky3 → Vec3 → Solved
 solveOf factor rhs =
-    let normalized = divOf rhs (factor .scale) in
-    let lower = turned (factor .lower .columns) in
+    let normalized = divOf rhs (factor .scale) in let lower = turned (factor .lower .columns) in
     let solution = backwardOf lower (forwardOf lower normalized) in
     cond (not (finiteOf rhs)) (unsolved NonFiniteInput)
     (cond (not (finiteOf normalized)) (unsolved ResultOutOfRange)
@@ -166,14 +123,9 @@ solveOf factor rhs =
     (record { outcome = Done; solution = solution })))
 
 abbrev pub done : CholeskyOutcome → Bool
-done Done = true
-done NonFiniteInput = false
-done NotSymmetric = false
-done NotPositiveDefinite = false
-done ResultOutOfRange = false
+done outcome = elim outcome [ Done ↦ true | NonFiniteInput ↦ false | NotSymmetric ↦ false | NotPositiveDefinite ↦ false | ResultOutOfRange ↦ false ]
 
--- factored?.solve(rhs)
-abbrev pub solvedBy : Factored → Vec3 → Solved
+abbrev pub solvedBy : Factored → Vec3 → Solved  -- factored?.solve(rhs)
 solvedBy factored rhs = cond (done (factored .outcome)) (solveOf (factored .factor) rhs) (unsolved (factored .outcome))
 
 unfoldable pub solveSpdOf : Mat3 → Vec3 → Solved
@@ -185,9 +137,7 @@ uninverted o = record { outcome = o; inverse = zeroMat }
 
 unfoldable pub inverseSpdOf : Mat3 → Inverted
 inverseSpdOf m =
-    let x = solveSpdOf m axisX in
-    let y = solveSpdOf m axisY in
-    let z = solveSpdOf m axisZ in
+    let x = solveSpdOf m axisX in let y = solveSpdOf m axisY in let z = solveSpdOf m axisZ in
     let inverse = fromCols (x .solution) (y .solution) (z .solution) in
     cond (not (done (x .outcome))) (uninverted (x .outcome))
     (cond (not (done (y .outcome))) (uninverted (y .outcome))

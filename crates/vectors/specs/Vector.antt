@@ -1,17 +1,17 @@
 -- vector.rs: vectors of three doubles, by component, sums from the left.
+use Rattle.vectors.specs.Words.{ℕ, _+_, List, Bool, cond, not, _&&_, _||_, Float, nan, getD, _⊕_, _⊖_, _⊗_, _⊘_, ratio, isFinite, absOf, maxOf, hypotOf}
+use Rattle.vectors.specs.Words.{Vec3, OptionVec3, OptionF64}
 use lib.Ieee as Ieee
-use lib.Ieee.{Float}
-use mathlib.Core.Bool.{Bool, cond, not, _&&_, _||_}
-use Rattle.arith.specs.Real.{_⊕_, _⊖_, _⊗_, _⊘_, ratio, isFinite, absOf, maxOf}
-use Rattle.arith.specs.Hypot.{hypotOf}
-use Rattle.vectors.specs.declared.vector.Vec3.{Vec3}
-use Rattle.vectors.specs.declared.vector.OptionVec3.{OptionVec3}
-use Rattle.vectors.specs.declared.vector.OptionVec3.the-variants.{Some, None}
-use Rattle.vectors.specs.declared.vector.OptionF64.{OptionF64}
-use Rattle.vectors.specs.declared.vector.OptionF64.the-variants as Number
 
 abbrev pub vec : Float → Float → Float → Vec3
 vec x y z = record { x = x; y = y; z = z }
+
+-- of a slice of doubles: s[i], and the vector that begins there
+abbrev pub at : List Float → ℕ → Float
+at s i = getD s i nan
+
+abbrev pub vec3At : List Float → ℕ → Vec3
+vec3At s i = vec (at s i) (at s (i + 1)) (at s (i + 2))
 
 -- Vec3::ZERO, X, Y, Z
 abbrev pub zeroVec : Vec3
@@ -53,23 +53,20 @@ finiteOf v = isFinite (v .x) && isFinite (v .y) && isFinite (v .z)
 abbrev pub lengthOf : Vec3 → Float
 lengthOf v = hypotOf (hypotOf (v .x) (v .y)) (v .z)
 
--- the largest magnitude of a component
-abbrev pub largestOf : Vec3 → Float
+abbrev pub largestOf : Vec3 → Float  -- the largest magnitude of a component
 largestOf v = maxOf (maxOf (absOf (v .x)) (absOf (v .y))) (absOf (v .z))
 
 -- try_normalize, the same steps for vectors and quaternions: divided by the largest magnitude, then by the length of that; nothing for zero and for what is not finite
 unfoldable pub normalizeBy : {A O : Type 0} → (A → Bool) → (A → Float) → (A → Float → A) → (A → Float) → O → (A → O) → A → O
 normalizeBy finite largest div length none some v =
-    let scale = largest v in
-    let scaled = div v scale in
-    let len = length scaled in
+    let scale = largest v in let scaled = div v scale in let len = length scaled in
     cond (not (finite v)) none
     (cond (Ieee.eq scale (ratio 0 1)) none
     (cond (not (isFinite len) || Ieee.eq len (ratio 0 1)) none
     (some (div scaled len))))
 
 abbrev pub tryNormalizeOf : Vec3 → OptionVec3
-tryNormalizeOf v = normalizeBy finiteOf largestOf divOf lengthOf None Some v
+tryNormalizeOf v = normalizeBy finiteOf largestOf divOf lengthOf OptionVec3.None OptionVec3.Some v
 
 unfoldable pub checkedLengthOf : Vec3 → OptionF64
-checkedLengthOf v = cond (isFinite (lengthOf v)) (Number.Some (lengthOf v)) Number.None
+checkedLengthOf v = cond (isFinite (lengthOf v)) (OptionF64.Some (lengthOf v)) OptionF64.None

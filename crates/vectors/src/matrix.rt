@@ -11,7 +11,8 @@ ghost use Prim.Native.Nat.{_<_, min};
 ghost use Rattle.vectors.specs.Matrix as Matrix;
 ghost use Rattle.vectors.specs.Matrix.{matOf, zeroMat, fromCols, turned, transposeOf, finiteMat, applyOf, matProductOf};
 ghost use Rattle.vectors.specs.Matrix.{solvedBy, factorSpdOf, matLargestOf, columnOf, solveOf, notSymmetric, correctionOf};
-ghost use Rattle.vectors.specs.Matrix.{aboveZero, ranOf, placeOf, factorRowOf, factorOf, forwardOf, backwardOf};
+ghost use Rattle.vectors.specs.Matrix.{aboveZero, placeOf, factorRowOf, factorOf, forwardOf, backwardOf};
+ghost use Rattle.vectors.specs.Answered.{ranOf};
 ghost use Rattle.vectors.specs.Matrix.{inverseSpdOf};
 
 // 32 times epsilon, which is 2^-47.

@@ -11,7 +11,8 @@ use arith::root::hypot;
 ghost use mathlib.Core.Path.{_≡_};
 ghost use Rattle.vectors.specs.Quaternion.{conjugateOf, productOf, quatLengthSquaredOf, quatLengthOf, quatDivOf};
 ghost use Rattle.vectors.specs.Quaternion.{quatLargestOf, quatTryNormalizeOf, quatFiniteOf, isNormalizedOf, rotateVectorOf};
-ghost use Rattle.vectors.specs.Quaternion.{rotateAsUnitOf, rotatedOf, turnedOf, toMat3Of, columnsOf, integrateAsUnitOf};
+ghost use Rattle.vectors.specs.Quaternion.{rotatedOf, turnedOf, toMat3Of, columnsOf};
+ghost use Rattle.vectors.specs.Answered.{rotateAsUnitOf, integrateAsUnitOf};
 ghost use Rattle.vectors.specs.Quaternion.{deltaIn, deltaOf, smallTurn};
 
 // 2^-44: how far the squares of a rotation may sum from 1.

@@ -34,9 +34,8 @@ use Rattle.solves.specs.System.{sideOf}
 use Rattle.solves.specs.Search.{refinement, pathAlong, choose, solveBy, linearSolve}
 use Rattle.step.specs.declared.Outcome.{Outcome}
 use Rattle.step.specs.declared.Outcome.the-variants.{Accepted, TimeStep, Bodies, Joints, Scratch, NonConvergent, ArithmeticOverflow, Ground}
-use Rattle.step.specs.Records.{bodyCount}
 use Rattle.step.specs.Checks.{isAccepted, timeStepOk, bodiesFit, sizesOr, bodiesOr, jointsOr, refusalOf}
-use Rattle.step.specs.Layout.{SCRATCH}
+use Rattle.step.specs.Records.{SCRATCH, bodyCount}
 use Rattle.step.specs.Bodies.{startBodies, writeRows, massResponse, prepareMasses, startOf, moveBodies, rowsMet, rhsOf, addImpulses, candidateOf}
 use Rattle.step.specs.Bodies.{velocityOf, velocityRhs, compatibleOf, kickBodies, reactionOf, statesOf}
 use Rattle.step.specs.Step.{nonlinearPass, nonlinearLoop, velocityPass, velocityLoop, finishOf, runOf, runFor, Stepped, stepped, grounded}

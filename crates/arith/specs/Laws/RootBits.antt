@@ -12,7 +12,8 @@ use lib.Ieee.Digits.{size-lt, size-le}
 use lib.Ieee.Fits.{down-pos, odd-fits}
 use lib.Ieee.Exact.{HasValue, odd-sign, units-val}
 use lib.Ieee.Bits.{ofBits-toBits, is-true, is-false}
-use Rattle.arith.specs.Root.{roundRoot, sqrt, NearRoot}
+use Rattle.arith.specs.Root.{roundRoot, sqrt}
+use Rattle.arith.specs.Answered.{NearRoot}
 use Rattle.arith.specs.Laws.RootLaws.{round-at, near-lo, near-hi, sqrt-at}
 
 -- ---- the bits of q * 2 ^ k units, for a q of 53 digits

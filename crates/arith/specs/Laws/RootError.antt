@@ -17,7 +17,8 @@ use Rattle.exact.specs.Cert.{Nns, comb, den, by-nn, hyp, num, _⊞_, _⊠_}
 use Rattle.exact.specs.Val.{val, sg, sgF, has→val}
 use Rattle.exact.specs.Sign.{sg-nn}
 use Rattle.exact.specs.Hypot.{Root}
-use Rattle.arith.specs.Root.{sqrt, NearRoot}
+use Rattle.arith.specs.Root.{sqrt}
+use Rattle.arith.specs.Answered.{NearRoot}
 use Rattle.arith.specs.Laws.RootHalves.{square-lt}
 use Rattle.arith.specs.Laws.RootUnits.{root-units}
 use Rattle.arith.specs.Laws.RootNearest.{positive-of}

@@ -3,7 +3,7 @@ use mathlib.Core.Path.{_≡_}
 use Prim.Native.Nat.{ℕ, zero, suc, _+_, _-_, _*_, _/_, _%_, _^_, _≤_, _<_}
 use native.Mathlib.Nat.{mod-lt, div-add-mod', mul-le-mul-right, mul-le-mul, lt-of-not-le, not-le-of-lt, le-of-suc-le-suc}
 use native.Mathlib.Omega.{arith}
-use Rattle.arith.specs.Root.{NearRoot}
+use Rattle.arith.specs.Answered.{NearRoot}
 
 -- a number whose square is below another's is below it
 pub square-lt : (a b : ℕ) → a * a < b * b → a < b

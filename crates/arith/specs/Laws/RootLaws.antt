@@ -12,10 +12,15 @@ use lib.Ieee.Digits.{size-lt, size-le}
 use lib.Ieee.Fits.{down-pos}
 use lib.Ieee.Exact.{HasValue}
 use Rattle.exact.specs.Grid.{Cmp, cmp}
-use Rattle.arith.specs.Root.{raise, rootIn, root, roundRoot, sqrt, NearRoot}
+use Rattle.arith.specs.Root.{rootIn, root, roundRoot, sqrt}
+use Rattle.arith.specs.Answered.{NearRoot}
 use Rattle.arith.specs.Laws.RootHalves.{square-lt}
 
 -- ---- `root`
+
+-- r with its last binary digit raised where the square still is at most n
+abbrev raise : ℕ → ℕ → ℕ
+raise n r = cond (leb ((r + 1) * (r + 1)) n) (r + 1) r
 
 raise-is : (n r : ℕ) → 2 * r * (2 * r) ≤ n → n < (2 * r + 2) * (2 * r + 2)
     → (raise n (2 * r) * raise n (2 * r) ≤ n) × (n < suc (raise n (2 * r)) * suc (raise n (2 * r)))

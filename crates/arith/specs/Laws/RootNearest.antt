@@ -16,7 +16,8 @@ use mathlib.Core.Quot.{Quot·sound}
 use Rattle.exact.specs.Rat.{mk, qn, whole, leq, _+q_, _*q_, _<q_, *q-mk}
 use Rattle.exact.specs.Abs.{0≤}
 use Rattle.exact.specs.Val.{val, sg, sgF, has→val, plus, times}
-use Rattle.arith.specs.Root.{sqrt, NearRoot}
+use Rattle.arith.specs.Root.{sqrt}
+use Rattle.arith.specs.Answered.{NearRoot}
 use Rattle.arith.specs.Laws.RootUnits.{RootUnits, root-units}
 use Rattle.arith.specs.Laws.Spacing.{above-next, below-next, L, frac, less-frac, frac-less, zero-both, Grid, grid}
 

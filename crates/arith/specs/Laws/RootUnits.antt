@@ -14,7 +14,8 @@ use lib.Ieee.Digits.{size-lt, size-le, size-reaches}
 use lib.Ieee.Fits.{up-pos, and-l, and-r}
 use lib.Ieee.Exact.{HasValue, units-val}
 use lib.Ieee.Positive.{positive}
-use Rattle.arith.specs.Root.{roundRoot, sqrt, NearRoot}
+use Rattle.arith.specs.Root.{roundRoot, sqrt}
+use Rattle.arith.specs.Answered.{NearRoot}
 use Rattle.arith.specs.Laws.RootLaws.{round-at, near-lo, near-hi, sqrt-at, near-exists}
 use Rattle.arith.specs.Laws.RootBits.{fine, units-fit, room, under-room, even-at, odd-at, drop-lt, even-room, odd-room, odd-low}
 

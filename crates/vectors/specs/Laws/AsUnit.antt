@@ -14,7 +14,8 @@ use Rattle.vectors.specs.declared.quaternion.Quat.{Quat}
 use Rattle.vectors.specs.declared.quaternion.OptionQuat.{OptionQuat}
 use Rattle.vectors.specs.declared.quaternion.OptionQuat.the-variants.{Some, None}
 use Rattle.vectors.specs.Vector.{finiteOf, normalizeBy}
-use Rattle.vectors.specs.Quaternion.{conjugateOf, quatTryNormalizeOf, rotatedBy, rotateVectorOf, rotateAsUnitOf, integrated, deltaIn, integrateOf, integrateAsUnitOf}
+use Rattle.vectors.specs.Quaternion.{conjugateOf, quatTryNormalizeOf, rotatedBy, rotateVectorOf, integrated, deltaIn, integrateOf}
+use Rattle.vectors.specs.Answered.{rotateAsUnitOf, integrateAsUnitOf}
 
 -- ---- the sign goes through a quotient and is lost in a magnitude
 neg-finite : (x : Float) → isFinite (neg x) ≡ isFinite x

@@ -7,13 +7,14 @@ use lib.Dec.{T}
 use lib.Ieee.{Float, eq}
 use Rattle.arith.specs.Real.{isFinite, ratio}
 use Rattle.vectors.specs.declared.vector.Vec3.{Vec3}
+use Rattle.vectors.specs.declared.vector.OptionVec3.{OptionVec3}
 use Rattle.vectors.specs.declared.vector.OptionVec3.the-variants as Vector
 use Rattle.vectors.specs.declared.vector.OptionF64.the-variants as Number
 use Rattle.vectors.specs.declared.quaternion.Quat.{Quat}
 use Rattle.vectors.specs.declared.quaternion.OptionQuat.{OptionQuat}
 use Rattle.vectors.specs.declared.quaternion.OptionQuat.the-variants.{Some, None}
 use Rattle.vectors.specs.Vector.{finiteOf, lengthOf, normalizeBy, checkedLengthOf}
-use Rattle.vectors.specs.Quaternion.{quatFiniteOf, quatLargestOf, quatDivOf, quatLengthOf, quatTryNormalizeOf, turnedOf, ifFinite, rotatedBy, rotateVectorOf}
+use Rattle.vectors.specs.Quaternion.{quatFiniteOf, quatLargestOf, quatDivOf, quatLengthOf, quatTryNormalizeOf, turnedOf, rotatedBy, rotateVectorOf}
 
 -- `cond b none x` is not the answer none
 pub past : {O : Type 0} (b : Bool) (none x y : O) → (none ≡ y → ⊥) → cond b none x ≡ y → T (not b) × (x ≡ y)
@@ -74,6 +75,9 @@ pub record Rotates (q : Quat) (v r : Vec3) : Type 0 where
   pub normal : quatTryNormalizeOf q ≡ Some unit
   pub is : turnedOf unit v ≡ r
   pub result : T (finiteOf r)
+
+abbrev pub ifFinite : Vec3 → OptionVec3
+ifFinite v = cond (finiteOf v) (Vector.Some v) Vector.None
 
 pub if-finite : (v r : Vec3) → ifFinite v ≡ Vector.Some r → (v ≡ r) × T (finiteOf r)
 if-finite v r e = go (finiteOf v) refl e

@@ -1,5 +1,5 @@
 -- `geometry::linear_count` meets its contract, case by case.
-use Rattle.rows.specs.Geometry.{linearCount}
+use Rattle.rows.specs.Count.{linearCount}
 use borrow.Author.Needs.{needs}
 use mathlib.Core.Path.{ap, sym}
 use native.Mathlib.Omega.{arith}

@@ -1,6 +1,6 @@
 -- `row_bodies` says of each row which bodies it joins: before turn k the rows of the first k joints are named (`RowBodies`, `Sides`).
 use Rattle.arith.specs.FlowLaws.{turns-end}
-use Rattle.rows.specs.Geometry.{rowCount}
+use Rattle.rows.specs.Count.{rowCount}
 use Rattle.step.specs.RunView.{rowsBefore, Sides}
 use Rattle.step.proofs.RowLaws.{before-none, before-more, sides-none, sides-more, sides-end}
 use native.Mathlib.Omega.{arith}
