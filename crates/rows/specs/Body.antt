@@ -4,7 +4,7 @@ use Rattle.rows.specs.Words.{scaleOf, divOf, conjugateOf, isNormalizedOf
 use lib.Ieee as Ieee
 use Rattle.rows.specs.Fault.{nonConvergent, arithmeticOverflow, Result, quatOr, tryFinite, tryLength, tryRotate, try}
 
--- the bodies and states with these parts
+-- the body and the state with these parts
 abbrev pub bodyWith : Vec3 → Quat → Vec3 → Vec3 → Float → Vec3 → Mat3 → MomentumBody
 bodyWith center rotation momentum spin mass local inverse =
     record { center = center; rotation = rotation; momentum = momentum; spin = spin; mass = mass; «center_of_mass» = local; «inverse_inertia» = inverse }

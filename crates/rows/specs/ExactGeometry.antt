@@ -11,7 +11,6 @@ use Rattle.vectors.specs.declared.quaternion.Quat.{Quat}
 use Rattle.vectors.specs.Vector.{finiteOf}
 use Rattle.vectors.specs.Quaternion.{quatFiniteOf}
 use Rattle.rows.specs.declared.body.RigidBody.{RigidBody}
-use Rattle.rows.specs.declared.body.BodyState.{BodyState}
 use Rattle.rows.specs.declared.geometry.JointFrame.{JointFrame}
 use Rattle.rows.specs.declared.geometry.Joint.{Joint}
 use Rattle.rows.specs.declared.geometry.Linear.{Linear}
@@ -103,9 +102,6 @@ placeOf origin rotation = record { origin = vector origin; rotation = quaternion
 
 abbrev pub recordPlace : RigidBody → Place
 recordPlace body = placeOf (body .origin) (body .rotation)
-
-abbrev pub statePlace : BodyState → Place
-statePlace state = placeOf (state .origin) (state .rotation)
 
 abbrev pub anchor : Place → JointFrame → Vector
 anchor p f = p .origin +v turned (p .rotation) (vector (f .«local_anchor»))

@@ -10,8 +10,7 @@ use Rattle.solves.specs.Solver.{rowIn, operator, crossMass, difference}
 abbrev pub index : List ℕ → ℕ → ℕ  -- l[i]
 index l i = getD l i 0
 
--- no block: usize::MAX in the Rust. There are at most 96 blocks.
-abbrev pub none : ℕ
+abbrev pub none : ℕ  -- no block: usize::MAX in the Rust. There are at most 96 blocks.
 none = 96
 
 -- ---- self.path_blocks: runs of rows on one pair of bodies; a and b are the bodies of the rows

@@ -23,7 +23,8 @@ use Rattle.rows.specs.Motions.{motionsOf}
 use Rattle.rows.specs.Fault.{Fault, nonConvergent, arithmeticOverflow, number, Result}
 use Rattle.rows.specs.Body.{stateWith, stateOf}
 use Rattle.rows.specs.Region.{tab-length, tab-at}
-use Rattle.rows.specs.ExactGeometry.{statePlace, Met, Stands, Proper}
+use Rattle.rows.specs.ExactGeometry.{Met, Stands, Proper}
+use Rattle.rows.specs.Laws.Anchors.{statePlace}
 use Rattle.rows.specs.Laws.RowsIn.{Each, rows-met, rows-each}
 use Rattle.rows.specs.Laws.Met.{MotionsIn, stands, met}
 use Rattle.rows.specs.Laws.Frames.{proper}

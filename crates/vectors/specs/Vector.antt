@@ -56,7 +56,7 @@ lengthOf v = hypotOf (hypotOf (v .x) (v .y)) (v .z)
 abbrev pub largestOf : Vec3 → Float  -- the largest magnitude of a component
 largestOf v = maxOf (maxOf (absOf (v .x)) (absOf (v .y))) (absOf (v .z))
 
--- try_normalize, the same steps for vectors and quaternions: divided by the largest magnitude, then by the length of that; nothing for zero and for what is not finite
+-- try_normalize, of vectors and of quaternions: divided by the largest magnitude, then by the length of that; nothing for zero and what is not finite
 unfoldable pub normalizeBy : {A O : Type 0} → (A → Bool) → (A → Float) → (A → Float → A) → (A → Float) → O → (A → O) → A → O
 normalizeBy finite largest div length none some v =
     let scale = largest v in let scaled = div v scale in let len = length scaled in

@@ -34,7 +34,7 @@ use Rattle.vectors.specs.Laws.Product.{Components, components, own-near}
 use Rattle.rows.specs.declared.body.BodyState.{BodyState}
 use Rattle.rows.specs.declared.body.MomentumBody.{MomentumBody}
 use Rattle.rows.specs.declared.geometry.JointFrame.{JointFrame}
-use Rattle.rows.specs.ExactGeometry.{Vector, Quaternion, _+v_, vector, quaternion, turned, statePlace, anchor}
+use Rattle.rows.specs.ExactGeometry.{Vector, Quaternion, _+v_, vector, quaternion, turned, Place, placeOf, anchor}
 use Rattle.rows.specs.Laws.Orthogonal.{turnR}
 use Rattle.rows.specs.Laws.Results.{Stated, Anchored}
 use Rattle.rows.specs.Laws.Places.{Placed}
@@ -195,6 +195,9 @@ round-components : (q : Quat) → Components q → Components (round-quat q)
 round-components q C = record { x-top = C .y-top; y-top = C .z-top; z-top = C .x-top; w-top = C .w-top }
 
 -- ---- the anchor
+abbrev pub statePlace : BodyState → Place
+statePlace state = placeOf (state .origin) (state .rotation)
+
 pub record AnchorNear (p : Vec3) (P : Vector) : Type 0 where
   pub near : IsV p P pTop aErr
   pub x-fits : T (fits binary64 (p .x))

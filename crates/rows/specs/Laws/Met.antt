@@ -40,13 +40,13 @@ use Rattle.rows.specs.declared.geometry.Ends.{Ends}
 use Rattle.rows.specs.Body.{stateOf}
 use Rattle.rows.specs.Motions.{motionsOf}
 use Rattle.rows.specs.Geometry.{axesOf, linearRow, distanceRow, turningRows, motionRows, endsOf, writeEqualityRows}
-use Rattle.rows.specs.ExactGeometry.{Vector, Quaternion, _·_, _-v_, quaternion, N, product, X, Y, Z, Place, statePlace, anchor, frame}
+use Rattle.rows.specs.ExactGeometry.{Vector, Quaternion, _·_, _-v_, quaternion, N, product, X, Y, Z, Place, anchor, frame}
 use Rattle.rows.specs.ExactGeometry.{squared, micrometre, off, Turned, MetBy, Met, Stands}
 use Rattle.rows.specs.Laws.Orthogonal.{parts-square}
 use Rattle.rows.specs.Laws.Results.{step, go-same, stated, Anchored, ended, along, rod}
 use Rattle.rows.specs.Laws.SamePlace.{SamePlace}
 use Rattle.rows.specs.Laws.Places.{placed}
-use Rattle.rows.specs.Laws.Anchors.{IsV, Inside, AnchorNear, anchor-near}
+use Rattle.rows.specs.Laws.Anchors.{IsV, Inside, AnchorNear, anchor-near, statePlace}
 use Rattle.rows.specs.Laws.Linear.{tolerance-top, axisErr, x-axis, y-axis, z-axis, dTop, dErr, delta-near, rowErr, row-near}
 use Rattle.rows.specs.Laws.Axes.{aligned}
 use Rattle.rows.specs.Laws.Rods.{Bounded, rod-met, lengthIn, length-in}
