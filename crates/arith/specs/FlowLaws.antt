@@ -32,6 +32,12 @@ module _ {A B E : Type 0} where
   unfolding _>>=_
   then-stop f e = ap (λ (r : Turn A E). r >>= f) e
 
+-- e?? is one chain
+pub then-then : {A B C E : Type 0} (r : Turn A E) (f : A → Turn B E) (g : B → Turn C E) → ((r >>= f) >>= g) ≡ (r >>= λ x. f x >>= g)
+unfolding _>>=_
+then-then (go a) f g = refl
+then-then (stop e) f g = refl
+
 module _ {A E : Type 0} (f : ℕ → A → Turn A E) (a : A) where
   pub loop-none : go a ≡ loop 0 f a
   unfolding loop

@@ -1,4 +1,5 @@
--- body.rt's answers are the definitions': one law for each way through a function, over plain variables.
+-- body.rt's answers are the definitions': one law for each way through a function, over plain variables. What a call answered comes as its
+-- contract and the code's match say it, `vectorOr arithmeticOverflow o ≡ d` and `o ≡ Some v`, so that `search` finds both.
 use Prim.Native.Nat.{_^_}
 use lib.Ieee as Ieee
 use lib.Ieee.{Float}
@@ -6,30 +7,36 @@ use mathlib.Core.Path.{_≡_, refl, sym, ap, _∙_}
 use mathlib.Core.Bool.{Bool, true, false, cond, not, _&&_}
 use Rattle.arith.specs.Real.{_⊕_, _⊗_, _⊘_, F, ratio}
 use Rattle.arith.specs.Flow.{Turn, go, stop, _>>=_, loop, returnIf}
-use Rattle.arith.specs.FlowLaws.{then-go, then-stop}
+use Rattle.arith.specs.FlowLaws.{then-go, then-stop, then-then}
 use Rattle.vectors.specs.declared.vector.Vec3.{Vec3}
 use Rattle.vectors.specs.declared.matrix.Mat3.{Mat3}
 use Rattle.vectors.specs.declared.quaternion.Quat.{Quat}
 use Rattle.vectors.specs.declared.quaternion.OptionQuat.{OptionQuat}
-use Rattle.vectors.specs.declared.quaternion.OptionQuat.the-variants.{None}
-use Rattle.vectors.specs.Vector.{finiteOf, addOf, subOf, scaleOf, divOf}
+use Rattle.vectors.specs.declared.quaternion.OptionQuat.the-variants.{Some, None}
+use Rattle.vectors.specs.declared.vector.OptionVec3.{OptionVec3}
+use Rattle.vectors.specs.declared.vector.OptionVec3.the-variants as Vector
+use Rattle.vectors.specs.declared.vector.OptionF64.{OptionF64}
+use Rattle.vectors.specs.declared.vector.OptionF64.the-variants as Number
+use Rattle.vectors.specs.Vector.{finiteOf, checkedLengthOf, addOf, subOf, scaleOf, divOf}
 use Rattle.vectors.specs.Matrix.{applyOf}
 use Rattle.vectors.specs.Quaternion.{conjugateOf, quatTryNormalizeOf, isNormalizedOf, integrateOf}
-use Rattle.vectors.specs.Answered.{integrateAsUnitOf}
+use Rattle.vectors.specs.Answered.{rotateAsUnitOf, integrateAsUnitOf}
 use Rattle.vectors.specs.Laws.AsUnit.{integrates-as-unit}
 use Rattle.rows.specs.declared.body.RigidBody.{RigidBody}
 use Rattle.rows.specs.declared.body.BodyState.{BodyState}
 use Rattle.rows.specs.declared.body.MomentumBody.{MomentumBody}
 use Rattle.rows.specs.declared.body.BodyAnswer.{BodyAnswer}
 use Rattle.rows.specs.declared.body.Pass.{Pass}
-use Rattle.rows.specs.Fault.{nonConvergent, arithmeticOverflow, Result, tryFinite, tryLength, tryRotate, try}
+use Rattle.rows.specs.declared.body.Pass.the-variants as Passes
+use Rattle.rows.specs.declared.End.the-variants as Ends
+use Rattle.rows.specs.Fault.{nonConvergent, arithmeticOverflow, Result, vectorOr, tryFinite, tryLength, tryRotate, try}
 use Rattle.rows.specs.Body.{worldCenterOfMassOf, newOf, inverseAngularMassOf, omegaOf, withMomenta, placedAt, kickOf, anchorOf, integrate}
 use Rattle.rows.specs.Body.{passOf, settled, driftOf, originOf, stateOf, sameVec3, sameQuat, stateWith}
 use Rattle.rows.specs.Unit.{UnitOf, tryRotateAsUnit, integrateAsUnit, inFrame, worldCenterAsUnit}
 use Rattle.rows.specs.Answer.{answerOf, BodyAnswered, passAs}
-use Rattle.rows.specs.AnswerLaws.{body-answered}
+use Rattle.rows.specs.AnswerLaws.{body-answered, vector-go, number-go}
 use Rattle.rows.proofs.Constants.{half-is, one-is, fourteen-is}
-use Rattle.rows.proofs.UnitLaws.{then-then, rotate-is, integrate-is, in-frame-is, center-is, no-back, no-turn}
+use Rattle.rows.proofs.UnitLaws.{unit-of, rotate-is, integrate-is, in-frame-is, center-is, no-back, no-turn}
 
 abbrev over : {A : Type 0} → Result A
 over = stop arithmeticOverflow
@@ -44,9 +51,15 @@ lost d e eo ed = body-answered _ d (lost-is e eo ed)
     lost-is : {r : BodyAnswer} {old known : MomentumBody} {d : Result MomentumBody} → r ≡ answerOf old over → old ≡ known → over ≡ d → r ≡ answerOf known d
     lost-is e eo ed = cc
 
--- an answer
-pub found : (old : MomentumBody) {x : Result MomentumBody} (d : Result MomentumBody) → x ≡ d → BodyAnswered old d (answerOf old x)
-found old d e = body-answered old d (ap (answerOf old) e)
+-- an answer, and none
+module _ (old : MomentumBody) (d : Result MomentumBody) where
+  pub found : {body : MomentumBody} → go body ≡ d → BodyAnswered old d (record { outcome = Ends.Done; body = body })
+  unfolding answerOf
+  found e = body-answered old d (ap (answerOf old) e)
+
+  pub endless : stop nonConvergent ≡ d → BodyAnswered old d (record { outcome = Ends.NonConvergent; body = old })
+  unfolding answerOf
+  endless e = body-answered old d (ap (answerOf old) e)
 
 -- ---- finite
 module _ (v : Vec3) {b : Bool} (eb : b ≡ finiteOf v) where
@@ -64,10 +77,10 @@ module _ (unit : Quat) (matrix : Mat3) (vector : Vec3) {q : Quat} (eq : q ≡ co
   unfolding inFrame _>>=_
   frame-lost h = cc
 
-  pub framed : {local m : Vec3} {r : Result Vec3} → go local ≡ tryRotateAsUnit q vector → m ≡ applyOf matrix local → r ≡ tryRotateAsUnit unit m
-      → r ≡ inFrame unit matrix vector
+  pub framed : {local m : Vec3} {o : OptionVec3} → go local ≡ tryRotateAsUnit q vector → m ≡ applyOf matrix local → o ≡ rotateAsUnitOf unit m
+      → vectorOr arithmeticOverflow o ≡ inFrame unit matrix vector
   unfolding inFrame _>>=_
-  framed h em er = cc
+  framed h em eo = cc
 
 -- ---- world_center_of_mass
 module _ (origin : Vec3) (unit : Quat) (local : Vec3) where
@@ -105,7 +118,10 @@ module _ (body : RigidBody) (inverse : Mat3) where
   unfolding newOf
   new-without-unit n = then-stop _ (no-back _ n _)
 
-  module _ {unit : Quat} (n : UnitOf (body .rotation) unit) where
+  module _ {u : OptionQuat} {unit : Quat} (eu : u ≡ quatTryNormalizeOf (body .rotation)) (su : u ≡ Some unit) where
+    n : UnitOf (body .rotation) unit
+    n = unit-of eu su
+
     by-unit : (inFrame unit (body .inertia) (body .«angular_velocity») >>= spun) ≡ newOf body inverse
     unfolding newOf
     by-unit = ap (λ (r : Result Vec3). r >>= spun) (in-frame-is n _ _) ∙ then-then _ _ spun
@@ -113,21 +129,24 @@ module _ (body : RigidBody) (inverse : Mat3) where
     pub new-spin-lost : over ≡ inFrame unit (body .inertia) (body .«angular_velocity») → over ≡ newOf body inverse
     new-spin-lost h = then-stop spun h ∙ by-unit
 
-    module _ {spin v : Vec3} (hs : go spin ≡ inFrame unit (body .inertia) (body .«angular_velocity»))
-        (ev : v ≡ scaleOf (body .«linear_velocity») (body .mass)) where
+    module _ {o : OptionVec3} {spin v : Vec3} (eo : vectorOr arithmeticOverflow o ≡ inFrame unit (body .inertia) (body .«angular_velocity»))
+        (so : o ≡ Vector.Some spin) (ev : v ≡ scaleOf (body .«linear_velocity») (body .mass)) where
       after-spin : {r : Result MomentumBody} → r ≡ spun spin → r ≡ newOf body inverse
-      after-spin e = e ∙ then-go spun hs ∙ by-unit
+      after-spin e = e ∙ then-go spun (vector-go eo so) ∙ by-unit
 
       pub new-momentum-lost : over ≡ tryFinite v → over ≡ newOf body inverse
       new-momentum-lost h = after-spin (then-stop _ (h ∙ ap tryFinite ev))
 
-      module _ {momentum : Vec3} (hm : go momentum ≡ tryFinite v) where
+      module _ {p : OptionVec3} {momentum : Vec3} (ep : vectorOr arithmeticOverflow p ≡ tryFinite v) (sp : p ≡ Vector.Some momentum) where
+        hm : go momentum ≡ tryFinite (scaleOf (body .«linear_velocity») (body .mass))
+        hm = vector-go ep sp ∙ ap tryFinite ev
+
         pub new-center-lost : over ≡ worldCenterAsUnit (body .origin) unit (body .«center_of_mass») → over ≡ newOf body inverse
-        new-center-lost h = after-spin (then-stop _ (h ∙ center-is n _ _) ∙ then-go _ (hm ∙ ap tryFinite ev))
+        new-center-lost h = after-spin (then-stop _ (h ∙ center-is n _ _) ∙ then-go _ hm)
 
         pub new-made : {center : Vec3} → go center ≡ worldCenterAsUnit (body .origin) unit (body .«center_of_mass»)
             → go (moving center momentum spin) ≡ newOf body inverse
-        new-made h = after-spin (then-go _ (h ∙ center-is n _ _) ∙ then-go _ (hm ∙ ap tryFinite ev))
+        new-made h = after-spin (then-go _ (h ∙ center-is n _ _) ∙ then-go _ hm)
 
 -- ---- inverse_angular_mass, kick, anchor
 module _ (self : MomentumBody) (spin : Vec3) where
@@ -135,24 +154,25 @@ module _ (self : MomentumBody) (spin : Vec3) where
   unfolding inverseAngularMassOf
   mass-without-unit n = then-stop _ (no-back _ n _)
 
-  pub mass-by-unit : {unit : Quat} → UnitOf (self .rotation) unit
-      → inFrame unit (self .«inverse_inertia») spin ≡ inverseAngularMassOf self spin
+  pub mass-by-unit : {unit : Quat} {r : Result Vec3} → UnitOf (self .rotation) unit → r ≡ inFrame unit (self .«inverse_inertia») spin
+      → r ≡ inverseAngularMassOf self spin
   unfolding inverseAngularMassOf
-  mass-by-unit n = in-frame-is n _ _
+  mass-by-unit n e = e ∙ in-frame-is n _ _
 
 module _ (self : MomentumBody) (linear angular : Vec3) {m : Vec3} (em : m ≡ addOf (self .momentum) linear) where
   pub kick-momentum-lost : over ≡ tryFinite m → over ≡ kickOf self linear angular
   unfolding kickOf _>>=_
   kick-momentum-lost h = cc
 
-  module _ {momentum s : Vec3} (hm : go momentum ≡ tryFinite m) (es : s ≡ addOf (self .spin) angular) where
+  module _ {o : OptionVec3} {momentum s : Vec3} (eo : vectorOr arithmeticOverflow o ≡ tryFinite m) (so : o ≡ Vector.Some momentum)
+      (es : s ≡ addOf (self .spin) angular) where
     pub kick-spin-lost : over ≡ tryFinite s → over ≡ kickOf self linear angular
     unfolding kickOf _>>=_
-    kick-spin-lost h = cc
+    kick-spin-lost h = let hm = vector-go eo so in cc
 
     pub kicked : {spin : Vec3} → go spin ≡ tryFinite s → go (withMomenta self momentum spin) ≡ kickOf self linear angular
     unfolding kickOf _>>=_
-    kicked h = cc
+    kicked h = let hm = vector-go eo so in cc
 
 module _ (self : MomentumBody) (local : Vec3) {d : Vec3} (ed : d ≡ subOf local (self .«center_of_mass»)) where
   pub anchor-lost : over ≡ tryRotate (self .rotation) d → over ≡ anchorOf self local
@@ -210,16 +230,19 @@ module _ (self : MomentumBody) (dt : Float) (omega : Vec3) where
       pub pass-residual-lost : over ≡ tryLength d → stop over ≡ passOf self dt omega
       pass-residual-lost h = after-omega (then-stop _ (ap try (h ∙ ap tryLength ed)))
 
-      module _ {residual : Float} (hr : go residual ≡ tryLength d) where
+      module _ {o : OptionF64} {residual : Float} (eo : o ≡ checkedLengthOf d) (so : o ≡ Number.Some residual) where
+        hr : go residual ≡ tryLength (subOf next omega)
+        hr = number-go arithmeticOverflow eo so ∙ ap tryLength ed
+
         pub pass-size-lost : over ≡ tryLength next → stop over ≡ passOf self dt omega
-        pass-size-lost h = after-omega (then-stop _ (ap try h) ∙ then-go _ (ap try (hr ∙ ap tryLength ed)))
+        pass-size-lost h = after-omega (then-stop _ (ap try h) ∙ then-go _ (ap try hr))
 
         module _ {size : Float} (hs : go size ≡ tryLength next) where
           after-test : {t : Bool} {r : Turn Vec3 (Result Quat)} → near residual size ≡ t
               → r ≡ (returnIf t (integrate (self .rotation) next dt) >>= λ _. go next) → r ≡ passOf self dt omega
           after-test h e =
               e ∙ after-omega (ap (λ (t : Bool). returnIf t (integrate (self .rotation) next dt) >>= λ _. go next) (sym h ∙ near-is residual size)
-              ∙ then-go _ (ap try hs) ∙ then-go _ (ap try (hr ∙ ap tryLength ed)))
+              ∙ then-go _ (ap try hs) ∙ then-go _ (ap try hr))
 
           pub pass-settles : {unit : Quat} {r : Turn Vec3 (Result Quat)} → UnitOf (self .rotation) unit → near residual size ≡ true
               → r ≡ stop (integrateAsUnit unit next dt) → r ≡ passOf self dt omega
@@ -248,35 +271,36 @@ module _ (self : MomentumBody) (dt : Float) {v p : Vec3} (ev : v ≡ scaleOf (se
   unfolding driftOf
   drift-center-lost h = then-stop _ (h ∙ at-center)
 
-  module _ {center : Vec3} (hc : go center ≡ tryFinite p) where
+  module _ {o : OptionVec3} {center : Vec3} (eo : vectorOr arithmeticOverflow o ≡ tryFinite p) (so : o ≡ Vector.Some center) where
     after-center : {r : Result MomentumBody} → r ≡ (omegaOf self >>= resting center) → r ≡ driftOf self dt
     unfolding driftOf
-    after-center e = e ∙ then-go _ (hc ∙ at-center)
+    after-center e = e ∙ then-go _ (vector-go eo so ∙ at-center)
 
     pub drift-without-unit : quatTryNormalizeOf (self .rotation) ≡ None → over ≡ driftOf self dt
     drift-without-unit n = after-center (then-stop _ (mass-without-unit self _ n))
 
-    module _ {unit : Quat} (n : UnitOf (self .rotation) unit) where
+    module _ {u : OptionQuat} {unit : Quat} (eu : u ≡ quatTryNormalizeOf (self .rotation)) (su : u ≡ Some unit) where
       pub drift-omega-lost : over ≡ inFrame unit (self .«inverse_inertia») (self .spin) → over ≡ driftOf self dt
-      drift-omega-lost h = after-center (then-stop _ (h ∙ mass-by-unit self _ n))
+      drift-omega-lost h = after-center (then-stop _ (mass-by-unit self _ (unit-of eu su) h))
 
-      module _ {omega : Vec3} (ho : go omega ≡ inFrame unit (self .«inverse_inertia») (self .spin)) where
-        after-search : {r : Result MomentumBody} {s : Turn Vec3 (Result Quat)} → s ≡ search omega
-            → r ≡ (settled s >>= λ rotation. go (placedAt self center rotation)) → r ≡ driftOf self dt
-        after-search hs e =
-            e ∙ ap (λ (s : Turn Vec3 (Result Quat)). settled s >>= λ rotation. go (placedAt self center rotation)) hs
-            ∙ after-center (then-go _ (ho ∙ mass-by-unit self _ n))
+      module _ {q : OptionVec3} {omega : Vec3} (eq : vectorOr arithmeticOverflow q ≡ inFrame unit (self .«inverse_inertia») (self .spin))
+          (sq : q ≡ Vector.Some omega) {r : Pass} (er : passAs r ≡ search omega) where
+        after-search : {d : Result MomentumBody} {x : Pass} → r ≡ x → d ≡ (settled (passAs x) >>= λ rotation. go (placedAt self center rotation))
+            → d ≡ driftOf self dt
+        after-search {d} {x} hx e =
+            e ∙ ap (λ (s : Turn Vec3 (Result Quat)). settled s >>= λ rotation. go (placedAt self center rotation)) (pass-as er hx)
+            ∙ after-center (then-go _ (mass-by-unit self _ (unit-of eu su) (vector-go eq sq)))
 
-        pub drifted : {rotation : Quat} {b : MomentumBody} → stop (go rotation) ≡ search omega → b ≡ placedAt self (self .center) rotation
-            → go (placedAt b center (b .rotation)) ≡ driftOf self dt
+        pub drifted : {rotation : Quat} {b moved : MomentumBody} → r ≡ Passes.Settled rotation → b ≡ placedAt self (self .center) rotation
+            → moved ≡ placedAt b center (b .rotation) → go moved ≡ driftOf self dt
         unfolding _>>=_
-        drifted h eb = after-search h (ap (λ (b : MomentumBody). go (placedAt b center (b .rotation))) eb)
+        drifted h eb em = after-search h (ap go em ∙ ap (λ (b : MomentumBody). go (placedAt b center (b .rotation))) eb)
 
-        pub drift-endless : {next : Vec3} → go next ≡ search omega → stop nonConvergent ≡ driftOf self dt
+        pub drift-endless : {next : Vec3} → r ≡ Passes.Next next → stop nonConvergent ≡ driftOf self dt
         unfolding _>>=_
         drift-endless h = after-search h refl
 
-        pub drift-turn-lost : stop over ≡ search omega → over ≡ driftOf self dt
+        pub drift-turn-lost : r ≡ Passes.ArithmeticOverflow → over ≡ driftOf self dt
         unfolding _>>=_
         drift-turn-lost h = after-search h refl
 
@@ -294,7 +318,8 @@ module _ (self : MomentumBody) {unit : Quat} (n : UnitOf (self .rotation) unit) 
     unfolding originOf
     origin-lost h = then-stop _ (h ∙ ap tryFinite es) ∙ then-go _ turns
 
-    module _ {origin : Vec3} {b : Bool} (ho : go origin ≡ tryFinite s) (en : b ≡ isNormalizedOf (self .rotation)) where
+    module _ {o : OptionVec3} {origin : Vec3} {b : Bool} (eo : vectorOr arithmeticOverflow o ≡ tryFinite s) (so : o ≡ Vector.Some origin)
+        (en : b ≡ isNormalizedOf (self .rotation)) where
       -- what `originOf` does with the origin, b' the answer of its test
       abbrev tested : Bool → Result Vec3
       tested b' = do
@@ -304,7 +329,7 @@ module _ (self : MomentumBody) {unit : Quat} (n : UnitOf (self .rotation) unit) 
 
       after-origin : {r : Result Vec3} {b' : Bool} → not b ≡ b' → r ≡ tested b' → r ≡ originOf self
       unfolding originOf
-      after-origin h e = e ∙ ap tested (sym h ∙ ap not en) ∙ then-go _ (ho ∙ ap tryFinite es) ∙ then-go _ turns
+      after-origin h e = e ∙ ap tested (sym h ∙ ap not en) ∙ then-go _ (vector-go eo so ∙ ap tryFinite es) ∙ then-go _ turns
 
       pub origin-not-normalized : not b ≡ true → over ≡ originOf self
       unfolding _>>=_
@@ -319,9 +344,9 @@ module _ (self : MomentumBody) {unit : Quat} (n : UnitOf (self .rotation) unit) 
         unfolding _>>=_
         origin-center-lost h = after-origin hn (then-stop _ (h ∙ centers))
 
-        pub origin-found : {x : Vec3} → go x ≡ tryFinite w → go origin ≡ originOf self
+        pub origin-found : {p : OptionVec3} {x : Vec3} → vectorOr arithmeticOverflow p ≡ tryFinite w → p ≡ Vector.Some x → go origin ≡ originOf self
         unfolding _>>=_
-        origin-found h = after-origin hn (then-go _ (h ∙ centers))
+        origin-found ep sp = after-origin hn (then-go _ (vector-go ep sp ∙ centers))
 
 module _ (self : MomentumBody) (old : BodyState) where
   pub state-without-unit : quatTryNormalizeOf (self .rotation) ≡ None → over ≡ stateOf self old
@@ -332,25 +357,37 @@ module _ (self : MomentumBody) (old : BodyState) where
   unfolding stateOf
   state-origin-lost h = then-stop _ h
 
-  module _ {origin l : Vec3} (ho : go origin ≡ originOf self) (el : l ≡ divOf (self .momentum) (self .mass)) where
+  module _ {o : OptionVec3} {origin l : Vec3} (eo : vectorOr arithmeticOverflow o ≡ originOf self) (so : o ≡ Vector.Some origin)
+      (el : l ≡ divOf (self .momentum) (self .mass)) where
     pub state-linear-lost : over ≡ tryFinite l → over ≡ stateOf self old
     unfolding stateOf
-    state-linear-lost h = then-stop _ (h ∙ ap tryFinite el) ∙ then-go _ ho
+    state-linear-lost h = then-stop _ (h ∙ ap tryFinite el) ∙ then-go _ (vector-go eo so)
 
-    module _ {linear : Vec3} {unit : Quat} (hl : go linear ≡ tryFinite l) (n : UnitOf (self .rotation) unit) where
+    module _ {p : OptionVec3} {linear : Vec3} {u : OptionQuat} {unit : Quat} (ep : vectorOr arithmeticOverflow p ≡ tryFinite l) (sp : p ≡ Vector.Some linear)
+        (eu : u ≡ quatTryNormalizeOf (self .rotation)) (su : u ≡ Some unit) where
+      linear-is : go linear ≡ tryFinite (divOf (self .momentum) (self .mass))
+      linear-is = vector-go ep sp ∙ ap tryFinite el
+
       pub state-angular-lost : over ≡ inFrame unit (self .«inverse_inertia») (self .spin) → over ≡ stateOf self old
       unfolding stateOf
-      state-angular-lost h = then-stop _ (h ∙ mass-by-unit self _ n) ∙ then-go _ (hl ∙ ap tryFinite el) ∙ then-go _ ho
+      state-angular-lost h = then-stop _ (mass-by-unit self _ (unit-of eu su) h) ∙ then-go _ linear-is ∙ then-go _ (vector-go eo so)
 
-      module _ {angular : Vec3} {t : Bool} (ha : go angular ≡ inFrame unit (self .«inverse_inertia») (self .spin))
-          (et : t ≡ (sameVec3 origin (old .origin) && sameQuat (self .rotation) (old .rotation))) where
-        -- the old transform where the new one compares equal: one law for both ways
+      module _ {q : OptionVec3} {angular : Vec3} {t : Bool} (eq : vectorOr arithmeticOverflow q ≡ inFrame unit (self .«inverse_inertia») (self .spin))
+          (sq : q ≡ Vector.Some angular) (et : t ≡ (sameVec3 origin (old .origin) && sameQuat (self .rotation) (old .rotation))) where
+        -- the old transform where the new one compares equal
         abbrev stated : Bool → Result BodyState
         stated b = go (cond b (stateWith (old .origin) (old .rotation) linear angular) (stateWith origin (self .rotation) linear angular))
 
-        pub state-found : {b : Bool} → t ≡ b → stated b ≡ stateOf self old
+        found-by : {b : Bool} → t ≡ b → stated b ≡ stateOf self old
         unfolding stateOf
-        state-found h = ap stated (sym h ∙ et) ∙ then-go _ (ha ∙ mass-by-unit self _ n) ∙ then-go _ (hl ∙ ap tryFinite el) ∙ then-go _ ho
+        found-by h =
+            ap stated (sym h ∙ et) ∙ then-go _ (mass-by-unit self _ (unit-of eu su) (vector-go eq sq)) ∙ then-go _ linear-is ∙ then-go _ (vector-go eo so)
+
+        pub state-kept : t ≡ true → go (stateWith (old .origin) (old .rotation) linear angular) ≡ stateOf self old
+        state-kept h = found-by h
+
+        pub state-new : t ≡ false → go (stateWith origin (self .rotation) linear angular) ≡ stateOf self old
+        state-new h = found-by h
 
 -- ---- all of several tests
 pub both-yes : {r a b : Bool} → a ≡ true → r ≡ b → r ≡ (a && b)

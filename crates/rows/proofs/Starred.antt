@@ -125,5 +125,7 @@ right [] = true
 right (line ∷ lines) = same (line .0) (line .1) && right lines
 
 starred : T (right table)
-unfolding right same numbers writeEqualityRows endsOf toleranceOf distanceRow anchorOf tryFinite rotateVectorOf normalizeBy checkedLengthOf correctionOf placeOf factorRowOf factorOf factorSpdOf solveOf solveSpdOf inverseSpdOf turns loop _>>=_ horner arcSum halfTangent octant quadrant facing angleOf atan2Of hypotOf scaledRoot sqrt roundRoot root rootIn isFinite absOf add sub mul div neg lt le eq round toBits ofBits
+unfolding right same numbers writeEqualityRows endsOf toleranceOf distanceRow anchorOf tryFinite rotateVectorOf normalizeBy checkedLengthOf
+    correctionOf placeOf factorRowOf factorOf factorSpdOf solveOf solveSpdOf inverseSpdOf turns loop _>>=_ horner arcSum halfTangent octant quadrant
+    facing angleOf atan2Of hypotOf scaledRoot sqrt roundRoot root rootIn isFinite absOf add sub mul div neg lt le eq round toBits ofBits
 starred = tt

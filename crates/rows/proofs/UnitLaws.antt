@@ -1,7 +1,7 @@
 -- Where a rotation normalizes to `unit`, the definitions of `Unit` are those of `Body`; where it does not normalize, every turn by it fails.
 use lib.Ieee.{Float}
-use mathlib.Core.Path.{_≡_, refl, sym, ap, _∙_}
-use Rattle.arith.specs.Flow.{Turn, go, stop, _>>=_}
+use mathlib.Core.Path.{_≡_, sym, ap, _∙_}
+use Rattle.arith.specs.Flow.{stop, _>>=_}
 use Rattle.vectors.specs.declared.vector.Vec3.{Vec3}
 use Rattle.vectors.specs.declared.matrix.Mat3.{Mat3}
 use Rattle.vectors.specs.declared.quaternion.Quat.{Quat}
@@ -14,14 +14,11 @@ use Rattle.rows.specs.Fault.{arithmeticOverflow, vectorOr, quatOr, tryRo
 use Rattle.rows.specs.Body.{worldCenterOfMassOf, integrate}
 use Rattle.rows.specs.Unit.{UnitOf, tryRotateAsUnit, integrateAsUnit, inFrame, worldCenterAsUnit}
 
--- e?? is one chain
-pub then-then : {A B C E : Type 0} (r : Turn A E) (f : A → Turn B E) (g : B → Turn C E) → ((r >>= f) >>= g) ≡ (r >>= λ x. f x >>= g)
-unfolding _>>=_
-then-then (go a) f g = refl
-then-then (stop e) f g = refl
-
 pub unit-of : {q unit : Quat} {o : OptionQuat} → o ≡ quatTryNormalizeOf q → o ≡ Some unit → UnitOf q unit
 unit-of e h = record { is = sym e ∙ h }
+
+pub no-unit : (q : Quat) {o : OptionQuat} → o ≡ quatTryNormalizeOf q → o ≡ None → quatTryNormalizeOf q ≡ None
+no-unit q e h = sym e ∙ h
 
 module _ {q unit : Quat} (n : UnitOf q unit) where
   pub rotate-is : (v : Vec3) → tryRotateAsUnit unit v ≡ tryRotate q v

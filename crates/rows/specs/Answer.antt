@@ -11,6 +11,8 @@ use Rattle.rows.specs.declared.End.the-variants as Ends
 use Rattle.rows.specs.declared.body.Pass.{Pass}
 use Rattle.rows.specs.declared.body.Pass.the-variants as Passes
 use Rattle.vectors.specs.declared.vector.Vec3.{Vec3}
+use Rattle.vectors.specs.declared.vector.OptionVec3.{OptionVec3}
+use Rattle.vectors.specs.declared.vector.OptionVec3.the-variants as Vector
 use Rattle.vectors.specs.declared.matrix.Mat3.{Mat3}
 use Rattle.vectors.specs.declared.quaternion.Quat.{Quat}
 use Rattle.rows.specs.declared.body.RigidBody.{RigidBody}
@@ -23,7 +25,7 @@ use Rattle.rows.specs.declared.geometry.Joint.{Joint}
 use Rattle.rows.specs.declared.geometry.EqualityRow.{EqualityRow}
 use Rattle.rows.specs.declared.geometry.Written.{Written}
 use Rattle.rows.specs.declared.geometry.Written.the-variants as Written
-use Rattle.rows.specs.Fault.{Fault, nonConvergent, arithmeticOverflow, number, Result}
+use Rattle.rows.specs.Fault.{Fault, nonConvergent, arithmeticOverflow, number, Result, vectorOr}
 use Rattle.rows.specs.Body.{bodyWith}
 use Rattle.rows.specs.Geometry.{writeEqualityRows}
 use Rattle.rows.specs.Count.{rowCount}
@@ -42,6 +44,10 @@ endNumber Ends.ArithmeticOverflow = number arithmeticOverflow
 -- it is that of the result d that is defined
 abbrev pub Numbered : {A : Type 0} → End → Result A → Type 0
 Numbered r d = endNumber r ≡ refusalNumber d
+
+abbrev pub vectorNumber : OptionVec3 → ℕ
+vectorNumber (Vector.Some v) = 0
+vectorNumber Vector.None = number arithmeticOverflow
 
 abbrev pub stateNumber : StateAnswer → ℕ
 stateNumber (State.Value state) = 0
@@ -84,6 +90,11 @@ bodyAs r = ranAs (r .outcome) (r .body)
 pub record BodyAnswered (old : MomentumBody) (d : Result MomentumBody) (r : BodyAnswer) : Type 0 where
   pub is : r ≡ answerOf old d
   pub numbered : Numbered (r .outcome) d
+
+-- what `omega` promises
+pub record VectorAnswered (d : Result Vec3) (r : OptionVec3) : Type 0 where
+  pub is : vectorOr arithmeticOverflow r ≡ d
+  pub numbered : vectorNumber r ≡ refusalNumber d
 
 -- a pass of drift: the next omega, or how its loop is left
 abbrev pub passAs : Pass → Turn Vec3 (Result Quat)

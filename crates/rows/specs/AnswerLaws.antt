@@ -25,8 +25,8 @@ use Rattle.rows.specs.declared.body.BodyAnswer.{BodyAnswer}
 use Rattle.rows.specs.declared.geometry.Written.{Written}
 use Rattle.rows.specs.declared.geometry.Written.the-variants as Written
 use Rattle.rows.specs.Fault.{Fault, nonConvergent, arithmeticOverflow, Result, vectorOr, numberOr, quatOr}
-use Rattle.rows.specs.Answer.{refusalNumber, stateNumber, writtenNumber, Numbered, isDone, ranAs}
-use Rattle.rows.specs.Answer.{answerOf, bodyAs, BodyAnswered, stateAs, StateAnswered, writtenAs}
+use Rattle.rows.specs.Answer.{refusalNumber, vectorNumber, stateNumber, writtenNumber, Numbered, isDone, ranAs}
+use Rattle.rows.specs.Answer.{answerOf, bodyAs, BodyAnswered, VectorAnswered, stateAs, StateAnswered, writtenAs}
 
 -- a contract of this crate: `vectorOr arithmeticOverflow o ≡ d`
 pub vector-go : {o : OptionVec3} {v : Vec3} {d : Result Vec3} → vectorOr arithmeticOverflow o ≡ d → o ≡ Some v → go v ≡ d
@@ -34,6 +34,13 @@ vector-go e h = sym (ap (vectorOr arithmeticOverflow) h) ∙ e
 
 pub vector-stop : {o : OptionVec3} {d : Result Vec3} → vectorOr arithmeticOverflow o ≡ d → o ≡ None → stop arithmeticOverflow ≡ d
 vector-stop e h = sym (ap (vectorOr arithmeticOverflow) h) ∙ e
+
+vector-number : (r : OptionVec3) → vectorNumber r ≡ refusalNumber (vectorOr arithmeticOverflow r)
+vector-number (Some v) = refl
+vector-number None = refl
+
+pub vector-answered : {d : Result Vec3} (r : OptionVec3) → vectorOr arithmeticOverflow r ≡ d → VectorAnswered d r
+vector-answered r e = record { is = e; numbered = vector-number r ∙ ap refusalNumber e }
 
 -- a contract of vectors, and `.ok_or(f)`
 module _ (f : Fault) {o d : OptionVec3} (e : o ≡ d) where
@@ -56,6 +63,9 @@ module _ (f : Fault) {o d : OptionQuat} (e : o ≡ d) where
 
   pub quat-stop : o ≡ Rotation.None → stop f ≡ quatOr f d
   quat-stop h = cc
+
+-- a proof says `search (answers, law)`: the facts that the law asks are found in what the calls ensured and answered
+pub ruleset answers = (vector-go, vector-stop, some-go, none-stop, number-go, number-stop, quat-go, quat-stop)
 
 -- ---- how a call ended: what it left, or a fault, which is the same whatever was to be left
 abbrev pub faultOf : End → Fault

@@ -13,7 +13,7 @@ ghost use Rattle.rows.specs.Fault.{arithmeticOverflow, vectorOr, tryFini
 ghost use Rattle.rows.specs.Body.{newOf, inverseAngularMassOf, omegaOf, kickOf, anchorOf, placedAt, passOf, driftOf};
 ghost use Rattle.rows.specs.Body.{originOf, stateOf, sameVec3, sameQuat};
 ghost use Rattle.rows.specs.Unit.{UnitOf, inFrame, integrateAsUnit, worldCenterAsUnit};
-ghost use Rattle.rows.specs.Answer.{answerOf, BodyAnswered, passAs, StateAnswered, standing};
+ghost use Rattle.rows.specs.Answer.{answerOf, BodyAnswered, VectorAnswered, passAs, StateAnswered, standing};
 
 const MAX_ITERATIONS: usize = 32;
 
@@ -161,7 +161,7 @@ impl MomentumBody {
     }
 
     pub fn omega(self) -> OptionVec3
-        ensures { λ r. ⌜ vectorOr arithmeticOverflow r ≡ omegaOf self ⌝ }
+        ensures { λ r. ⌜ VectorAnswered (omegaOf self) r ⌝ }
     {
         self.inverse_angular_mass(self.spin)
     }

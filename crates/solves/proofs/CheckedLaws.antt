@@ -24,11 +24,6 @@ use Rattle.solves.specs.View.{noGeneralized}
 use Rattle.solves.specs.Checked.{added, finiteShare, allFinite, checked}
 
 -- ---- chains and loops
-pub then-then : {A B C E : Type 0} (r : Turn A E) (f : A → Turn B E) (g : B → Turn C E) → ((r >>= f) >>= g) ≡ (r >>= λ x. f x >>= g)
-unfolding _>>=_
-then-then (go a) f g = refl
-then-then (stop e) f g = refl
-
 pub loop-next : {A E : Type 0} (f : ℕ → A → Turn A E) (a : A) (k : ℕ) → (loop k f a >>= f k) ≡ loop (k + 1) f a
 unfolding loop
 loop-next f a k = ap (λ (m : ℕ). loop m f a) (sym (add-one k))

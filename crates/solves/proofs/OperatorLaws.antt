@@ -10,7 +10,7 @@ use lib.ListN.{length, set, replicate}
 use lib.Ieee.{Float}
 use Rattle.arith.specs.Real.{ratio, isFinite, _⊕_, _⊗_}
 use Rattle.arith.specs.Flow.{go, stop, _>>=_, turns, tab, loop, each, every}
-use Rattle.arith.specs.FlowLaws.{turns-more, cond-no, not-yes, not-no, loop-none, each-none, each-more, each-stop, each-end}
+use Rattle.arith.specs.FlowLaws.{turns-more, cond-no, not-yes, not-no, loop-none, each-none, each-more, each-stop, each-end, then-then}
 use Rattle.vectors.specs.declared.vector.Vec3.{Vec3}
 use Rattle.vectors.specs.Vector.{dotOf, finiteOf}
 use Rattle.vectors.specs.Matrix.{applyOf}
@@ -30,7 +30,7 @@ use Rattle.solves.specs.View.{rowOn, rowsOn, generalizedAt, sharesIn, ma
 use Rattle.solves.specs.View.{BODIES-MOST, VECTOR, RHS, GENERALIZED, MASSES, END, noGeneralized, noMass}
 use Rattle.solves.specs.DoesLaws.{number-yes, number-no, does-stop, does-then}
 use Rattle.solves.specs.ViewLaws.{out-within, kept-rows, kept-masses, row-in, share-in, mass-in, shares-set, shares-more, shares-none}
-use Rattle.solves.proofs.CheckedLaws.{then-then, loop-next, push-is, zeros-checked}
+use Rattle.solves.proofs.CheckedLaws.{loop-next, push-is, zeros-checked}
 
 -- dot
 abbrev pub dotTurn : List Float → List Float → ℕ → Float → Float

@@ -76,7 +76,7 @@ tolerance-top pa pb A B t ha hb T₀ =
     let m = mag (chk toleranceβ toleranceE) + err (chk toleranceβ toleranceE) in
     let r = ratio 32 1 ⊠f epsilon ⊠f (lengthOf pa ⊞f lengthOf pb) in
     let P : Float → Type 0 = λ f. T (finite f) × Abs (val f) tolTop in
-    subst P (T₀ .is)
+    subst P T₀
     (max-keeps P r (ratio 1 (10 ^ 13))
     (S .0, abs-mono (val r) m tolTop (leb→le m tolTop tt) (own (val r) _ (mag (chk toleranceβ toleranceE)) (err (chk toleranceβ toleranceE)) (S .1) (S .2)))
     least-tolerance)

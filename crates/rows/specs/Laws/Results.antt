@@ -140,7 +140,6 @@ pub record Ended (joint : Joint) (a b : MomentumBody) (e : Ends) : Type 0 where
   pub a-anchored : Anchored a (joint .«frame_a» .«local_anchor») (e .pa)
   pub b-anchored : Anchored b (joint .«frame_b» .«local_anchor») (e .pb)
   pub delta-is : subOf (e .pb) (e .pa) ≡ e .delta
-  pub delta-finite : T (finiteOf (e .delta))
   pub a-frame : productOf (a .rotation) (joint .«frame_a» .«local_rotation») ≡ e .«frame_a»
   pub b-frame : productOf (b .rotation) (joint .«frame_b» .«local_rotation») ≡ e .«frame_b»
 
@@ -155,7 +154,6 @@ ended joint a b e h =
       a-anchored = anchored a (joint .«frame_a» .«local_anchor») (r₁ .0) (r₁ .1);
       b-anchored = anchored b (joint .«frame_b» .«local_anchor») (r₂ .0) (r₂ .1);
       delta-is = f .0;
-      delta-finite = subst (λ v. T (finiteOf v)) (f .0) (f .1);
       a-frame = refl;
       b-frame = refl;
     })
@@ -165,23 +163,17 @@ ended joint a b e h =
 abbrev pub toleratedAt : Float → Float → Float
 toleratedAt la lb = maxOf (ratio 32 1 ⊗ epsilon ⊗ (la ⊕ lb)) (ratio 1 (10 ^ 13))
 
-pub record Tolerated (pa pb : Vec3) (t : Float) : Type 0 where
-  pub a-finite : T (isFinite (lengthOf pa))
-  pub b-finite : T (isFinite (lengthOf pb))
-  pub is : toleratedAt (lengthOf pa) (lengthOf pb) ≡ t
+abbrev pub Tolerated : Vec3 → Vec3 → Float → Type 0
+Tolerated pa pb t = toleratedAt (lengthOf pa) (lengthOf pb) ≡ t
 
-pub tolerated : (pa pb : Vec3) (t : Float) → toleranceOf pa pb ≡ go t → Tolerated pa pb t
+tolerated : (pa pb : Vec3) (t : Float) → toleranceOf pa pb ≡ go t → Tolerated pa pb t
 unfolding toleranceOf
 tolerated pa pb t h =
     let r₁ = step _ _ t h in
     let r₂ = step _ _ t (r₁ .2) in
     let la = length-go pa (r₁ .0) (r₁ .1) in
     let lb = length-go pb (r₂ .0) (r₂ .1) in
-    record {
-      a-finite = subst (λ x. T (isFinite x)) (sym (la .0)) (la .1);
-      b-finite = subst (λ x. T (isFinite x)) (sym (lb .0)) (lb .1);
-      is = ap (λ x. toleratedAt x (lengthOf pb)) (la .0) ∙ ap (toleratedAt (r₁ .0)) (lb .0) ∙ go-same _ t (r₂ .2);
-    }
+    ap (λ x. toleratedAt x (lengthOf pb)) (la .0) ∙ ap (toleratedAt (r₁ .0)) (lb .0) ∙ go-same _ t (r₂ .2)
 
 -- ---- the rows
 pub record Along (joint : Joint) (e : Ends) (local : Vec3) (row : EqualityRow) : Type 0 where

@@ -107,13 +107,5 @@ module _ (q : Quat) (n : quatTryNormalizeOf q ≡ None) where
   pub conjugate-no-unit : quatTryNormalizeOf (conjugateOf q) ≡ None
   conjugate-no-unit = conjugate-normalizes q ∙ ap conjugated n
 
-  pub no-unit-no-integral : (velocity : Vec3) (dt : Float) → integrateOf q velocity dt ≡ None
-  unfolding integrateOf
-  no-unit-no-integral velocity dt = ap (integrated (deltaIn velocity dt)) n ∙ none (deltaIn velocity dt)
-    where
-      none : (o : OptionQuat) → integrated o None ≡ None
-      none (Some delta) = refl
-      none None = refl
-
 pub conjugate-no-rotation : (q : Quat) → quatTryNormalizeOf q ≡ None → (v : Vec3) → rotateVectorOf (conjugateOf q) v ≡ Vector.None
 conjugate-no-rotation q n = no-unit-no-rotation (conjugateOf q) (conjugate-no-unit q n)

@@ -6,8 +6,7 @@ use Rattle.rows.proofs.body.same_vec3.Tie as tie
 
 returns : tie.Need-returns
 returns c =
-    let at-if2 = c .before .before in
-    let at-if1 = at-if2 .before .before .before in
+    let at-if2 = c .before .before in let at-if1 = at-if2 .before .before .before in
     both-yes (sym (both-yes (at-if1 .if1 .taken) (sym (at-if2 .if2 .taken)))) refl
 
 returns-2 : tie.Need-returns-2

@@ -6,9 +6,6 @@ use Rattle.rows.proofs.geometry.any_locked.Tie as tie
 returns-2 : tie.Need-returns-2
 returns-2 c = y-is-locked _ (c .before .before .if1 .left) (c .if2 .taken)
 
-returns-3 : tie.Need-returns-3
-returns-3 c = twist-decides _ (c .before .before .before .if1 .left) (c .before .if2 .left)
-
 pub any-locked-spec : {M : Type 1} → statement M
 any-locked-spec =
-    tie.close (tie.spec (λ c. x-is-locked _ (c .if1 .taken)) returns-2 returns-3)
+    tie.close (tie.spec (λ c. x-is-locked _ (c .if1 .taken)) returns-2 (λ c. search twist-decides))

@@ -10,14 +10,9 @@ append-row-requires c κs =
     let at-written = c .before .before in
     omega (arith, at-written .before .before .before .pre, count-rows (at-written .written .given .1))
 
-returns : tie.Need-returns
-returns c =
-    let at-row = c .before .before in
-    append-rows (at-row .before .before .before .written .given .1) (at-row .append-row .ensures)
-
 pub append-spec : {M : Type 1} → statement M
 append-spec =
     tie.close (tie.spec
       (λ c. search needs) append-row-requires (λ c. search needs) (λ c. search needs) (λ c. search needs)
-      returns (λ c. append-nonconvergent (c .enum-told .given .1))
+      (λ c. search append-rows) (λ c. append-nonconvergent (c .enum-told .given .1))
       (λ c. append-overflow (c .enum-told2 .given .1)))

@@ -7,11 +7,6 @@ use Rattle.rows.specs.declared.geometry.RowAnswer.the-variants as Row
 use Rattle.rows.proofs.geometry.append_row.Statement.{statement}
 use Rattle.rows.proofs.geometry.append_row.Tie as tie
 
-returns : tie.Need-returns
-returns c =
-    let at-store = c .before .before in
-    append-value (at-store .before .before .before .answer .given .1) (at-store .store .ensures)
-
 returns-2 : tie.Need-returns-2
 unfolding There
 returns-2 c = append-none Row.Free tt (c .enum-told .given .1) refl
@@ -28,5 +23,5 @@ pub append-row-spec : {M : Type 1} → statement M
 append-row-spec =
     tie.close (tie.spec
       (λ c. search needs) (λ c. search needs) (λ c. search needs) (λ c κs. search needs) (λ c. search needs)
-      (λ c. search needs) (λ c. search needs) (λ c. search needs) (λ c. search needs) returns returns-2
-      returns-3 returns-4)
+      (λ c. search needs) (λ c. search needs) (λ c. search needs) (λ c. search needs) (λ c. search append-value)
+      returns-2 returns-3 returns-4)

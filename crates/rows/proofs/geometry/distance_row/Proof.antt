@@ -1,14 +1,14 @@
 -- `geometry::distance_row` meets its contract: one law of `RowLaws` for each return.
 use Rattle.rows.proofs.RowLaws.{distance-is, distance-no-axis, distance-no-length, distance-no-tolerance}
 use Rattle.rows.proofs.RowLaws.{single, single-stop, tolerance-go, tolerance-stop}
-use Rattle.rows.specs.AnswerLaws.{none-stop, number-go, number-stop, some-go}
+use Rattle.rows.specs.AnswerLaws.{none-stop, number-go, some-go, answers}
 use Rattle.rows.specs.Fault.{arithmeticOverflow, nonConvergent}
 use borrow.Author.Needs.{needs}
 use Rattle.rows.proofs.geometry.distance_row.Statement.{statement}
 use Rattle.rows.proofs.geometry.distance_row.Tie as tie
 
 returns : tie.Need-returns
-returns c = single-stop _ (distance-no-length _ _ _ (number-stop arithmeticOverflow (c .before .before .checked-length .ensures) (c .enum-told .given .1)))
+returns c = search (answers, distance-no-length, single-stop)
 
 returns-2 : tie.Need-returns-2
 returns-2 c =
@@ -20,8 +20,7 @@ returns-2 c =
 
 returns-3 : tie.Need-returns-3
 returns-3 c =
-    let at-axis = c .before .before .before .before in
-    let at-distance = at-axis .before .before .before .before in
+    let at-axis = c .before .before .before .before in let at-distance = at-axis .before .before .before .before in
     single-stop _
     (distance-no-tolerance _ _ _
     (number-go arithmeticOverflow (at-distance .before .before .checked-length .ensures) (at-distance .distance .given .1))
@@ -29,16 +28,7 @@ returns-3 c =
     (tolerance-stop (c .before .before .tolerance .ensures) (c .enum-told3 .given .1)))
 
 returns-4 : tie.Need-returns-4
-returns-4 c =
-    let at-tolerance = c .before .before .before .before .before in
-    let at-axis = at-tolerance .before .before .before .before in
-    let at-distance = at-axis .before .before .before .before in
-    single _
-    (distance-is _ _ _
-    (number-go arithmeticOverflow (at-distance .before .before .checked-length .ensures) (at-distance .distance .given .1))
-    (some-go nonConvergent (at-axis .before .before .try-normalize .ensures) (at-axis .axis .given .1))
-    (tolerance-go (at-tolerance .before .before .tolerance .ensures) (at-tolerance .tolerance2 .given .1))
-    (c .before .before .before .neg .ensures) (c .before .before .cross .ensures) (c .before .neg2 .ensures) (c .cross2 .ensures))
+returns-4 c = search (distance-is, single, tolerance-go, number-go, some-go)
 
 pub distance-row-spec : {M : Type 1} → statement M
 distance-row-spec =

@@ -1,12 +1,9 @@
 -- `geometry::ends_of` meets its contract: one law of `RowLaws` for each return.
 use Rattle.rows.proofs.RowLaws.{ends-no-a, ends-no-b, ends-no-delta, ends-are}
-use Rattle.rows.specs.AnswerLaws.{vector-go, vector-stop}
+use Rattle.rows.specs.AnswerLaws.{vector-go, vector-stop, answers}
 use borrow.Author.Needs.{needs}
 use Rattle.rows.proofs.geometry.ends_of.Statement.{statement}
 use Rattle.rows.proofs.geometry.ends_of.Tie as tie
-
-returns : tie.Need-returns
-returns c = ends-no-a _ _ _ (vector-stop (c .before .before .anchor .ensures) (c .enum-told .given .1))
 
 returns-2 : tie.Need-returns-2
 returns-2 c =
@@ -15,19 +12,9 @@ returns-2 c =
     (vector-go (at-pa .before .before .anchor .ensures) (at-pa .pa .given .1))
     (vector-stop (c .before .before .anchor2 .ensures) (c .enum-told2 .given .1))
 
-returns-3 : tie.Need-returns-3
-returns-3 c =
-    let at-pb = c .before .before .before .before .before in
-    let at-pa = at-pb .before .before .before .before in
-    ends-no-delta _ _ _
-    (vector-go (at-pa .before .before .anchor .ensures) (at-pa .pa .given .1))
-    (vector-go (at-pb .before .before .anchor2 .ensures) (at-pb .pb .given .1)) (c .before .before .before .sub .ensures)
-    (vector-stop (c .before .before .finite .ensures) (c .enum-told3 .given .1))
-
 returns-4 : tie.Need-returns-4
 returns-4 c =
-    let at-delta = c .before .before .before .before .before in
-    let at-pb = at-delta .before .before .before .before .before in
+    let at-delta = c .before .before .before .before .before in let at-pb = at-delta .before .before .before .before .before in
     let at-pa = at-pb .before .before .before .before in
     ends-are _ _ _
     (vector-go (at-pa .before .before .anchor .ensures) (at-pa .pa .given .1))
@@ -38,7 +25,7 @@ returns-4 c =
 pub ends-of-spec : {M : Type 1} → statement M
 ends-of-spec =
     tie.close (tie.spec
-      (λ c κs. search needs) (λ c. search needs) (λ c. search needs) returns (λ c κs. search needs)
-      (λ c. search needs) (λ c. search needs) returns-2 (λ c κs. search needs) (λ c κs. search needs)
-      (λ c. search needs) (λ c. search needs) returns-3 (λ c κs. search needs) (λ c κs. search needs)
-      (λ c κs. search needs) (λ c κs. search needs) returns-4)
+      (λ c κs. search needs) (λ c. search needs) (λ c. search needs) (λ c. search (answers, ends-no-a))
+      (λ c κs. search needs) (λ c. search needs) (λ c. search needs) returns-2 (λ c κs. search needs)
+      (λ c κs. search needs) (λ c. search needs) (λ c. search needs) (λ c. search (answers, ends-no-delta))
+      (λ c κs. search needs) (λ c κs. search needs) (λ c κs. search needs) (λ c κs. search needs) returns-4)

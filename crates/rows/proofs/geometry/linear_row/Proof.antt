@@ -1,32 +1,20 @@
 -- `geometry::linear_row` meets its contract: one law of `RowLaws` for each return.
 use Rattle.rows.proofs.RowLaws.{linear-no-axis, linear-no-angular-a, linear-no-angular-b, linear-is, single, single-stop, turned-go, turned-stop}
-use Rattle.rows.specs.AnswerLaws.{vector-go, vector-stop}
+use Rattle.rows.specs.AnswerLaws.{vector-go, vector-stop, answers}
 use borrow.Author.Needs.{needs}
 use Rattle.rows.proofs.geometry.linear_row.Statement.{statement}
 use Rattle.rows.proofs.geometry.linear_row.Tie as tie
 
 returns : tie.Need-returns
-returns c =
-    let at-turn = c .before .before in
-    single-stop _ (linear-no-axis _ _ _ (turned-stop (at-turn .before .pre .0) _ (at-turn .rotate-as-unit .ensures) (c .enum-told .given .1)))
+returns c = search (linear-no-axis, single-stop, turned-stop)
 
 returns-2 : tie.Need-returns-2
-returns-2 c =
-    let at-sub = c .before .before .before in
-    let at-axis = at-sub .before .before .before .before in
-    let at-turn = at-axis .before .before in
-    single-stop _
-    (linear-no-angular-a _ _ _
-    (turned-go (at-turn .before .pre .0) _ (at-turn .rotate-as-unit .ensures) (at-axis .axis .given .1))
-    (at-sub .before .before .cross .ensures) (at-sub .before .cross2 .ensures) (at-sub .sub .ensures)
-    (vector-stop (c .before .before .finite .ensures) (c .enum-told2 .given .1)))
+returns-2 c = search (answers, linear-no-angular-a, single-stop, turned-go)
 
 returns-3 : tie.Need-returns-3
 returns-3 c =
-    let at-a = c .before .before .before .before .before in
-    let at-sub = at-a .before .before .before in
-    let at-axis = at-sub .before .before .before .before in
-    let at-turn = at-axis .before .before in
+    let at-a = c .before .before .before .before .before in let at-sub = at-a .before .before .before in
+    let at-axis = at-sub .before .before .before .before in let at-turn = at-axis .before .before in
     single-stop _
     (linear-no-angular-b _ _ _
     (turned-go (at-turn .before .pre .0) _ (at-turn .rotate-as-unit .ensures) (at-axis .axis .given .1))
@@ -36,11 +24,8 @@ returns-3 c =
 
 returns-4 : tie.Need-returns-4
 returns-4 c =
-    let at-b = c .before .before .before in
-    let at-a = at-b .before .before .before .before .before in
-    let at-sub = at-a .before .before .before in
-    let at-axis = at-sub .before .before .before .before in
-    let at-turn = at-axis .before .before in
+    let at-b = c .before .before .before in let at-a = at-b .before .before .before .before .before in let at-sub = at-a .before .before .before in
+    let at-axis = at-sub .before .before .before .before in let at-turn = at-axis .before .before in
     single _
     (linear-is _ _ _
     (turned-go (at-turn .before .pre .0) _ (at-turn .rotate-as-unit .ensures) (at-axis .axis .given .1))

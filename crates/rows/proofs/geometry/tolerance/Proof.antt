@@ -1,13 +1,10 @@
 -- `geometry::tolerance` meets its contract: one law of `RowLaws` for each return.
 use Rattle.rows.proofs.RowLaws.{tolerance-no-a, tolerance-no-b, tolerance-is}
-use Rattle.rows.specs.AnswerLaws.{number-go, number-stop}
+use Rattle.rows.specs.AnswerLaws.{number-go, number-stop, answers}
 use Rattle.rows.specs.Fault.{arithmeticOverflow}
 use borrow.Author.Needs.{needs}
 use Rattle.rows.proofs.geometry.tolerance.Statement.{statement}
 use Rattle.rows.proofs.geometry.tolerance.Tie as tie
-
-returns : tie.Need-returns
-returns c = tolerance-no-a _ _ (number-stop arithmeticOverflow (c .before .before .checked-length .ensures) (c .enum-told .given .1))
 
 returns-2 : tie.Need-returns-2
 returns-2 c =
@@ -16,16 +13,9 @@ returns-2 c =
     (number-go arithmeticOverflow (at-la .before .before .checked-length .ensures) (at-la .la .given .1))
     (number-stop arithmeticOverflow (c .before .before .checked-length2 .ensures) (c .enum-told2 .given .1))
 
-returns-3 : tie.Need-returns-3
-returns-3 c =
-    let at-lb = c .before .before in
-    let at-la = at-lb .before .before .before .before in
-    tolerance-is _ _
-    (number-go arithmeticOverflow (at-la .before .before .checked-length .ensures) (at-la .la .given .1))
-    (number-go arithmeticOverflow (at-lb .before .before .checked-length2 .ensures) (at-lb .lb .given .1)) (c .max .ensures)
-
 pub tolerance-spec : {M : Type 1} → statement M
 tolerance-spec =
     tie.close (tie.spec
-      (λ c κs. search needs) (λ c. search needs) (λ c. search needs) returns (λ c κs. search needs)
-      (λ c. search needs) (λ c. search needs) returns-2 (λ c κs. search needs) returns-3)
+      (λ c κs. search needs) (λ c. search needs) (λ c. search needs) (λ c. search (answers, tolerance-no-a))
+      (λ c κs. search needs) (λ c. search needs) (λ c. search needs) returns-2 (λ c κs. search needs)
+      (λ c. search (tolerance-is, number-go)))

@@ -4,21 +4,9 @@ use borrow.Author.Needs.{needs}
 use Rattle.rows.proofs.geometry.twist_row.Statement.{statement}
 use Rattle.rows.proofs.geometry.twist_row.Tie as tie
 
-returns : tie.Need-returns
-returns c = λ q u. single-stop _ (twist-refused _ q _ _ (c .before .before .atan2 .ensures .is) (c .enum-told .given .1))
-
-returns-2 : tie.Need-returns-2
-returns-2 c =
-    let at-half = c .before .before .before .before in
-    λ q u.
-    single-stop _
-    (twist-half-turn _ q _ _ (at-half .before .before .atan2 .ensures .is) (at-half .half .given .1)
-    (c .before .before .rem-tau .ensures) (c .before .abs .ensures) (c .if1 .taken))
-
 returns-3 : tie.Need-returns-3
 returns-3 c =
-    let at-test = c .before .before .before .before .before .before in
-    let at-half = at-test .before .before .before .before in
+    let at-test = c .before .before .before .before .before .before in let at-half = at-test .before .before .before .before in
     λ q u.
     twist-is _ q _ _
     (at-half .before .before .atan2 .ensures .is) (at-half .half .given .1) (at-test .before .before .rem-tau .ensures) (at-test .before .abs .ensures)
@@ -27,5 +15,6 @@ returns-3 c =
 pub twist-row-spec : {M : Type 1} → statement M
 twist-row-spec =
     tie.close (tie.spec
-      (λ c κs. search needs) (λ c. search needs) (λ c. search needs) returns (λ c κs. search needs)
-      (λ c κs. search needs) returns-2 (λ c κs. search needs) (λ c κs. search needs) returns-3)
+      (λ c κs. search needs) (λ c. search needs) (λ c. search needs) (λ c. search (single-stop, twist-refused))
+      (λ c κs. search needs) (λ c κs. search needs) (λ c. search (single-stop, twist-half-turn))
+      (λ c κs. search needs) (λ c κs. search needs) returns-3)

@@ -9,34 +9,15 @@ use native.Mathlib.Omega.{arith}
 use Rattle.rows.proofs.geometry.write_align.Statement.{statement}
 use Rattle.rows.proofs.geometry.write_align.Tie as tie
 
-append-requires : tie.Need-append-requires
-append-requires c κs =
-    let at-z = c .before .before .before in
-    room-here (at-z .before .before .before .before .pre .0) (omega arith)
-
 append-requires-2 : tie.Need-append-requires-2
 append-requires-2 c κs =
-    let at-one = c .before .before .before .before in
-    let at-z = at-one .before .before .before .before in
+    let at-one = c .before .before .before .before in let at-z = at-one .before .before .before .before in
     room-here (room-after (at-z .before .before .before .before .pre .0) (at-one .append .ensures)) (omega arith)
-
-append-requires-3 : tie.Need-append-requires-3
-append-requires-3 c κs =
-    let at-told = c .before in
-    room-here (at-told .before .before .before .before .pre .0) (omega arith)
-
-append-requires-4 : tie.Need-append-requires-4
-append-requires-4 c κs =
-    let at-told = c .before in
-    room-here (at-told .before .before .before .before .pre .0) (omega arith)
 
 returns : tie.Need-returns
 returns c =
-    let at-two = c .before .before in
-    let at-one = at-two .before .before .before .before .before in
-    let at-z = at-one .before .before .before .before in
-    let at-start = at-z .before .before .before .before in
-    let u = at-start .pre .1 in
+    let at-two = c .before .before in let at-one = at-two .before .before .before .before .before in
+    let at-z = at-one .before .before .before .before in let at-start = at-z .before .before .before .before in let u = at-start .pre .1 in
     align-adds
     (at-start .args .joint) (at-start .args .e) (axis-as (at-z .before .before .aligned .ensures _ u) (at-z .z .given .1))
     (at-one .append .ensures) (at-one .before .before .align-row .ensures _ u)
@@ -44,21 +25,20 @@ returns c =
 
 returns-2 : tie.Need-returns-2
 returns-2 c =
-    let at-told = c .before .before .before .before in
-    let at-start = at-told .before .before .before .before in
+    let at-told = c .before .before .before .before in let at-start = at-told .before .before .before .before in
     align-lost (at-start .args .joint) (at-start .args .e) nonConvergent refl
     (axis-as (at-told .before .before .aligned .ensures _ (at-start .pre .1)) (at-told .enum-told .given .1)) (c .before .before .append3 .ensures)
 
 returns-3 : tie.Need-returns-3
 returns-3 c =
-    let at-told = c .before .before .before .before in
-    let at-start = at-told .before .before .before .before in
+    let at-told = c .before .before .before .before in let at-start = at-told .before .before .before .before in
     align-lost (at-start .args .joint) (at-start .args .e) arithmeticOverflow refl
     (axis-as (at-told .before .before .aligned .ensures _ (at-start .pre .1)) (at-told .enum-told2 .given .1)) (c .before .before .append4 .ensures)
 
 pub write-align-spec : {M : Type 1} → statement M
 write-align-spec =
     tie.close (tie.spec
-      (λ c κs. search needs) (λ c. search needs) (λ c κs. search needs) append-requires (λ c κs. search needs)
-      append-requires-2 (λ c. search needs) append-requires-3 (λ c. search needs) append-requires-4
-      (λ c. search needs) returns (λ c. search needs) returns-2 (λ c. search needs) returns-3)
+      (λ c κs. search needs) (λ c. search needs) (λ c κs. search needs) (λ c κs. search (room-here, arith))
+      (λ c κs. search needs) append-requires-2 (λ c. search needs) (λ c κs. search (room-here, arith))
+      (λ c. search needs) (λ c κs. search (room-here, arith)) (λ c. search needs) returns (λ c. search needs)
+      returns-2 (λ c. search needs) returns-3)

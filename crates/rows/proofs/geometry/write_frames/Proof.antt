@@ -1,91 +1,49 @@
 -- `geometry::write_frames` meets its contract: the failure of what is taken once is the first row's, and all rows are the definition's list.
 use Rattle.rows.proofs.AppendLaws.{count-rows}
-use Rattle.rows.proofs.UnitLaws.{unit-of}
+use Rattle.rows.proofs.UnitLaws.{unit-of, no-unit}
 use Rattle.rows.proofs.RowLaws.{tolerance-go, tolerance-stop}
 use Rattle.rows.proofs.WriteLaws.{frames-early, frames-finite, frames-lost, frames-overflow, long-row, unturned-row}
 use Rattle.rows.specs.Fault.{arithmeticOverflow, nonConvergent}
 use borrow.Author.Needs.{needs}
-use mathlib.Core.Path.{_∙_, refl, sym}
+use mathlib.Core.Path.{refl}
 use native.Mathlib.Omega.{arith}
 use Rattle.rows.specs.declared.geometry.Written.the-variants as Written
 use Rattle.rows.proofs.geometry.write_frames.Statement.{statement}
 use Rattle.rows.proofs.geometry.write_frames.Tie as tie
 
 returns : tie.Need-returns
-returns c =
-    let at-start = c .before .before .before .before in
-    frames-early (at-start .args .joint) (at-start .args .e)
-    (long-row _ _ (tolerance-stop (c .before .before .tolerance .ensures) (c .enum-told .given .1)))
-    (at-start .args .linear) (at-start .args .turning) _
-
-returns-2 : tie.Need-returns-2
-returns-2 c =
-    let at-tolerance = c .before .before .before .before in
-    let at-start = at-tolerance .before .before .before .before in
-    frames-early (at-start .args .joint) (at-start .args .e)
-    (unturned-row _ _ (sym (c .before .before .try-normalize .ensures) ∙ c .enum-told2 .given .1))
-    (at-start .args .linear) (at-start .args .turning) _
-
-write-linear-requires : tie.Need-write-linear-requires
-write-linear-requires c κs =
-    let at-unit = c .before .before in
-    let at-tolerance = at-unit .before .before .before .before in (
-      at-tolerance .before .before .before .before .pre,
-      unit-of (at-unit .before .before .try-normalize .ensures) (at-unit .unit .given .1),
-      tolerance-go (at-tolerance .before .before .tolerance .ensures) (at-tolerance .tolerance2 .given .1),
-    )
-
-write-turning-requires : tie.Need-write-turning-requires
-write-turning-requires c κs =
-    let at-linear = c .before .before .before in
-    let at-unit = at-linear .before .before .before in
-    let at-tolerance = at-unit .before .before .before .before in
-    let linear = at-linear .write-linear .ensures in
-    let six = at-tolerance .before .before .before .before .pre in (
-      record { six = omega (arith, linear .kept .size); few = linear .within },
-      unit-of (at-unit .before .before .try-normalize .ensures) (at-unit .unit .given .1),
-    )
+returns c = search (tolerance-stop, frames-early, long-row)
 
 values-finite-requires : tie.Need-values-finite-requires
 values-finite-requires c κs =
-    let at-turning = c .before .before .before .before .before .before in
-    let at-linear = at-turning .before .before .before .before in
-    let at-unit = at-linear .before .before .before in
-    let at-tolerance = at-unit .before .before .before .before in
+    let at-turning = c .before .before .before .before .before .before in let at-linear = at-turning .before .before .before .before in
+    let at-unit = at-linear .before .before .before in let at-tolerance = at-unit .before .before .before .before in
     let all = at-turning .write-turning .ensures _ _ (at-linear .write-linear .ensures) in
     let six = at-tolerance .before .before .before .before .pre in
     omega (arith, all .kept .size, all .within, count-rows (c .before .before .written .given .1))
 
 returns-3 : tie.Need-returns-3
 returns-3 c =
-    let at-written = c .before .before .before .before in
-    let at-turning = at-written .before .before .before .before in
-    let at-linear = at-turning .before .before .before .before in
-    let at-unit = at-linear .before .before .before in
-    let at-tolerance = at-unit .before .before .before .before in
-    let at-start = at-tolerance .before .before .before .before in
+    let at-written = c .before .before .before .before in let at-turning = at-written .before .before .before .before in
+    let at-linear = at-turning .before .before .before .before in let at-unit = at-linear .before .before .before in
+    let at-tolerance = at-unit .before .before .before .before in let at-start = at-tolerance .before .before .before .before in
     frames-finite (at-start .args .linear) (at-start .args .turning) (at-start .args .joint) (at-start .args .e)
     (at-turning .write-turning .ensures _ _ (at-linear .write-linear .ensures))
     (at-written .written .given .1) (c .before .values-finite .ensures _ _) (c .if1 .taken)
 
 returns-4 : tie.Need-returns-4
 returns-4 c =
-    let at-written = c .before .before .before .before in
-    let at-turning = at-written .before .before .before .before in
-    let at-linear = at-turning .before .before .before .before in
-    let at-unit = at-linear .before .before .before in
-    let at-tolerance = at-unit .before .before .before .before in
-    let at-start = at-tolerance .before .before .before .before in
+    let at-written = c .before .before .before .before in let at-turning = at-written .before .before .before .before in
+    let at-linear = at-turning .before .before .before .before in let at-unit = at-linear .before .before .before in
+    let at-tolerance = at-unit .before .before .before .before in let at-start = at-tolerance .before .before .before .before in
     frames-overflow (at-start .args .linear) (at-start .args .turning) (at-start .args .joint) (at-start .args .e)
     (at-turning .write-turning .ensures _ _ (at-linear .write-linear .ensures))
     (at-written .written .given .1) (c .before .values-finite .ensures _ _) (c .if1 .left)
 
 returns-5 : tie.Need-returns-5
 returns-5 c =
-    let at-turning = c .before .before .before .before in
-    let at-linear = at-turning .before .before .before .before in
-    let at-unit = at-linear .before .before .before in
-    let at-tolerance = at-unit .before .before .before .before in
+    let at-turning = c .before .before .before .before in let at-linear = at-turning .before .before .before .before in
+    let at-unit = at-linear .before .before .before in let at-tolerance = at-unit .before .before .before .before in
     let at-start = at-tolerance .before .before .before .before in
     frames-lost (at-start .args .linear) (at-start .args .turning) (at-start .args .joint) (at-start .args .e)
     (at-turning .write-turning .ensures _ _ (at-linear .write-linear .ensures))
@@ -93,10 +51,8 @@ returns-5 c =
 
 returns-6 : tie.Need-returns-6
 returns-6 c =
-    let at-turning = c .before .before .before .before in
-    let at-linear = at-turning .before .before .before .before in
-    let at-unit = at-linear .before .before .before in
-    let at-tolerance = at-unit .before .before .before .before in
+    let at-turning = c .before .before .before .before in let at-linear = at-turning .before .before .before .before in
+    let at-unit = at-linear .before .before .before in let at-tolerance = at-unit .before .before .before .before in
     let at-start = at-tolerance .before .before .before .before in
     frames-lost (at-start .args .linear) (at-start .args .turning) (at-start .args .joint) (at-start .args .e)
     (at-turning .write-turning .ensures _ _ (at-linear .write-linear .ensures))
@@ -106,7 +62,7 @@ pub write-frames-spec : {M : Type 1} → statement M
 write-frames-spec =
     tie.close (tie.spec
       (λ c κs. search needs) (λ c. search needs) (λ c. search needs) returns (λ c κs. search needs)
-      (λ c. search needs) (λ c. search needs) returns-2 write-linear-requires write-turning-requires
-      (λ c. search needs) values-finite-requires (λ c. search needs) returns-3 (λ c. search needs)
-      (λ c. search needs) (λ c. search needs) returns-4 (λ c. search needs) returns-5 (λ c. search needs)
-      returns-6)
+      (λ c. search needs) (λ c. search needs) (λ c. search (frames-early, unturned-row, no-unit))
+      (λ c κs. search (unit-of, tolerance-go)) (λ c κs. search (unit-of, arith)) (λ c. search needs)
+      values-finite-requires (λ c. search needs) returns-3 (λ c. search needs) (λ c. search needs)
+      (λ c. search needs) returns-4 (λ c. search needs) returns-5 (λ c. search needs) returns-6)

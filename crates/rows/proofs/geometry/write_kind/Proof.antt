@@ -7,25 +7,14 @@ use native.Mathlib.Omega.{arith}
 use Rattle.rows.proofs.geometry.write_kind.Statement.{statement}
 use Rattle.rows.proofs.geometry.write_kind.Tie as tie
 
-returns : tie.Need-returns
-returns c = kind-lost _ _ _ _ (ends-stop (c .before .before .ends-of .ensures) (c .enum-told .given .1))
-
-append-requires : tie.Need-append-requires
-append-requires c κs =
-    let at-length = c .before .before .before .before in
-    let at-e = at-length .before .before .before .before in
-    omega (arith, at-e .before .before .before .pre)
-
 write-frames-requires : tie.Need-write-frames-requires
 write-frames-requires c κs =
-    let at-linear = c .before .before .before in
-    let at-e = at-linear .before .before .before .before in
+    let at-linear = c .before .before .before in let at-e = at-linear .before .before .before .before in
     at-e .before .before .before .pre
 
 returns-2 : tie.Need-returns-2
 returns-2 c =
-    let at-length = c .before .before .before .before .before .before in
-    let at-motions = at-length .before .before in
+    let at-length = c .before .before .before .before .before .before in let at-motions = at-length .before .before in
     let at-e = at-motions .before .before in
     kind-rod _ _ _
     (ends-go (at-e .before .before .ends-of .ensures) (at-e .e .given .1))
@@ -34,8 +23,7 @@ returns-2 c =
 
 returns-3 : tie.Need-returns-3
 returns-3 c =
-    let at-linear = c .before .before .before .before .before in
-    let at-motions = at-linear .before .before in
+    let at-linear = c .before .before .before .before .before in let at-motions = at-linear .before .before in
     let at-e = at-motions .before .before in
     kind-frames _ _ _
     (ends-go (at-e .before .before .ends-of .ensures) (at-e .e .given .1))
@@ -45,6 +33,6 @@ returns-3 c =
 pub write-kind-spec : {M : Type 1} → statement M
 write-kind-spec =
     tie.close (tie.spec
-      (λ c κs. search needs) (λ c. search needs) (λ c. search needs) returns (λ c κs. search needs)
-      (λ c. search needs) (λ c κs. search needs) append-requires (λ c. search needs) write-frames-requires
-      (λ c. search needs) returns-2 (λ c. search needs) returns-3)
+      (λ c κs. search needs) (λ c. search needs) (λ c. search needs) (λ c. search (ends-stop, kind-lost))
+      (λ c κs. search needs) (λ c. search needs) (λ c κs. search needs) (λ c κs. search arith)
+      (λ c. search needs) write-frames-requires (λ c. search needs) returns-2 (λ c. search needs) returns-3)

@@ -16,44 +16,28 @@ append-requires c κs = omega (arith, c .before .before .before .before .pre .0)
 
 linear-row-if-requires-2 : tie.Need-linear-row-if-requires-2
 linear-row-if-requires-2 c κs =
-    let at-one = c .before .before in
-    let at-start = at-one .before .before .before .before .before in
+    let at-one = c .before .before in let at-start = at-one .before .before .before .before .before in
     (at-start .pre .1, at-start .pre .2)
 
 append-requires-2 : tie.Need-append-requires-2
 append-requires-2 c κs =
-    let at-one = c .before .before .before .before in
-    let at-start = at-one .before .before .before .before .before in
+    let at-one = c .before .before .before .before in let at-start = at-one .before .before .before .before .before in
     room-here (room-after (room-none _ _ (at-start .pre .0)) (at-one .append .ensures)) (omega arith)
 
 linear-row-if-requires-3 : tie.Need-linear-row-if-requires-3
 linear-row-if-requires-3 c κs =
-    let at-two = c .before .before in
-    let at-one = at-two .before .before .before .before .before in
+    let at-two = c .before .before in let at-one = at-two .before .before .before .before .before in
     let at-start = at-one .before .before .before .before .before in
     (at-start .pre .1, at-start .pre .2)
 
 append-requires-3 : tie.Need-append-requires-3
 append-requires-3 c κs =
-    let at-two = c .before .before .before .before in
-    let at-one = at-two .before .before .before .before .before in
+    let at-two = c .before .before .before .before in let at-one = at-two .before .before .before .before .before in
     let at-start = at-one .before .before .before .before .before in
     room-here (room-after (room-after (room-none _ _ (at-start .pre .0)) (at-one .append .ensures)) (at-two .append2 .ensures)) (omega arith)
-
-returns : tie.Need-returns
-returns c =
-    let at-three = c .before .before in
-    let at-two = at-three .before .before .before .before .before in
-    let at-one = at-two .before .before .before .before .before in
-    let at-start = at-one .before .before .before .before .before in
-    linear-adds
-    (at-start .args .joint) (at-start .args .e) (at-start .args .linear) (at-one .before .before .before .axes-of .ensures)
-    (at-one .append .ensures) (at-one .before .before .linear-row-if .ensures)
-    (at-two .append2 .ensures) (at-two .before .before .linear-row-if2 .ensures)
-    (at-three .append3 .ensures) (at-three .before .before .linear-row-if3 .ensures)
 
 pub write-linear-spec : {M : Type 1} → statement M
 write-linear-spec =
     tie.close (tie.spec
       (λ c κs. search needs) linear-row-if-requires append-requires linear-row-if-requires-2 append-requires-2
-      linear-row-if-requires-3 append-requires-3 (λ c. search needs) returns)
+      linear-row-if-requires-3 append-requires-3 (λ c. search needs) (λ c. search linear-adds))

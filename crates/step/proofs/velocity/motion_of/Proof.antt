@@ -5,7 +5,7 @@ use Rattle.step.proofs.velocity.motion_of.Statement.{statement}
 use Rattle.step.proofs.velocity.motion_of.Tie as tie
 
 returns : tie.Need-returns
-returns c = motion-made _ _ (c .before .before .load-candidate .ensures) (c .before .div .ensures) (c .omega .ensures)
+returns c = motion-made _ _ (c .before .before .load-candidate .ensures) (c .before .div .ensures) (c .omega .ensures .is)
 
 pub motion-of-spec : {M : Type 1} → statement M
 motion-of-spec =

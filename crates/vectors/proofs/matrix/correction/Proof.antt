@@ -2,7 +2,6 @@
 use mathlib.Core.Path.{_≡_}
 use Prim.Native.Nat.{ℕ, _-_, _≤_}
 use native.Mathlib.Omega.{arith}
-use denote.Ref.{now}
 use lib.Ieee.{Float, ofBits, round}
 use Rattle.arith.specs.Real.{_⊕_, _⊗_, ratio}
 use Rattle.arith.specs.Flow.{turns}
@@ -24,21 +23,13 @@ loop-holds : tie.Need-loop-holds Inv-loop μ-loop
 unfolding ofBits round
 loop-holds c = (omega arith, turns-none _ _)
 
-loop-again : tie.Need-loop-again Inv-loop μ-loop
-loop-again c =
-    let at-loop = c .before .before .before in (
-      omega arith,
-      turns-more (plusProduct (now (at-loop .before .args .lower)) (at-loop .before .args .row)
-          (at-loop .before .args .column)) (at-loop .loop .k) (ratio 0 1) (at-loop .loop .inv .1),
-    )
-
 returns : tie.Need-returns Inv-loop μ-loop
 unfolding correctionOf
-returns c = turns-end _ _ (c .before .loop .inv .0) (c .loop-test .left) (c .before .loop .inv .1)
+returns c = search turns-end
 
 pub correction-spec : {M : Type 1} → statement M
 correction-spec =
     tie.close (tie.spec
-    Inv-loop μ-loop loop-holds (λ c. omega arith) (λ c. omega arith) (λ c. omega arith) (λ c. omega arith)
-    (λ c. omega arith) (λ c. omega arith) (λ c. omega arith) (λ c. omega arith) (λ c. omega arith)
-    (λ c. omega arith) loop-again returns)
+      Inv-loop μ-loop loop-holds (λ c. omega arith) (λ c. omega arith) (λ c. omega arith) (λ c. omega arith)
+      (λ c. omega arith) (λ c. omega arith) (λ c. omega arith) (λ c. omega arith) (λ c. omega arith)
+      (λ c. omega arith) (λ c. search (turns-more, arith)) returns)

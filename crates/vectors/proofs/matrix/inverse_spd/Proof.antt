@@ -7,30 +7,16 @@ use Rattle.vectors.proofs.matrix.inverse_spd.Tie as tie
 
 returns : tie.Need-returns
 unfolding ofBits round
-returns c =
-    let at-x = c .before in
-    let factored = at-x .before .before .before .factor-spd .ensures in
-    inverse-x _
-    (by-factor _ _ factored (at-x .before .before .solve .ensures)) (at-x .before .done .ensures) (at-x .if1 .taken)
-    (c .uninverted .ensures)
+returns c = search (by-factor, inverse-x)
 
 returns-2 : tie.Need-returns-2
 unfolding ofBits round
-returns-2 c =
-    let at-y = c .before in
-    let at-x = at-y .before .before .before in
-    let factored = at-x .before .before .before .factor-spd .ensures in
-    inverse-y _
-    (by-factor _ _ factored (at-x .before .before .solve .ensures)) (at-x .before .done .ensures) (at-x .if1 .left)
-    (by-factor _ _ factored (at-y .before .before .solve2 .ensures)) (at-y .before .done2 .ensures) (at-y .if2 .taken)
-    (c .uninverted2 .ensures)
+returns-2 c = search (by-factor, inverse-y)
 
 returns-3 : tie.Need-returns-3
 unfolding ofBits round
 returns-3 c =
-    let at-z = c .before in
-    let at-y = at-z .before .before .before in
-    let at-x = at-y .before .before .before in
+    let at-z = c .before in let at-y = at-z .before .before .before in let at-x = at-y .before .before .before in
     let factored = at-x .before .before .before .factor-spd .ensures in
     inverse-z _
     (by-factor _ _ factored (at-x .before .before .solve .ensures)) (at-x .before .done .ensures) (at-x .if1 .left)
@@ -41,9 +27,7 @@ returns-3 c =
 returns-4 : tie.Need-returns-4
 unfolding ofBits round
 returns-4 c =
-    let at-z = c .before .before .before in
-    let at-y = at-z .before .before .before in
-    let at-x = at-y .before .before .before in
+    let at-z = c .before .before .before in let at-y = at-z .before .before .before in let at-x = at-y .before .before .before in
     let factored = at-x .before .before .before .factor-spd .ensures in
     inverse-done _
     (by-factor _ _ factored (at-x .before .before .solve .ensures)) (at-x .before .done .ensures) (at-x .if1 .left)
@@ -54,9 +38,7 @@ returns-4 c =
 returns-5 : tie.Need-returns-5
 unfolding ofBits round
 returns-5 c =
-    let at-z = c .before .before .before .before in
-    let at-y = at-z .before .before .before in
-    let at-x = at-y .before .before .before in
+    let at-z = c .before .before .before .before in let at-y = at-z .before .before .before in let at-x = at-y .before .before .before in
     let factored = at-x .before .before .before .factor-spd .ensures in
     inverse-far _
     (by-factor _ _ factored (at-x .before .before .solve .ensures)) (at-x .before .done .ensures) (at-x .if1 .left)

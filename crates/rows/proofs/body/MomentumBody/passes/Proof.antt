@@ -18,32 +18,22 @@ abbrev μ-loop : tie.MeasureT-loop
 
 returns : tie.Need-returns Inv-loop μ-loop
 returns c =
-    let at-pass = c .before .before .before in
-    let at-loop-test = at-pass .before in
-    let at-loop = at-loop-test .before in
+    let at-pass = c .before .before .before in let at-loop-test = at-pass .before in let at-loop = at-loop-test .before in
     loop-stop _ _ 32 (at-loop-test .loop-test .taken) (at-loop .loop .inv .1) (pass-as (at-pass .pass .ensures) (c .before .rotation .given .1))
 
 returns-2 : tie.Need-returns-2 Inv-loop μ-loop
 returns-2 c =
-    let at-pass = c .before .before in
-    let at-loop-test = at-pass .before in
-    let at-loop = at-loop-test .before in
+    let at-pass = c .before .before in let at-loop-test = at-pass .before in let at-loop = at-loop-test .before in
     loop-stop _ _ 32 (at-loop-test .loop-test .taken) (at-loop .loop .inv .1) (pass-as (at-pass .pass .ensures) (c .enum-told .given .1))
 
 loop-again : tie.Need-loop-again Inv-loop μ-loop
 loop-again c =
-    let at-pass = c .before .before .before in
-    let at-loop = at-pass .before .before in
+    let at-pass = c .before .before .before in let at-loop = at-pass .before .before in
     (omega arith, loop-more _ _ (at-loop .loop .inv .1) (pass-as (at-pass .pass .ensures) (c .before .next .given .1)))
-
-returns-3 : tie.Need-returns-3 Inv-loop μ-loop
-returns-3 c =
-    let at-loop = c .before in
-    loop-end _ _ (at-loop .loop .inv .0) (c .loop-test .left) (at-loop .loop .inv .1)
 
 pub passes-spec : {M : Type 1} → statement M
 passes-spec =
     tie.close (tie.spec
       Inv-loop μ-loop (λ c. (omega arith, loop-none _ _)) (λ c κs. search needs) (λ c. search needs)
       (λ c. search needs) returns (λ c. search needs) returns-2 (λ c. omega arith) (λ c. omega arith) loop-again
-      returns-3)
+      (λ c. search loop-end))

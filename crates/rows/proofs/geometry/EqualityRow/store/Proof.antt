@@ -6,12 +6,9 @@ use Rattle.rows.proofs.geometry.EqualityRow.store.Tie as tie
 
 returns : tie.Need-returns
 returns c =
-    let at-five = c .before .before in
-    let at-four = at-five .before .before .before .before in
-    let at-three = at-four .before .before .before .before in
-    let at-two = at-three .before .before .before .before in
-    let at-one = at-two .before .before .before .before in
-    let at-start = at-one .before .before .before in
+    let at-five = c .before .before in let at-four = at-five .before .before .before .before in
+    let at-three = at-four .before .before .before .before in let at-two = at-three .before .before .before .before in
+    let at-one = at-two .before .before .before .before in let at-start = at-one .before .before .before in
     stored-row
     (at-start .args .at) (at-start .args .self) (at-one .store3 .ensures) (at-two .store32 .ensures) (at-three .store33 .ensures)
     (at-four .store34 .ensures) (at-five .store2 .ensures)

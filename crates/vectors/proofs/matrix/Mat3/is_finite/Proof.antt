@@ -7,8 +7,7 @@ use Rattle.vectors.proofs.matrix.Mat3.is_finite.Tie as tie
 
 returns : tie.Need-returns
 returns c =
-    let at-is-finite2 = c .before .before .before in
-    let at-is-finite = at-is-finite2 .before .before .before in
+    let at-is-finite2 = c .before .before .before in let at-is-finite = at-is-finite2 .before .before .before in
     simp (
       c .is-finite3 .ensures ∙ ap finiteOf (c .before .column3 .ensures),
       sym (at-is-finite2 .is-finite2 .ensures ∙ ap finiteOf (at-is-finite2 .before .column2 .ensures))

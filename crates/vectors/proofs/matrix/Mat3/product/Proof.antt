@@ -7,8 +7,7 @@ use Rattle.vectors.proofs.matrix.Mat3.product.Tie as tie
 returns : tie.Need-returns
 unfolding matProductOf
 returns c =
-    let at-apply2 = c .before .before .before in
-    let at-column = at-apply2 .before .before .before in
+    let at-apply2 = c .before .before .before in let at-column = at-apply2 .before .before .before in
     simp (
       c .from-cols .ensures,
       c .before .apply3 .ensures,

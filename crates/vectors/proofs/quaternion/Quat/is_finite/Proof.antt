@@ -6,8 +6,7 @@ use Rattle.vectors.proofs.quaternion.Quat.is_finite.Tie as tie
 
 returns : tie.Need-returns
 returns c =
-    let at-if2 = c .before .before .before in
-    let at-is-finite = at-if2 .before .before .before in
+    let at-if2 = c .before .before .before in let at-is-finite = at-if2 .before .before .before in
     simp (
       c .is-finite4 .ensures,
       sym (c .before .before .is-finite3 .ensures)

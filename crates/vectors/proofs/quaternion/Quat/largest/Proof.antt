@@ -5,8 +5,7 @@ use Rattle.vectors.proofs.quaternion.Quat.largest.Tie as tie
 
 returns : tie.Need-returns
 returns c =
-    let at-abs3 = c .before .before .before in
-    let at-abs = at-abs3 .before .before .before in
+    let at-abs3 = c .before .before .before in let at-abs = at-abs3 .before .before .before in
     simp (
       c .max3 .ensures,
       c .before .abs4 .ensures,

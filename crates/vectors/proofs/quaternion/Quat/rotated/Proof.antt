@@ -4,12 +4,7 @@ use borrow.Author.Needs.{needs}
 use Rattle.vectors.proofs.quaternion.Quat.rotated.Statement.{statement}
 use Rattle.vectors.proofs.quaternion.Quat.rotated.Tie as tie
 
-returns : tie.Need-returns
-returns c = rotated-some _ _ (c .before .before .turned .ensures) (c .before .is-finite .ensures) (c .if1 .taken)
-
-returns-2 : tie.Need-returns-2
-returns-2 c = rotated-none _ _ (c .before .before .turned .ensures) (c .before .is-finite .ensures) (c .if1 .left)
-
 pub rotated-spec : {M : Type 1} → statement M
 rotated-spec =
-    tie.close (tie.spec (λ c κs. search needs) (λ c κs. search needs) returns returns-2)
+    tie.close (tie.spec
+      (λ c κs. search needs) (λ c κs. search needs) (λ c. search rotated-some) (λ c. search rotated-none))

@@ -4,14 +4,8 @@ use borrow.Author.Needs.{needs}
 use Rattle.vectors.proofs.quaternion.Quat.to_mat3.Statement.{statement}
 use Rattle.vectors.proofs.quaternion.Quat.to_mat3.Tie as tie
 
-returns : tie.Need-returns
-returns c = mat-none _ (c .before .before .before .try-normalize .ensures) (c .before .enum-told .given .1) (c .zero .ensures)
-
-returns-2 : tie.Need-returns-2
-returns-2 c = mat-some _ (c .before .before .before .before .try-normalize .ensures) (c .before .before .rotation .given .1) (c .columns .ensures)
-
 pub to-mat3-spec : {M : Type 1} → statement M
 to-mat3-spec =
     tie.close (tie.spec
-      (λ c κs. search needs) (λ c. search needs) (λ c. search needs) (λ c κs. search needs) returns
-      (λ c κs. search needs) returns-2)
+      (λ c κs. search needs) (λ c. search needs) (λ c. search needs) (λ c κs. search needs)
+      (λ c. search mat-none) (λ c κs. search needs) (λ c. search mat-some))

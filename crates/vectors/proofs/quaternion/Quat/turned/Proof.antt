@@ -7,8 +7,7 @@ use Rattle.vectors.proofs.quaternion.Quat.turned.Tie as tie
 returns : tie.Need-returns
 unfolding ofBits round
 returns c =
-    let at-add = c .before .before .before in
-    let at-cross = at-add .before .before .before in
+    let at-add = c .before .before .before in let at-cross = at-add .before .before .before in
     simp (
       c .add2 .ensures,
       c .before .scale2 .ensures,

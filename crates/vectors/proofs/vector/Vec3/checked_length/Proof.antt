@@ -4,12 +4,7 @@ use borrow.Author.Needs.{needs}
 use Rattle.vectors.proofs.vector.Vec3.checked_length.Statement.{statement}
 use Rattle.vectors.proofs.vector.Vec3.checked_length.Tie as tie
 
-returns : tie.Need-returns
-returns c = length-some _ (c .before .before .length .ensures) (c .before .is-finite .ensures) (c .if1 .taken)
-
-returns-2 : tie.Need-returns-2
-returns-2 c = length-none _ (c .before .before .length .ensures) (c .before .is-finite .ensures) (c .if1 .left)
-
 pub checked-length-spec : {M : Type 1} → statement M
 checked-length-spec =
-    tie.close (tie.spec (λ c κs. search needs) (λ c κs. search needs) returns returns-2)
+    tie.close (tie.spec
+      (λ c κs. search needs) (λ c κs. search needs) (λ c. search length-some) (λ c. search length-none))
