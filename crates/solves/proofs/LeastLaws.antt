@@ -21,14 +21,14 @@ use Rattle.solves.specs.Region.{vecAt, Does}
 use Rattle.solves.specs.RegionLaws.{kept-vec}
 use Rattle.solves.specs.Solver.{dot, operator, plus, minus, toleranceFor, Search}
 use Rattle.solves.specs.Search.{leastMost, leastPass, leastSquares}
-use Rattle.solves.specs.View.{rowOn, systemOn, searchAt, Rows, Beside, Moves, Passing, Work, RHS, SOLUTION, RESIDUAL, DIRECTION, PRODUCT, NORMAL}
+use Rattle.solves.specs.View.{rowOn, systemOn, searchAt, Rows, Beside, Operating, Passing, Work, RHS, SOLUTION, RESIDUAL, DIRECTION, PRODUCT, NORMAL}
 use Rattle.solves.specs.ViewLaws.{passing-vector, passing-moves, passing-normal}
 use Rattle.solves.proofs.SearchLaws.{passing-system, work-system}
 
 -- ---- how far a pass has come: the product stands in s₁
 pub record Moved (s : List Float) (ia ib : List ℕ) (table : Table) (tolerance norm : Float) (s₁ : List Float) : Type 0 where
   pub on : Ieee.le (sqrt binary64 norm) tolerance ≡ false
-  pub does : Does (Moves PRODUCT) s s₁ (go (vecAt s₁ PRODUCT (table .rows))) (operator (systemOn ia ib s table) (vecAt s DIRECTION (table .rows)))
+  pub does : Does (Operating PRODUCT) s s₁ (go (vecAt s₁ PRODUCT (table .rows))) (operator (systemOn ia ib s table) (vecAt s DIRECTION (table .rows)))
 
 -- solution and residual went on by norm ⊘ y, in s₃
 pub record Advanced (s : List Float) (ia ib : List ℕ) (table : Table) (tolerance norm : Float) (s₁ : List Float) (y : Float) (s₃ : List Float) : Type 0 where
@@ -47,11 +47,11 @@ module _ {s : List Float} {ia ib : List ℕ} (table : Table) (pre : Rows s ia ib
   abbrev M : System
   M = systemOn ia ib s table
 
-  abbrev Pass : Counting (Turn Search (List Float))
-  Pass = leastPass M tolerance (searchAt s n norm)
+  abbrev OnePass : Counting (Turn Search (List Float))
+  OnePass = leastPass M tolerance (searchAt s n norm)
 
   module _ {x : Float} (ex : x ≡ sqrt binary64 norm) where
-    pub pass-solved : Ieee.le x tolerance ≡ true → Does Passing s s (leave (vecAt s SOLUTION n)) Pass
+    pub pass-solved : Ieee.le x tolerance ≡ true → Does Passing s s (leave (vecAt s SOLUTION n)) OnePass
     unfolding leastPass
     pass-solved h = record { kept = kept-refl Passing s; is = leave-yes _ _ (ap (λ (y : Float). Ieee.le y tolerance) (sym ex) ∙ h) }
 
@@ -59,12 +59,12 @@ module _ {s : List Float} {ia ib : List ℕ} (table : Table) (pre : Rows s ia ib
       on-with : Ieee.le (sqrt binary64 norm) tolerance ≡ false
       on-with = ap (λ (y : Float). Ieee.le y tolerance) (sym ex) ∙ h
 
-      pub pass-moved : {s₁ : List Float} → Does (Moves PRODUCT) s s₁ (go (vecAt s₁ PRODUCT n)) (operator M (vecAt s DIRECTION n))
+      pub pass-moved : {s₁ : List Float} → Does (Operating PRODUCT) s s₁ (go (vecAt s₁ PRODUCT n)) (operator M (vecAt s DIRECTION n))
           → Moved s ia ib table tolerance norm s₁
       pass-moved d = record { on = on-with; does = d }
 
-      pub pass-unmoved : {s₁ : List Float} {f : Fault} → Does (Moves PRODUCT) s s₁ (stop f) (operator M (vecAt s DIRECTION n))
-          → Does Passing s s₁ (fail f) Pass
+      pub pass-unmoved : {s₁ : List Float} {f : Fault} → Does (Operating PRODUCT) s s₁ (stop f) (operator M (vecAt s DIRECTION n))
+          → Does Passing s s₁ (fail f) OnePass
       unfolding leastPass
       pass-unmoved d = record { kept = kept-more (d .kept) (passing-moves PRODUCT (omega arith) (omega arith)); is = try-stop _ (d .is) ∙ leave-no _ _ on-with }
 
@@ -72,12 +72,12 @@ module _ {s : List Float} {ia ib : List ℕ} (table : Table) (pre : Rows s ia ib
     k₁ : Kept Passing s s₁
     k₁ = kept-more (m .does .kept) (passing-moves PRODUCT (omega arith) (omega arith))
 
-    pub pass-unmeasured : {f : Fault} → stop f ≡ dot (vecAt s₁ PRODUCT n) (vecAt s₁ PRODUCT n) → Does Passing s s₁ (fail f) Pass
+    pub pass-unmeasured : {f : Fault} → stop f ≡ dot (vecAt s₁ PRODUCT n) (vecAt s₁ PRODUCT n) → Does Passing s s₁ (fail f) OnePass
     unfolding leastPass
     pass-unmeasured e = record { kept = k₁; is = try-stop _ e ∙ try-go _ (m .does .is) ∙ leave-no _ _ (m .on) }
 
     module _ {y zero : Float} (ez : zero ≡ ratio 0 1) (e₁ : go y ≡ dot (vecAt s₁ PRODUCT n) (vecAt s₁ PRODUCT n)) where
-      pub pass-stuck : Ieee.le y zero ≡ true → Does Passing s s₁ (fail nonConvergent) Pass
+      pub pass-stuck : Ieee.le y zero ≡ true → Does Passing s s₁ (fail nonConvergent) OnePass
       unfolding leastPass
       pass-stuck g = record { kept = k₁; is = fail-yes _ _ (ap (Ieee.le y) (sym ez) ∙ g) ∙ try-go _ e₁ ∙ try-go _ (m .does .is) ∙ leave-no _ _ (m .on) }
 
@@ -111,8 +111,8 @@ module _ {s : List Float} {ia ib : List ℕ} (table : Table) (pre : Rows s ia ib
     op₃ : operator (systemOn ia ib s₃ table) (vecAt s₃ RESIDUAL n) ≡ operator M (minus (vecAt s RESIDUAL n) (norm ⊘ y) (vecAt s₁ PRODUCT n))
     op₃ = λ j. operator (passing-system table pre (a .kept) j) (a .residual j)
 
-    pub pass-unreturned : {s₄ : List Float} {f : Fault} → Does (Moves NORMAL) s₃ s₄ (stop f) (operator (systemOn ia ib s₃ table) (vecAt s₃ RESIDUAL n))
-        → Does Passing s s₄ (fail f) Pass
+    pub pass-unreturned : {s₄ : List Float} {f : Fault} → Does (Operating NORMAL) s₃ s₄ (stop f) (operator (systemOn ia ib s₃ table) (vecAt s₃ RESIDUAL n))
+        → Does Passing s s₄ (fail f) OnePass
     unfolding leastPass
     pass-unreturned d = record {
       kept = kept-then (a .kept) (d .kept) passing-normal;
@@ -120,11 +120,11 @@ module _ {s : List Float} {ia ib : List ℕ} (table : Table) (pre : Rows s ia ib
     }
 
     module _ {s₄ : List Float}
-        (d₄ : Does (Moves NORMAL) s₃ s₄ (go (vecAt s₄ NORMAL n)) (operator (systemOn ia ib s₃ table) (vecAt s₃ RESIDUAL n))) where
+        (d₄ : Does (Operating NORMAL) s₃ s₄ (go (vecAt s₄ NORMAL n)) (operator (systemOn ia ib s₃ table) (vecAt s₃ RESIDUAL n))) where
       k₄ : Kept Passing s s₄
       k₄ = kept-then (a .kept) (d₄ .kept) passing-normal
 
-      pub pass-unmeasured-again : {f : Fault} → stop f ≡ dot (vecAt s₄ NORMAL n) (vecAt s₄ NORMAL n) → Does Passing s s₄ (fail f) Pass
+      pub pass-unmeasured-again : {f : Fault} → stop f ≡ dot (vecAt s₄ NORMAL n) (vecAt s₄ NORMAL n) → Does Passing s s₄ (fail f) OnePass
       unfolding leastPass
       pass-unmeasured-again e = record {
         kept = k₄;
@@ -151,7 +151,7 @@ module _ {s : List Float} {ia ib : List ℕ} (table : Table) (pre : Rows s ia ib
           rho = next;
         }
 
-        pub pass-next : Does Passing s s₅ (ran (go (go (searchAt s₅ n next))) 0 1) Pass
+        pub pass-next : Does Passing s s₅ (ran (go (go (searchAt s₅ n next))) 0 1) OnePass
         unfolding leastPass
         pass-next = record {
           kept = kept-then k₄ (d₅ .kept) (passing-vector DIRECTION (omega arith) (omega arith));
@@ -170,11 +170,11 @@ module _ {s : List Float} {ia ib : List ℕ} (table : Table) (pre : Rows s ia ib
   abbrev Least : Counting (List Float)
   Least = leastSquares S (vecAt s RHS m) (vecAt s SOLUTION m) (vecAt s RESIDUAL m)
 
-  pub least-unmoved : {s₁ : List Float} {f : Fault} → Does (Moves NORMAL) s s₁ (stop f) (operator S (vecAt s RESIDUAL m)) → Does Work s s₁ (fail f) Least
+  pub least-unmoved : {s₁ : List Float} {f : Fault} → Does (Operating NORMAL) s s₁ (stop f) (operator S (vecAt s RESIDUAL m)) → Does Work s s₁ (fail f) Least
   unfolding leastSquares
   least-unmoved d = record { kept = kept-more (d .kept) (λ i x. omega arith); is = try-stop _ (d .is) }
 
-  module _ {s₁ : List Float} (d₁ : Does (Moves NORMAL) s s₁ (go (vecAt s₁ NORMAL m)) (operator S (vecAt s RESIDUAL m))) where
+  module _ {s₁ : List Float} (d₁ : Does (Operating NORMAL) s s₁ (go (vecAt s₁ NORMAL m)) (operator S (vecAt s RESIDUAL m))) where
     kk : Kept Work s s₁
     kk = kept-more (d₁ .kept) (λ i x. omega arith)
 

@@ -160,10 +160,12 @@ pub least-pass-spec : {M : Type 1} → statement M
 least-pass-spec =
     tie.close (tie.spec
     (λ c κs. search needs) returns operator-requires (λ c κs. search needs)
-    (λ c. c .before .before .before .before .operator .ensures .kept .size) returns-2 (λ c κs. omega arith)
-    (λ c. search needs) (λ c. search needs) (λ c. first-of (c .before .before .before .before) .operator .ensures .kept .size)
-    returns-3 (λ c. first-of (c .before .before .before .before .before .before) .operator .ensures .kept .size) returns-4
+    (λ c. omega arith) returns-2 (λ c κs. omega arith)
+    (λ c. search needs) (λ c. search needs)
+    (λ c. first-of (c .before .before .before .before) .operator .ensures .kept .size) returns-3
+    (λ c. first-of (c .before .before .before .before .before .before) .operator .ensures .kept .size) returns-4
     (λ c κs. omega arith) (λ c κs. omega arith) operator-requires-2 (λ c κs. search needs)
-    (λ c. size-back (c .before .before .before .before)) returns-5 dot-requires-2 (λ c. search needs) (λ c. search needs)
-    (λ c. let at-if4 = c .before .before .before .before in size-back (at-if4 .before .before .before .before)) returns-6
-    add-scaled-requires-2 same-length-6 returns-7)
+    (λ c. size-back (c .before .before .before .before)) returns-5 dot-requires-2 (λ c. search needs)
+    (λ c. search needs)
+    (λ c. let at-if4 = c .before .before .before .before in size-back (at-if4 .before .before .before .before))
+    returns-6 add-scaled-requires-2 same-length-6 returns-7)

@@ -84,5 +84,8 @@ pub rates-spec : {M : Type 1} → statement M
 rates-spec =
     tie.close (tie.spec
     Inv-loop μ-loop loop-holds (λ c κs. omega arith) load-generalized-requires load-generalized-requires-2
-    (λ c κs. omega arith) (λ c. let near = c .before .before .before .before .before .before in omega arith) (λ c. let near = c .before .before .before .before .before .before in omega arith) (λ c. let near = c .before .before .before .before .before .before in omega arith) (λ c κs. omega arith) same-length returns (λ c. let near = c .before .before .before .before .before .before in omega arith)
+    (λ c κs. omega arith) (λ c. let near = c .before .before .before .before .before .before in omega arith)
+    (λ c. let near = c .before .before .before .before .before .before in omega arith)
+    (λ c. let near = c .before .before .before .before .before .before in omega arith) (λ c κs. omega arith)
+    same-length returns (λ c. let near = c .before .before .before .before .before .before in omega arith)
     (λ c. omega arith) loop-again (λ c. c .before .loop .inv .1) returns-2)

@@ -38,7 +38,9 @@ abbrev begin-of : tie.At-loop Inv-loop μ-loop → tie.Start Inv-loop μ-loop
 begin-of c = c .before .before .before .before .before .before
 
 whole : (c : tie.At-loop Inv-loop μ-loop) → END ≤ length (c .loop .s)
-whole c = omega (arith, c .before .before .before .clear .ensures .kept .size, c .loop .inv .1, begin-of c .pre .0 .whole)
+whole c =
+    let at-clear = c .before .before .before in
+    omega (arith, at-clear .clear .ensures .kept .size, c .loop .inv .1, begin-of c .pre .0 .whole)
 
 push-row-requires : tie.Need-push-row-requires Inv-loop μ-loop
 push-row-requires c κs =
@@ -88,7 +90,7 @@ returns-2 c =
 pub transpose-spec : {M : Type 1} → statement M
 transpose-spec =
     tie.close (tie.spec
-      Inv-loop μ-loop (λ c. omega arith) (λ c κs. omega arith) loop-holds (λ c κs. omega arith)
-      (λ c. omega arith) (λ c. omega arith) (λ c. omega arith) push-row-requires (λ c. omega arith)
-      (λ c. omega arith) loop-again (λ c κs. (whole (c .before .before), begin-of (c .before .before) .pre .0 .bodies)) (λ c. omega arith) returns (λ c. omega arith)
-      returns-2)
+    Inv-loop μ-loop (λ c. omega arith) (λ c κs. omega arith) loop-holds (λ c κs. omega arith) (λ c. omega arith)
+    (λ c. omega arith) (λ c. omega arith) push-row-requires (λ c. omega arith) (λ c. omega arith) loop-again
+    (λ c κs. (whole (c .before .before), begin-of (c .before .before) .pre .0 .bodies)) (λ c. omega arith)
+    returns (λ c. omega arith) returns-2)

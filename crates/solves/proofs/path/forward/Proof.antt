@@ -57,7 +57,8 @@ returns c =
 pub forward-spec : {M : Type 1} → statement M
 forward-spec =
     tie.close (tie.spec
-    Inv-loop μ-loop loop-holds (λ c. omega arith) (λ c. omega arith) (λ c. omega (arith, row-there (c .before))) (λ c. omega (arith, row-there (c .before))) (λ c. omega (arith, row-there (c .before .before)))
+    Inv-loop μ-loop loop-holds (λ c. omega arith) (λ c. omega arith) (λ c. omega (arith, row-there (c .before)))
+    (λ c. omega (arith, row-there (c .before))) (λ c. omega (arith, row-there (c .before .before)))
     (λ c. omega arith) (λ c. omega arith) (λ c. omega arith) (λ c κs. omega arith) (λ c. omega arith)
     (λ c. omega arith) (λ c. omega arith) (λ c. omega arith) (λ c. omega arith) (λ c. omega arith)
     (λ c. omega arith) (λ c. omega arith) (λ c. omega arith) loop-again (λ c. c .before .loop .inv .1) returns)

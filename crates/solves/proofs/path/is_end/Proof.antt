@@ -56,5 +56,9 @@ returns-3 c =
 pub is-end-spec : {M : Type 1} → statement M
 is-end-spec =
     tie.close (tie.spec
-    (λ c. search needs) returns (λ c. search needs) (λ c. search needs) (λ c. omega (arith, row-of (c .before .before .before))) (λ c. omega (arith, row-of (c .before .before .before)))
-    neighbor-requires returns-2 (λ c. omega (arith, row-of (c .before .before .before .before .before .before))) (λ c. omega (arith, row-of (c .before .before .before .before .before .before))) neighbor-requires-2 returns-3)
+    (λ c. search needs) returns (λ c. search needs) (λ c. search needs)
+    (λ c. omega (arith, row-of (c .before .before .before)))
+    (λ c. omega (arith, row-of (c .before .before .before))) neighbor-requires returns-2
+    (λ c. omega (arith, row-of (c .before .before .before .before .before .before)))
+    (λ c. omega (arith, row-of (c .before .before .before .before .before .before))) neighbor-requires-2
+    returns-3)

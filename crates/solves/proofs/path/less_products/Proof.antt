@@ -5,7 +5,7 @@ use Prim.Native.Nat.{_≤_, _-_}
 use denote.Ref.{now}
 use Rattle.arith.specs.FlowLaws.{turns-none, turns-end}
 use Rattle.solves.specs.Path.{lessProducts}
-use Rattle.solves.specs.PathView.{lineAt, Stands}
+use Rattle.solves.specs.PathView.{lineAt, InLine}
 use Rattle.solves.proofs.SweepLaws.{products-more}
 use Rattle.solves.proofs.path.less_products.Statement.{statement}
 use Rattle.solves.proofs.path.less_products.Tie as tie
@@ -18,7 +18,7 @@ abbrev μ-loop : tie.MeasureT-loop
 
 -- number k of both lines is there
 both : (c : tie.In-loop Inv-loop μ-loop) → let args = c .before .before .before .args in
-    (Stands (args .a) (c .before .loop .k)) × (Stands (args .b) (c .before .loop .k))
+    (InLine (args .a) (c .before .loop .k)) × (InLine (args .b) (c .before .loop .k))
 both c =
     let pre = c .before .before .before .pre in
     (pre .1 (c .before .loop .k) (c .loop-test .taken), pre .2 (c .before .loop .k) (c .loop-test .taken))
@@ -42,6 +42,8 @@ returns c =
 pub less-products-spec : {M : Type 1} → statement M
 less-products-spec =
     tie.close (tie.spec
-    Inv-loop μ-loop (λ c. (omega arith, turns-none _ _)) (λ c κs. both c .0) (λ c. omega (arith, both (c .before))) (λ c. omega (arith, both (c .before .before)))
-    (λ c κs. both (c .before .before) .1) (λ c. omega (arith, both (c .before .before .before))) (λ c. omega (arith, both (c .before .before .before .before))) (λ c. omega arith) (λ c. omega arith) loop-again
-    returns)
+    Inv-loop μ-loop (λ c. (omega arith, turns-none _ _)) (λ c κs. both c .0)
+    (λ c. omega (arith, both (c .before))) (λ c. omega (arith, both (c .before .before)))
+    (λ c κs. both (c .before .before) .1) (λ c. omega (arith, both (c .before .before .before)))
+    (λ c. omega (arith, both (c .before .before .before .before))) (λ c. omega arith) (λ c. omega arith)
+    loop-again returns)

@@ -81,6 +81,7 @@ pub path-edges-spec : {M : Type 1} → statement M
 path-edges-spec =
     tie.close (tie.spec
     Inv-loop μ-loop (λ c. (omega arith, edges-none (c .pre .linking))) (λ c. omega arith) (λ c. omega arith)
-    (λ c. omega (arith, row-of (c .before .before))) (λ c. omega (arith, row-of (c .before .before))) add-edge-requires returns (λ c. omega (arith, row-of (c .before .before .before .before .before .before)))
-    (λ c. omega (arith, row-of (c .before .before .before .before .before .before))) add-edge-requires-2 returns-2 (λ c. omega arith) (λ c. omega arith) loop-again
-    returns-3)
+    (λ c. omega (arith, row-of (c .before .before))) (λ c. omega (arith, row-of (c .before .before)))
+    add-edge-requires returns (λ c. omega (arith, row-of (c .before .before .before .before .before .before)))
+    (λ c. omega (arith, row-of (c .before .before .before .before .before .before))) add-edge-requires-2
+    returns-2 (λ c. omega arith) (λ c. omega arith) loop-again returns-3)
