@@ -117,8 +117,11 @@ Banded i = Out PATH-BAND BAND i
 band-out : (n i d k : ℕ) → n ≤ 96 → i < n → d < 12 → Banded k → Out (PATH-BAND + 12 * i + d) 1 k
 band-out n i d k m h l x = omega arith
 
-module _ {s : List Float} {ia ib : List ℕ} {rows n count : ℕ} (pre : Rows s ia ib rows n count) (order : List ℕ) (along : Along order n)
-    {i j : ℕ} (hi : i < n) (hj : j ≤ i) (near : i ≤ j + 11) where
+module _ {s : List Float} {ia ib : List ℕ} {rows n count : ℕ} (order : List ℕ) {i j : ℕ}
+    (pre : (Rows s ia ib rows n count) × (Along order n) × (i < n) × (j ≤ i) × (i ≤ j + 11)) where
+  hi : i < n
+  hi = pre .2
+
   abbrev R₁ : List EqualityRow
   R₁ = rowsOn ia ib s rows n
 
@@ -167,8 +170,8 @@ module _ {s : List Float} {ia ib : List ℕ} {rows n count : ℕ} (pre : Rows s 
           → Does Banded s (set s (PATH-BAND + 12 * i) root) (go (bandAt (set s (PATH-BAND + 12 * i) root) n)) Entry
       unfolding pathEntry
       entry-pivot q w {root} er = record {
-        kept = kept-more (kept-set s (PATH-BAND + 12 * i) root) (λ k x. omega (arith, pre .most));
-        is = ap go (vec-set s PATH-BAND (12 * n) (12 * i) root (omega arith) (omega (arith, pre .whole, pre .most))
+        kept = kept-more (kept-set s (PATH-BAND + 12 * i) root) (λ k x. omega (arith, pre .0 .most));
+        is = ap go (vec-set s PATH-BAND (12 * n) (12 * i) root (omega arith) (omega (arith, pre .0 .whole, pre .0 .most))
             ∙ ap (set (bandAt s n) (12 * i)) (er ∙ ap (sqrt binary64) value-is))
             ∙ cond-no _ _ ((λ x. (ap not finite-is ∙ q) x || Ieee.le Val (ratio 0 1)) ∙ low-is ∙ w) ∙ cond-yes _ _ (eq-eqb j i same) ∙ then-go _ e;
       }
@@ -184,9 +187,9 @@ module _ {s : List Float} {ia ib : List ℕ} {rows n count : ℕ} (pre : Rows s 
     entry-side q =
         let p : PATH-BAND + 12 * i + (i - j) ≡ PATH-BAND + (12 * i + (i - j)) = omega arith in
         record {
-          kept = kept-more (kept-set s (PATH-BAND + 12 * i + (i - j)) side) (λ k x. band-out n i (i - j) k (pre .most) hi (omega arith) x);
+          kept = kept-more (kept-set s (PATH-BAND + 12 * i + (i - j)) side) (λ k x. band-out n i (i - j) k (pre .0 .most) hi (omega arith) x);
           is = ap (λ (m : ℕ). go (bandAt (set s m side) n)) p
-              ∙ ap go (vec-set s PATH-BAND (12 * n) (12 * i + (i - j)) side (omega arith) (omega (arith, pre .whole, pre .most))
+              ∙ ap go (vec-set s PATH-BAND (12 * n) (12 * i + (i - j)) side (omega arith) (omega (arith, pre .0 .whole, pre .0 .most))
               ∙ λ x. set (bandAt s n) (12 * i + (i - j)) (value-is x ⊘ cell-first s n j (omega arith) x))
               ∙ cond-no _ _ (ne-eqb j i q) ∙ then-go _ e;
         }

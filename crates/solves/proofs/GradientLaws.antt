@@ -33,7 +33,7 @@ use Rattle.solves.specs.Solver.{rowIn, massIn, dot, operator, plus, minu
 use Rattle.solves.specs.Solver.{prepareRow, prepare, Tested, trueResidual, scaledSquare, nextDirection, advance}
 use Rattle.solves.specs.Search.{gradientMost, settle, gradientPass, gradients}
 use Rattle.solves.specs.Answer.{ranAs, testAs, trueAs}
-use Rattle.solves.specs.View.{rowOn, rowsOn, massAt, massesAt, systemOn, searchAt, preparedAt, Rows, Beside, Moves, Passing, Preparing, Testing, Work}
+use Rattle.solves.specs.View.{rowOn, rowsOn, massAt, massesAt, systemOn, searchAt, preparedAt, Rows, Beside, Operating, Passing, Preparing, Testing, Work}
 use Rattle.solves.specs.View.{VECTOR, ROWS-MOST, MASSES, RHS, SOLUTION, RESIDUAL, DIRECTION, PRODUCT, DIAGONAL}
 use Rattle.solves.specs.DoesLaws.{goes-on, returns-if, does-stop, does-as}
 use Rattle.solves.specs.ViewLaws.{row-in, mass-in, passing-vector, passing-moves, passing-testing}
@@ -242,11 +242,11 @@ module _ {s : List Float} {ia ib : List ℕ} (table : Table) (pre : Rows s ia ib
   true-wild e = record { kept = kept-refl _ s; is = then-stop _ e }
 
   module _ (e : go true ≡ within (vecAt s RESIDUAL n₁) tolerance) {s₁ : List Float} where
-    pub true-unmoved : {f : Fault} → Does (Moves PRODUCT) s s₁ (stop f) (operator M₁ (vecAt s SOLUTION n₁)) → Does Testing s s₁ (stop f) True
+    pub true-unmoved : {f : Fault} → Does (Operating PRODUCT) s s₁ (stop f) (operator M₁ (vecAt s SOLUTION n₁)) → Does Testing s s₁ (stop f) True
     unfolding trueResidual
     true-unmoved d = record { kept = kept-more (d .kept) (λ i x. (x .0, x .1)); is = then-stop _ (d .is) ∙ then-go _ e }
 
-    module _ (d₁ : Does (Moves PRODUCT) s s₁ (go (vecAt s₁ PRODUCT n₁)) (operator M₁ (vecAt s SOLUTION n₁))) {s₂ : List Float}
+    module _ (d₁ : Does (Operating PRODUCT) s s₁ (go (vecAt s₁ PRODUCT n₁)) (operator M₁ (vecAt s SOLUTION n₁))) {s₂ : List Float}
         (d₂ : Does (Beside RESIDUAL) s₁ s₂ (vecAt s₂ RESIDUAL n₁) (difference (vecAt s₁ RHS n₁) (vecAt s₁ PRODUCT n₁))) where
       again-is : vecAt s₂ RESIDUAL n₁ ≡ difference (vecAt s RHS n₁) (vecAt s₁ PRODUCT n₁)
       again-is = d₂ .is ∙ ap (λ (l : List Float). difference l (vecAt s₁ PRODUCT n₁)) (kept-vec (d₁ .kept) RHS n₁ (λ i x y. omega (arith, pre .most)))
@@ -275,12 +275,12 @@ module _ {s : List Float} {ia ib : List ℕ} (table : Table) (pre : Rows s ia ib
   abbrev Advanced : Result Search
   Advanced = advance M₂ (searchAt s n₂ rho)
 
-  pub advance-unmoved : {s₁ : List Float} {f : Fault} → Does (Moves PRODUCT) s s₁ (stop f) (operator M₂ (vecAt s DIRECTION n₂))
+  pub advance-unmoved : {s₁ : List Float} {f : Fault} → Does (Operating PRODUCT) s s₁ (stop f) (operator M₂ (vecAt s DIRECTION n₂))
       → Does Passing s s₁ (stop f) Advanced
   unfolding advance
   advance-unmoved d = does-stop _ (passing-moves PRODUCT (omega arith) (omega arith)) d
 
-  module _ {s₁ : List Float} (d₁ : Does (Moves PRODUCT) s s₁ (go (vecAt s₁ PRODUCT n₂)) (operator M₂ (vecAt s DIRECTION n₂))) where
+  module _ {s₁ : List Float} (d₁ : Does (Operating PRODUCT) s s₁ (go (vecAt s₁ PRODUCT n₂)) (operator M₂ (vecAt s DIRECTION n₂))) where
     k₁ : Kept Passing s s₁
     k₁ = kept-more (d₁ .kept) (passing-moves PRODUCT (omega arith) (omega arith))
 
@@ -476,7 +476,8 @@ module _ {s : List Float} {ia ib : List ℕ} (table : Table) (pre : Rows s ia ib
 
       pub gradients-whole : {t : List Float} {y : Counting (List Float)}
           → Does Work s₁ t y
-          (upTo (gradientMost n₅) nonConvergent (gradientPass (systemOn ia ib s₁ table) (vecAt s₁ RHS n₅) (vecAt s₁ DIAGONAL n₅) tolerance) (searchAt s₁ n₅ rho))
+          (upTo (gradientMost n₅) nonConvergent (gradientPass (systemOn ia ib s₁ table) (vecAt s₁ RHS n₅) (vecAt s₁ DIAGONAL n₅) tolerance)
+          (searchAt s₁ n₅ rho))
           → Does Work s t y Gradients
       unfolding gradients
       gradients-whole {t} {y} d = record {

@@ -21,9 +21,24 @@ use Rattle.solves.specs.Region.{vecAt, Does}
 use Rattle.solves.specs.RegionLaws.{kept-vec}
 use Rattle.solves.specs.Solver.{dot, operator, plus, minus, toleranceFor, Search}
 use Rattle.solves.specs.Search.{leastMost, leastPass, leastSquares}
-use Rattle.solves.specs.View.{rowOn, systemOn, searchAt, Rows, Beside, Moves, Passing, Work, RHS, SOLUTION, RESIDUAL, DIRECTION, PRODUCT, NORMAL}
+use Rattle.solves.specs.View.{rowOn, systemOn, searchAt, Rows, Beside, Operating, Passing, Work, RHS, SOLUTION, RESIDUAL, DIRECTION, PRODUCT, NORMAL}
 use Rattle.solves.specs.ViewLaws.{passing-vector, passing-moves, passing-normal}
 use Rattle.solves.proofs.SearchLaws.{passing-system, work-system}
+
+-- ---- how far a pass has come: the product stands in s₁
+pub record Moved (s : List Float) (ia ib : List ℕ) (table : Table) (tolerance norm : Float) (s₁ : List Float) : Type 0 where
+  pub on : Ieee.le (sqrt binary64 norm) tolerance ≡ false
+  pub does : Does (Operating PRODUCT) s s₁ (go (vecAt s₁ PRODUCT (table .rows))) (operator (systemOn ia ib s table) (vecAt s DIRECTION (table .rows)))
+
+-- solution and residual went on by norm ⊘ y, in s₃
+pub record Advanced (s : List Float) (ia ib : List ℕ) (table : Table) (tolerance norm : Float) (s₁ : List Float) (y : Float) (s₃ : List Float) : Type 0 where
+  pub moved : Moved s ia ib table tolerance norm s₁
+  pub sum : go y ≡ dot (vecAt s₁ PRODUCT (table .rows)) (vecAt s₁ PRODUCT (table .rows))
+  pub above : Ieee.le y (ratio 0 1) ≡ false
+  pub kept : Kept Passing s s₃
+  pub solution : vecAt s₃ SOLUTION (table .rows) ≡ plus (vecAt s SOLUTION (table .rows)) (norm ⊘ y) (vecAt s DIRECTION (table .rows))
+  pub residual : vecAt s₃ RESIDUAL (table .rows) ≡ minus (vecAt s RESIDUAL (table .rows)) (norm ⊘ y) (vecAt s₁ PRODUCT (table .rows))
+  pub direction : vecAt s₃ DIRECTION (table .rows) ≡ vecAt s DIRECTION (table .rows)
 
 module _ {s : List Float} {ia ib : List ℕ} (table : Table) (pre : Rows s ia ib (table .place) (table .rows) (table .bodies)) (tolerance norm : Float) where
   abbrev n : ℕ
@@ -32,106 +47,117 @@ module _ {s : List Float} {ia ib : List ℕ} (table : Table) (pre : Rows s ia ib
   abbrev M : System
   M = systemOn ia ib s table
 
-  abbrev Pass : Counting (Turn Search (List Float))
-  Pass = leastPass M tolerance (searchAt s n norm)
+  abbrev OnePass : Counting (Turn Search (List Float))
+  OnePass = leastPass M tolerance (searchAt s n norm)
 
   module _ {x : Float} (ex : x ≡ sqrt binary64 norm) where
-    pub pass-solved : Ieee.le x tolerance ≡ true → Does Passing s s (leave (vecAt s SOLUTION n)) Pass
+    pub pass-solved : Ieee.le x tolerance ≡ true → Does Passing s s (leave (vecAt s SOLUTION n)) OnePass
     unfolding leastPass
     pass-solved h = record { kept = kept-refl Passing s; is = leave-yes _ _ (ap (λ (y : Float). Ieee.le y tolerance) (sym ex) ∙ h) }
 
     module _ (h : Ieee.le x tolerance ≡ false) where
-      on : Ieee.le (sqrt binary64 norm) tolerance ≡ false
-      on = ap (λ (y : Float). Ieee.le y tolerance) (sym ex) ∙ h
+      on-with : Ieee.le (sqrt binary64 norm) tolerance ≡ false
+      on-with = ap (λ (y : Float). Ieee.le y tolerance) (sym ex) ∙ h
 
-      pub pass-unmoved : {s₁ : List Float} {f : Fault} → Does (Moves PRODUCT) s s₁ (stop f) (operator M (vecAt s DIRECTION n))
-          → Does Passing s s₁ (fail f) Pass
+      pub pass-moved : {s₁ : List Float} → Does (Operating PRODUCT) s s₁ (go (vecAt s₁ PRODUCT n)) (operator M (vecAt s DIRECTION n))
+          → Moved s ia ib table tolerance norm s₁
+      pass-moved d = record { on = on-with; does = d }
+
+      pub pass-unmoved : {s₁ : List Float} {f : Fault} → Does (Operating PRODUCT) s s₁ (stop f) (operator M (vecAt s DIRECTION n))
+          → Does Passing s s₁ (fail f) OnePass
       unfolding leastPass
-      pass-unmoved d = record { kept = kept-more (d .kept) (passing-moves PRODUCT (omega arith) (omega arith)); is = try-stop _ (d .is) ∙ leave-no _ _ on }
+      pass-unmoved d = record { kept = kept-more (d .kept) (passing-moves PRODUCT (omega arith) (omega arith)); is = try-stop _ (d .is) ∙ leave-no _ _ on-with }
 
-      module _ {s₁ : List Float} (d₁ : Does (Moves PRODUCT) s s₁ (go (vecAt s₁ PRODUCT n)) (operator M (vecAt s DIRECTION n))) where
-        k₁ : Kept Passing s s₁
-        k₁ = kept-more (d₁ .kept) (passing-moves PRODUCT (omega arith) (omega arith))
+  module _ {s₁ : List Float} (m : Moved s ia ib table tolerance norm s₁) where
+    k₁ : Kept Passing s s₁
+    k₁ = kept-more (m .does .kept) (passing-moves PRODUCT (omega arith) (omega arith))
 
-        pub pass-unmeasured : {f : Fault} → stop f ≡ dot (vecAt s₁ PRODUCT n) (vecAt s₁ PRODUCT n) → Does Passing s s₁ (fail f) Pass
+    pub pass-unmeasured : {f : Fault} → stop f ≡ dot (vecAt s₁ PRODUCT n) (vecAt s₁ PRODUCT n) → Does Passing s s₁ (fail f) OnePass
+    unfolding leastPass
+    pass-unmeasured e = record { kept = k₁; is = try-stop _ e ∙ try-go _ (m .does .is) ∙ leave-no _ _ (m .on) }
+
+    module _ {y zero : Float} (ez : zero ≡ ratio 0 1) (e₁ : go y ≡ dot (vecAt s₁ PRODUCT n) (vecAt s₁ PRODUCT n)) where
+      pub pass-stuck : Ieee.le y zero ≡ true → Does Passing s s₁ (fail nonConvergent) OnePass
+      unfolding leastPass
+      pass-stuck g = record { kept = k₁; is = fail-yes _ _ (ap (Ieee.le y) (sym ez) ∙ g) ∙ try-go _ e₁ ∙ try-go _ (m .does .is) ∙ leave-no _ _ (m .on) }
+
+      pub pass-advanced : Ieee.le y zero ≡ false → {s₂ s₃ : List Float}
+          → Does (Beside SOLUTION) s₁ s₂ (vecAt s₂ SOLUTION n) (plus (vecAt s₁ SOLUTION n) (norm ⊘ y) (vecAt s₁ DIRECTION n))
+          → Does (Beside RESIDUAL) s₂ s₃ (vecAt s₃ RESIDUAL n) (minus (vecAt s₂ RESIDUAL n) (norm ⊘ y) (vecAt s₂ PRODUCT n))
+          → Advanced s ia ib table tolerance norm s₁ y s₃
+      pass-advanced h {s₂} {s₃} d₂ d₃ = record {
+        moved = m;
+        sum = e₁;
+        above = ap (Ieee.le y) (sym ez) ∙ h;
+        kept = kept-then (kept-then k₁ (d₂ .kept) (passing-vector SOLUTION (omega arith) (omega arith)))
+            (d₃ .kept) (passing-vector RESIDUAL (omega arith) (omega arith));
+        solution =
+            let a = kept-vec (m .does .kept) SOLUTION n (λ i x y. omega arith) in
+            let b = kept-vec (m .does .kept) DIRECTION n (λ i x y. omega arith) in
+            let c = kept-vec (d₃ .kept) SOLUTION n (λ i x y. omega arith) in
+            let e = d₂ .is in
+            cc;
+        residual =
+            let a = kept-vec (m .does .kept) RESIDUAL n (λ i x y. omega arith) in
+            let b = kept-vec (d₂ .kept) RESIDUAL n (λ i x y. omega arith) in
+            let c = kept-vec (d₂ .kept) PRODUCT n (λ i x y. omega arith) in
+            let e = d₃ .is in
+            cc;
+        direction = kept-vec (d₃ .kept) DIRECTION n (λ i x y. omega arith) ∙ kept-vec (d₂ .kept) DIRECTION n (λ i x y. omega arith)
+            ∙ kept-vec (m .does .kept) DIRECTION n (λ i x y. omega arith);
+      }
+
+  module _ {s₁ : List Float} {y : Float} {s₃ : List Float} (a : Advanced s ia ib table tolerance norm s₁ y s₃) where
+    op₃ : operator (systemOn ia ib s₃ table) (vecAt s₃ RESIDUAL n) ≡ operator M (minus (vecAt s RESIDUAL n) (norm ⊘ y) (vecAt s₁ PRODUCT n))
+    op₃ = λ j. operator (passing-system table pre (a .kept) j) (a .residual j)
+
+    pub pass-unreturned : {s₄ : List Float} {f : Fault} → Does (Operating NORMAL) s₃ s₄ (stop f) (operator (systemOn ia ib s₃ table) (vecAt s₃ RESIDUAL n))
+        → Does Passing s s₄ (fail f) OnePass
+    unfolding leastPass
+    pass-unreturned d = record {
+      kept = kept-then (a .kept) (d .kept) passing-normal;
+      is = try-stop _ (d .is ∙ op₃) ∙ fail-no _ _ (a .above) ∙ try-go _ (a .sum) ∙ try-go _ (a .moved .does .is) ∙ leave-no _ _ (a .moved .on);
+    }
+
+    module _ {s₄ : List Float}
+        (d₄ : Does (Operating NORMAL) s₃ s₄ (go (vecAt s₄ NORMAL n)) (operator (systemOn ia ib s₃ table) (vecAt s₃ RESIDUAL n))) where
+      k₄ : Kept Passing s s₄
+      k₄ = kept-then (a .kept) (d₄ .kept) passing-normal
+
+      pub pass-unmeasured-again : {f : Fault} → stop f ≡ dot (vecAt s₄ NORMAL n) (vecAt s₄ NORMAL n) → Does Passing s s₄ (fail f) OnePass
+      unfolding leastPass
+      pass-unmeasured-again e = record {
+        kept = k₄;
+        is = try-stop _ e ∙ try-go _ (d₄ .is ∙ op₃) ∙ fail-no _ _ (a .above) ∙ try-go _ (a .sum) ∙ try-go _ (a .moved .does .is)
+            ∙ leave-no _ _ (a .moved .on);
+      }
+
+      module _ {next : Float} (e₄ : go next ≡ dot (vecAt s₄ NORMAL n) (vecAt s₄ NORMAL n)) {s₅ : List Float}
+          (d₅ : Does (Beside DIRECTION) s₄ s₅ (vecAt s₅ DIRECTION n) (plus (vecAt s₄ NORMAL n) (next ⊘ norm) (vecAt s₄ DIRECTION n))) where
+        abbrev left : Search
+        left = record {
+          solution = plus (vecAt s SOLUTION n) (norm ⊘ y) (vecAt s DIRECTION n);
+          residual = minus (vecAt s RESIDUAL n) (norm ⊘ y) (vecAt s₁ PRODUCT n);
+          direction = plus (vecAt s₄ NORMAL n) (next ⊘ norm) (vecAt s DIRECTION n);
+          rho = next;
+        }
+
+        search₅ : searchAt s₅ n next ≡ left
+        search₅ = λ j. record {
+          solution = (kept-vec (d₅ .kept) SOLUTION n (λ i x y. omega arith) ∙ kept-vec (d₄ .kept) SOLUTION n (λ i x y. omega arith) ∙ a .solution) j;
+          residual = (kept-vec (d₅ .kept) RESIDUAL n (λ i x y. omega arith) ∙ kept-vec (d₄ .kept) RESIDUAL n (λ i x y. omega arith) ∙ a .residual) j;
+          direction = (d₅ .is
+              ∙ ap (plus (vecAt s₄ NORMAL n) (next ⊘ norm)) (kept-vec (d₄ .kept) DIRECTION n (λ i x y. omega arith) ∙ a .direction)) j;
+          rho = next;
+        }
+
+        pub pass-next : Does Passing s s₅ (ran (go (go (searchAt s₅ n next))) 0 1) OnePass
         unfolding leastPass
-        pass-unmeasured e = record { kept = k₁; is = try-stop _ e ∙ try-go _ (d₁ .is) ∙ leave-no _ _ on }
-
-        module _ {y zero : Float} (ez : zero ≡ ratio 0 1) (e₁ : go y ≡ dot (vecAt s₁ PRODUCT n) (vecAt s₁ PRODUCT n)) where
-          pub pass-stuck : Ieee.le y zero ≡ true → Does Passing s s₁ (fail nonConvergent) Pass
-          unfolding leastPass
-          pass-stuck g = record { kept = k₁; is = fail-yes _ _ (ap (Ieee.le y) (sym ez) ∙ g) ∙ try-go _ e₁ ∙ try-go _ (d₁ .is) ∙ leave-no _ _ on }
-
-          module _ (h₁ : Ieee.le y zero ≡ false) {s₂ s₃ : List Float}
-              (d₂ : Does (Beside SOLUTION) s₁ s₂ (vecAt s₂ SOLUTION n) (plus (vecAt s₁ SOLUTION n) (norm ⊘ y) (vecAt s₁ DIRECTION n)))
-              (d₃ : Does (Beside RESIDUAL) s₂ s₃ (vecAt s₃ RESIDUAL n) (minus (vecAt s₂ RESIDUAL n) (norm ⊘ y) (vecAt s₂ PRODUCT n))) where
-            k₃ : Kept Passing s s₃
-            k₃ = kept-then (kept-then k₁ (d₂ .kept) (passing-vector SOLUTION (omega arith) (omega arith)))
-                (d₃ .kept) (passing-vector RESIDUAL (omega arith) (omega arith))
-
-            on₁ : Ieee.le y (ratio 0 1) ≡ false
-            on₁ = ap (Ieee.le y) (sym ez) ∙ h₁
-
-            sol₃ : vecAt s₃ SOLUTION n ≡ plus (vecAt s SOLUTION n) (norm ⊘ y) (vecAt s DIRECTION n)
-            sol₃ =
-                let a = kept-vec (d₁ .kept) SOLUTION n (λ i x y. omega arith) in
-                let b = kept-vec (d₁ .kept) DIRECTION n (λ i x y. omega arith) in
-                let c = kept-vec (d₃ .kept) SOLUTION n (λ i x y. omega arith) in
-                let e = d₂ .is in
-                cc
-
-            res₃ : vecAt s₃ RESIDUAL n ≡ minus (vecAt s RESIDUAL n) (norm ⊘ y) (vecAt s₁ PRODUCT n)
-            res₃ =
-                let a = kept-vec (d₁ .kept) RESIDUAL n (λ i x y. omega arith) in
-                let b = kept-vec (d₂ .kept) RESIDUAL n (λ i x y. omega arith) in
-                let c = kept-vec (d₂ .kept) PRODUCT n (λ i x y. omega arith) in
-                let e = d₃ .is in
-                cc
-
-            op₃ : operator (systemOn ia ib s₃ table) (vecAt s₃ RESIDUAL n) ≡ operator M (minus (vecAt s RESIDUAL n) (norm ⊘ y) (vecAt s₁ PRODUCT n))
-            op₃ = λ j. operator (passing-system table pre k₃ j) (res₃ j)
-
-            pub pass-unreturned : {s₄ : List Float} {f : Fault}
-                → Does (Moves NORMAL) s₃ s₄ (stop f) (operator (systemOn ia ib s₃ table) (vecAt s₃ RESIDUAL n))
-                → Does Passing s s₄ (fail f) Pass
-            unfolding leastPass
-            pass-unreturned d = record {
-              kept = kept-then k₃ (d .kept) passing-normal;
-              is = try-stop _ (d .is ∙ op₃) ∙ fail-no _ _ on₁ ∙ try-go _ e₁ ∙ try-go _ (d₁ .is) ∙ leave-no _ _ on;
-            }
-
-            module _ {s₄ : List Float}
-                (d₄ : Does (Moves NORMAL) s₃ s₄ (go (vecAt s₄ NORMAL n)) (operator (systemOn ia ib s₃ table) (vecAt s₃ RESIDUAL n))) where
-              k₄ : Kept Passing s s₄
-              k₄ = kept-then k₃ (d₄ .kept) passing-normal
-
-              pub pass-unmeasured-again : {f : Fault} → stop f ≡ dot (vecAt s₄ NORMAL n) (vecAt s₄ NORMAL n) → Does Passing s s₄ (fail f) Pass
-              unfolding leastPass
-              pass-unmeasured-again e = record {
-                kept = k₄;
-                is = try-stop _ e ∙ try-go _ (d₄ .is ∙ op₃) ∙ fail-no _ _ on₁ ∙ try-go _ e₁ ∙ try-go _ (d₁ .is) ∙ leave-no _ _ on;
-              }
-
-              module _ {next : Float} (e₄ : go next ≡ dot (vecAt s₄ NORMAL n) (vecAt s₄ NORMAL n)) {s₅ : List Float}
-                  (d₅ : Does (Beside DIRECTION) s₄ s₅ (vecAt s₅ DIRECTION n) (plus (vecAt s₄ NORMAL n) (next ⊘ norm) (vecAt s₄ DIRECTION n))) where
-                sol₅ : vecAt s₅ SOLUTION n ≡ plus (vecAt s SOLUTION n) (norm ⊘ y) (vecAt s DIRECTION n)
-                sol₅ = kept-vec (d₅ .kept) SOLUTION n (λ i x y. omega arith) ∙ kept-vec (d₄ .kept) SOLUTION n (λ i x y. omega arith) ∙ sol₃
-
-                res₅ : vecAt s₅ RESIDUAL n ≡ minus (vecAt s RESIDUAL n) (norm ⊘ y) (vecAt s₁ PRODUCT n)
-                res₅ = kept-vec (d₅ .kept) RESIDUAL n (λ i x y. omega arith) ∙ kept-vec (d₄ .kept) RESIDUAL n (λ i x y. omega arith) ∙ res₃
-
-                dir₅ : vecAt s₅ DIRECTION n ≡ plus (vecAt s₄ NORMAL n) (next ⊘ norm) (vecAt s DIRECTION n)
-                dir₅ = d₅ .is ∙ ap (plus (vecAt s₄ NORMAL n) (next ⊘ norm))
-                    (kept-vec (d₄ .kept) DIRECTION n (λ i x y. omega arith) ∙ kept-vec (d₃ .kept) DIRECTION n (λ i x y. omega arith)
-                    ∙ kept-vec (d₂ .kept) DIRECTION n (λ i x y. omega arith) ∙ kept-vec (d₁ .kept) DIRECTION n (λ i x y. omega arith))
-
-                pub pass-next : Does Passing s s₅ (ran (go (go (searchAt s₅ n next))) 0 1) Pass
-                unfolding leastPass
-                pass-next = record {
-                  kept = kept-then k₄ (d₅ .kept) (passing-vector DIRECTION (omega arith) (omega arith));
-                  is = (λ j. ran (go (go (record { solution = sol₅ j; residual = res₅ j; direction = dir₅ j; rho = next }))) 0 1) ∙ ticks (again _)
-                      ∙ try-go _ e₄ ∙ try-go _ (d₄ .is ∙ op₃) ∙ fail-no _ _ on₁ ∙ try-go _ e₁ ∙ try-go _ (d₁ .is) ∙ leave-no _ _ on;
-                }
+        pass-next = record {
+          kept = kept-then k₄ (d₅ .kept) (passing-vector DIRECTION (omega arith) (omega arith));
+          is = (λ j. ran (go (go (search₅ j))) 0 1) ∙ ticks (again _) ∙ try-go _ e₄ ∙ try-go _ (d₄ .is ∙ op₃) ∙ fail-no _ _ (a .above)
+              ∙ try-go _ (a .sum) ∙ try-go _ (a .moved .does .is) ∙ leave-no _ _ (a .moved .on);
+        }
 
 -- before the loop
 module _ {s : List Float} {ia ib : List ℕ} (table : Table) (pre : Rows s ia ib (table .place) (table .rows) (table .bodies)) where
@@ -144,11 +170,11 @@ module _ {s : List Float} {ia ib : List ℕ} (table : Table) (pre : Rows s ia ib
   abbrev Least : Counting (List Float)
   Least = leastSquares S (vecAt s RHS m) (vecAt s SOLUTION m) (vecAt s RESIDUAL m)
 
-  pub least-unmoved : {s₁ : List Float} {f : Fault} → Does (Moves NORMAL) s s₁ (stop f) (operator S (vecAt s RESIDUAL m)) → Does Work s s₁ (fail f) Least
+  pub least-unmoved : {s₁ : List Float} {f : Fault} → Does (Operating NORMAL) s s₁ (stop f) (operator S (vecAt s RESIDUAL m)) → Does Work s s₁ (fail f) Least
   unfolding leastSquares
   least-unmoved d = record { kept = kept-more (d .kept) (λ i x. omega arith); is = try-stop _ (d .is) }
 
-  module _ {s₁ : List Float} (d₁ : Does (Moves NORMAL) s s₁ (go (vecAt s₁ NORMAL m)) (operator S (vecAt s RESIDUAL m))) where
+  module _ {s₁ : List Float} (d₁ : Does (Operating NORMAL) s s₁ (go (vecAt s₁ NORMAL m)) (operator S (vecAt s RESIDUAL m))) where
     kk : Kept Work s s₁
     kk = kept-more (d₁ .kept) (λ i x. omega arith)
 

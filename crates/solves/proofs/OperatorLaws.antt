@@ -26,7 +26,7 @@ use Rattle.solves.specs.RegionLaws.{vec-at, vec-in, kept-vec, vec-more}
 use Rattle.solves.specs.Solver.{rowIn, generalizedIn, massIn, tryNumber, sumProducts, dot, pushInto, pushRow, transpose}
 use Rattle.solves.specs.Solver.{scaled, scaleAll, rate, rates, operator, noShare, through, addThrough, crossEnd, crossMass}
 use Rattle.solves.specs.Checked.{added, finiteShare, allFinite, checked}
-use Rattle.solves.specs.View.{rowOn, rowsOn, generalizedAt, sharesIn, massAt, massesAt, systemOn, Rows, Place, Shares, Beside, Moves}
+use Rattle.solves.specs.View.{rowOn, rowsOn, generalizedAt, sharesIn, massAt, massesAt, systemOn, Rows, VectorPlace, Shares, Beside, Operating}
 use Rattle.solves.specs.View.{BODIES-MOST, VECTOR, RHS, GENERALIZED, MASSES, END, noGeneralized, noMass}
 use Rattle.solves.specs.DoesLaws.{number-yes, number-no, does-stop, does-then}
 use Rattle.solves.specs.ViewLaws.{out-within, kept-rows, kept-masses, row-in, share-in, mass-in, shares-set, shares-more, shares-none}
@@ -113,7 +113,8 @@ module _ (s : List Float) (count : ℕ) where
 abbrev pub rowTurn : List EqualityRow → List Float → ℕ → List Generalized → Result (List Generalized)
 rowTurn rows values k out = pushRow (rowIn rows k) (at values k) out
 
-module _ {z : List Float} {ia ib : List ℕ} {rows n count : ℕ} (pre : Rows z ia ib rows n count) {values : ℕ} (place : Place z values) (s₀ : List Float) where
+module _ {z : List Float} {ia ib : List ℕ} {rows n count : ℕ} (pre : Rows z ia ib rows n count) {values : ℕ}
+    (place : VectorPlace z values) (s₀ : List Float) where
   abbrev R : List EqualityRow
   R = rowsOn ia ib s₀ rows n
 
@@ -201,7 +202,7 @@ module _ (s₀ : List Float) (count : ℕ) (most : count ≤ BODIES-MOST) where
       record { kept = kept-more (inv .kept) (λ i x. omega arith); is = ap (λ (m : ℕ). go (sharesIn s m)) (sym same) ∙ each-end scaling a b (inv .is) }
 
 -- rates
-module _ {z : List Float} {ia ib : List ℕ} {rows n count : ℕ} (pre : Rows z ia ib rows n count) {out : ℕ} (place : Place z out) (s₀ : List Float) where
+module _ {z : List Float} {ia ib : List ℕ} {rows n count : ℕ} (pre : Rows z ia ib rows n count) {out : ℕ} (place : VectorPlace z out) (s₀ : List Float) where
   abbrev Q : List EqualityRow
   Q = rowsOn ia ib s₀ rows n
 
@@ -249,7 +250,7 @@ pub rows-kept : {s t : List Float} {ia ib : List ℕ} {rows n count : ℕ} → R
 rows-kept pre e = record { whole = omega arith; table = pre .table; most = pre .most; bodies = pre .bodies; a-there = pre .a-there; b-there = pre .b-there }
 
 -- a vector before the shares is a place for the operator
-pub place-of : {s : List Float} (off : ℕ) → RHS ≤ off → off + VECTOR ≤ GENERALIZED → END ≤ length s → Place s off
+pub place-of : {s : List Float} (off : ℕ) → RHS ≤ off → off + VECTOR ≤ GENERALIZED → END ≤ length s → VectorPlace s off
 place-of off h l w = record { low = h; apart = omega arith; there = omega arith }
 
 -- a row that was loaded is on bodies below count
@@ -280,7 +281,7 @@ module _ {s : List Float} {ia ib : List ℕ} (table : Table) (pre : Rows s ia ib
         → Does Shares s t x (transpose (rowsOn ia ib s (table .place) (table .rows)) (vecAt s input (table .rows)) (length (massesAt s MASSES count)))
     first d = record { kept = d .kept; is = d .is ∙ ap (transpose (rowsOn ia ib s (table .place) (table .rows)) (vecAt s input (table .rows))) len }
 
-    pub operator-pushes-failed : {f : Fault} → Does Shares s t (stop f) Pushed → Does (Moves out) s t (stop f) Whole
+    pub operator-pushes-failed : {f : Fault} → Does Shares s t (stop f) Pushed → Does (Operating out) s t (stop f) Whole
     unfolding operator
     operator-pushes-failed d = does-stop _ (λ i x. x .0) (first d)
 
@@ -293,13 +294,13 @@ module _ {s : List Float} {ia ib : List ℕ} (table : Table) (pre : Rows s ia ib
       }
 
       pub operator-scales-failed : {f : Fault} → Does Shares t u (stop f) (scaleAll (sharesIn t count) (massesAt t MASSES count) count)
-          → Does (Moves out) s u (stop f) Whole
+          → Does (Operating out) s u (stop f) Whole
       unfolding operator
       operator-scales-failed e = does-then _ (λ i x. x .0) (λ i x. x) (first d) (does-stop _ (λ i x. x .0) (second e))
 
       pub operator-rates : Does Shares t u (go (sharesIn u count)) (scaleAll (sharesIn t count) (massesAt t MASSES count) count)
           → {w : List Float} {y : Result (List Float)}
-          → Does (Beside out) u w y (rates (rowsOn ia ib u (table .place) (table .rows)) (table .rows) (sharesIn u count)) → Does (Moves out) s w y Whole
+          → Does (Beside out) u w y (rates (rowsOn ia ib u (table .place) (table .rows)) (table .rows) (sharesIn u count)) → Does (Operating out) s w y Whole
       unfolding operator
       operator-rates e {w} {y} f = does-then _ (λ i x. x .0) (λ i x. x) (first d) (does-then _ (λ i x. x .0) (λ i x. x .1) (second e) third)
         where

@@ -29,7 +29,7 @@ use Rattle.solves.specs.Path.{Factor, forward, backward, Refined, refine
 use Rattle.solves.specs.Search.{leastSquares, gradients, refinement, pathAlong, Choice, byLeastSquares, byPath, byGradients, ordered, choose}
 use Rattle.solves.specs.Search.{solveBy, linearSolve}
 use Rattle.solves.specs.Answer.{ranAs, testAs, orderAs, endedAs, endedWith}
-use Rattle.solves.specs.View.{rowOn, rowsOn, systemOn, listAt, bandAt, factorAt, refinedAt, Rows, Beside, Moves, Factoring, Refining, Work}
+use Rattle.solves.specs.View.{rowOn, rowsOn, systemOn, listAt, bandAt, factorAt, refinedAt, Rows, Beside, Operating, Factoring, Refining, Work}
 use Rattle.solves.specs.View.{RHS, SOLUTION, RESIDUAL, PRODUCT, PATH-BAND, PATH-SCALE, PATH-RHS}
 use Rattle.solves.specs.ViewLaws.{system-kept, passing-vector, passing-moves}
 use Rattle.solves.proofs.SearchLaws.{work-system, Came, came-again, came-over, came-out}
@@ -90,14 +90,14 @@ module _ {s : List Float} {ia ib : List ℕ} (table : Table) (pre : Rows s ia ib
       op-is : Op ≡ operator (systemOn ia ib s table) (Solution n)
       op-is = λ j. operator (refining-system table pre k₂ j) (solution-is j)
 
-      pub refine-failed : {s₃ : List Float} {f : Fault} → Does (Moves PRODUCT) s₂ s₃ (stop f) Op → Does Refining s s₃ (stop f) Fine
+      pub refine-failed : {s₃ : List Float} {f : Fault} → Does (Operating PRODUCT) s₂ s₃ (stop f) Op → Does Refining s s₃ (stop f) Fine
       unfolding refine
       refine-failed d = record {
         kept = kept-then k₂ (d .kept) (λ i x. passing-moves PRODUCT (omega arith) (omega arith) i (x .0));
         is = then-stop _ (d .is ∙ op-is ∙ ap (operator (systemOn ia ib s table)) long);
       }
 
-      pub refine-done : {s₃ s₄ : List Float} → Does (Moves PRODUCT) s₂ s₃ (go (vecAt s₃ PRODUCT n)) Op
+      pub refine-done : {s₃ s₄ : List Float} → Does (Operating PRODUCT) s₂ s₃ (go (vecAt s₃ PRODUCT n)) Op
           → Does (Beside RESIDUAL) s₃ s₄ (vecAt s₄ RESIDUAL n) (difference (vecAt s₃ RHS n) (vecAt s₃ PRODUCT n))
           → Does Refining s s₄ (go (refinedAt s₄ n)) Fine
       unfolding refine

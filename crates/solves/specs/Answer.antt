@@ -21,8 +21,8 @@ use Rattle.solves.specs.declared.Table.{Table}
 use Rattle.solves.specs.declared.places.Generalized.{Generalized}
 use Rattle.solves.specs.declared.operator.Share.{Share}
 use Rattle.solves.specs.declared.operator.Share.the-variants as Shares
-use Rattle.solves.specs.declared.gradients.Prepared as Rho
-use Rattle.solves.specs.declared.gradients.Prepared.the-variants as Rhos
+use Rattle.solves.specs.declared.gradients.Begun.{Begun}
+use Rattle.solves.specs.declared.gradients.Begun.the-variants as Rhos
 use Rattle.solves.specs.declared.search.Which.{Which}
 use Rattle.solves.specs.declared.search.Which.the-variants as Whichs
 use Rattle.solves.specs.declared.path.PathOrder.{PathOrder}
@@ -43,7 +43,7 @@ abbrev pub shareAs : Share → Result Generalized
 shareAs (Shares.Value g) = go g
 shareAs Shares.ArithmeticOverflow = stop arithmeticOverflow
 
-abbrev pub preparedAs : Rho.Prepared → List Float → ℕ → Result Prepared
+abbrev pub preparedAs : Begun → List Float → ℕ → Result Prepared
 preparedAs (Rhos.Rho rho) s n = go (preparedAt s n rho)
 preparedAs Rhos.NonConvergent s n = stop nonConvergent
 

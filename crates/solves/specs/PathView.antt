@@ -200,11 +200,11 @@ abbrev pub lineAt : List Float → Line → ℕ → Float
 lineAt s line t = at s (placeOf line t)
 
 -- number t of a line stands in the scratch, and so do the first `terms`
-abbrev pub Stands : Line → ℕ → Type 0
-Stands line t = (line .back * t ≤ line .first + line .on * t) × (line .first + line .on * t < END)
+abbrev pub InLine : Line → ℕ → Type 0
+InLine line t = (line .back * t ≤ line .first + line .on * t) × (line .first + line .on * t < END)
 
 abbrev pub Lies : Line → ℕ → Type 0
-Lies line terms = (t : ℕ) → t < terms → Stands line t
+Lies line terms = (t : ℕ) → t < terms → InLine line t
 
 -- path_band[i][i - k], path_band[k][k - i] and path_rhs[k], for k from `from` on
 abbrev pub rowLine : ℕ → ℕ → Line

@@ -103,8 +103,8 @@ abbrev pub Shares : ℕ → Type 0
 Shares i = Out GENERALIZED SHARES i
 
 -- outside of what an application of the operator writes: the shares and the product
-abbrev pub Moves : ℕ → ℕ → Type 0
-Moves out i = (Shares i) × (Beside out i)
+abbrev pub Operating : ℕ → ℕ → Type 0
+Operating out i = (Shares i) × (Beside out i)
 
 -- outside of what a pass of a search writes: the vectors from the solution to before the diagonal, the normal, and the shares
 abbrev pub Passing : ℕ → Type 0
@@ -150,7 +150,7 @@ abbrev pub Ready : Slice Float → Slice ℕ → Slice ℕ → Table → Type 0
 Ready s ia ib t = Rows (s .now) (ia .now) (ib .now) (t .place) (t .rows) (t .bodies)
 
 -- a vector's place: behind rows and masses, and apart from the bodies' shares
-pub record Place (s : List Float) (off : ℕ) : Type 0 where
+pub record VectorPlace (s : List Float) (off : ℕ) : Type 0 where
   pub low : RHS ≤ off
   pub apart : min (off + VECTOR - GENERALIZED) (GENERALIZED + SHARES - off) ≡ 0
   pub there : off + VECTOR ≤ length s

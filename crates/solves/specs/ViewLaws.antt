@@ -16,7 +16,7 @@ use Rattle.solves.specs.declared.places.MassResponse.{MassResponse}
 use Rattle.solves.specs.declared.Table.{Table}
 use Rattle.solves.specs.Region.{Filled}
 use Rattle.solves.specs.Solver.{noShare, rowIn, generalizedIn, massIn}
-use Rattle.solves.specs.View.{rowOn, rowsOn, generalizedAt, generalizedsAt, massAt, massesAt, systemOn, Beside, Moves, Passing, Testing}
+use Rattle.solves.specs.View.{rowOn, rowsOn, generalizedAt, generalizedsAt, massAt, massesAt, systemOn, Beside, Operating, Passing, Testing}
 use Rattle.solves.specs.View.{Refining, Work, Tables, ROWS, RHS, ROWS-MOST, BODIES-MOST, MASSES, SOLUTION, noRow, noGeneralized, noMass}
 use Rattle.solves.specs.View.{RESIDUAL, DIRECTION, PRODUCT, DIAGONAL, NORMAL, GENERALIZED, PATH-BAND, PATH-SCALE, PATH-RHS, VECTOR, SHARES, BAND, END}
 
@@ -103,10 +103,10 @@ out-within a n b m i h l x = omega arith
 pub passing-vector : (off : ℕ) → SOLUTION ≤ off → off + VECTOR ≤ DIAGONAL → (i : ℕ) → Passing i → Beside off i
 passing-vector off h l i x = out-within SOLUTION (DIAGONAL - SOLUTION) off VECTOR i h (omega arith) (x .0)
 
-pub passing-moves : (off : ℕ) → SOLUTION ≤ off → off + VECTOR ≤ DIAGONAL → (i : ℕ) → Passing i → Moves off i
+pub passing-moves : (off : ℕ) → SOLUTION ≤ off → off + VECTOR ≤ DIAGONAL → (i : ℕ) → Passing i → Operating off i
 passing-moves off h l i x = (out-within NORMAL (PATH-BAND - NORMAL) GENERALIZED SHARES i (omega arith) (omega arith) (x .1), passing-vector off h l i x)
 
-pub passing-normal : (i : ℕ) → Passing i → Moves NORMAL i
+pub passing-normal : (i : ℕ) → Passing i → Operating NORMAL i
 passing-normal i x = (
   out-within NORMAL (PATH-BAND - NORMAL) GENERALIZED SHARES i (omega arith) (omega arith) (x .1),
   out-within NORMAL (PATH-BAND - NORMAL) NORMAL VECTOR i (omega arith) (omega arith) (x .1),

@@ -39,7 +39,7 @@ ghost use Rattle.solves.specs.View.{searchAt, systemIn, rhsOn, diagonalO
 ghost use Rattle.solves.specs.View.{ROWS-MOST, RESIDUAL, DIRECTION, DIAGONAL, END};
 
 // rho, once every entry of the diagonal is above zero.
-pub(crate) enum Prepared {
+pub(crate) enum Begun {
     Rho(f64),
     NonConvergent,
 }
@@ -69,7 +69,7 @@ fn diagonal_entry(row: EqualityRow, ma: MassResponse, mb: MassResponse) -> f64
 }
 
 // The diagonal, the first direction, and rho.
-fn prepare(s: &mut [f64], ia: &[usize; 96], ib: &[usize; 96], t: Table) -> Prepared
+fn prepare(s: &mut [f64], ia: &[usize; 96], ib: &[usize; 96], t: Table) -> Begun
     requires { ⌜ Ready s ia ib t ⌝ }
     ensures { λ r. ⌜ Does Preparing (came s) (left s) (preparedAs r (left s) (t .rows)) (prepareOf (systemIn s ia ib t) (residualOn s t)) ⌝ }
 {
@@ -81,10 +81,10 @@ fn prepare(s: &mut [f64], ia: &[usize; 96], ib: &[usize; 96], t: Table) -> Prepa
         let mb = load_mass(s, MASSES, row.b);
         let d = diagonal_entry(row, ma, mb);
         if !is_finite(d) {
-            return Prepared::NonConvergent;
+            return Begun::NonConvergent;
         }
         if d <= 0.0 {
-            return Prepared::NonConvergent;
+            return Begun::NonConvergent;
         }
         let r = s[RESIDUAL + k];
         let x = r / d;
@@ -92,7 +92,7 @@ fn prepare(s: &mut [f64], ia: &[usize; 96], ib: &[usize; 96], t: Table) -> Prepa
         s[DIRECTION + k] = x;
         rho = rho + r * x;
     }
-    Prepared::Rho(rho)
+    Begun::Rho(rho)
 }
 
 // The sum of r * r / d over the residual and the diagonal.
@@ -218,7 +218,7 @@ pub(crate) fn gradients(s: &mut [f64], ia: &[usize; 96], ib: &[usize; 96], t: Ta
     requires { ⌜ Ready s ia ib t ⌝ }
     ensures { λ r. ⌜ Solves s ia ib t r (λ system. gradientsOf system (rhsOn s t) (solutionOn s t) (residualOn s t)) ⌝ }
 {
-    let Prepared::Rho(rho) = prepare(s, ia, ib, t) else {
+    let Begun::Rho(rho) = prepare(s, ia, ib, t) else {
         return Ended::new(End::NonConvergent, 0);
     };
     let Sum::Value(tolerance) = tolerance_for(s, 1.0e-12, t.rows) else {

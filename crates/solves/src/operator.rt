@@ -28,7 +28,7 @@ ghost use Rattle.solves.specs.Solver.{sumProducts, dot as dotOf, toleran
 ghost use Rattle.solves.specs.Checked.{added, allFinite, checked, checkedThen};
 ghost use Rattle.solves.specs.Solver.{scaled as scaledOf, scaleAll, rate as rateOf, rates as ratesOf, operator as operatorOf};
 ghost use Rattle.solves.specs.Solver.{through as throughOf, addThrough, crossEnd, crossMass};
-ghost use Rattle.solves.specs.View.{sharesIn, massesAt, systemIn, Ready, Place, Shares, Beside, Moves};
+ghost use Rattle.solves.specs.View.{sharesIn, massesAt, systemIn, Ready, VectorPlace, Shares, Beside, Operating};
 ghost use Rattle.solves.specs.View.{ROWS-MOST, BODIES-MOST, MASSES, RHS, END};
 
 // A share, if it is finite.
@@ -118,7 +118,7 @@ fn shares_finite(s: &[f64], body_count: usize) -> bool
 
 // Each body's share of the rows times their values.
 pub fn transpose(s: &mut [f64], ia: &[usize; 96], ib: &[usize; 96], t: Table, values: usize) -> End
-    requires { ⌜ (Ready s ia ib t) × (Place (now s) values) ⌝ }
+    requires { ⌜ (Ready s ia ib t) × (VectorPlace (now s) values) ⌝ }
     ensures { λ r. ⌜ Pushes s ia ib t r (λ rows. transposeOf rows (vecAt (came s) values (t .rows)) (t .bodies)) ⌝ }
 {
     let n = t.rows;
@@ -180,7 +180,7 @@ fn rate(row: EqualityRow, a: Generalized, b: Generalized) -> f64
 }
 
 fn rates(s: &mut [f64], ia: &[usize; 96], ib: &[usize; 96], t: Table, out: usize) -> End
-    requires { ⌜ (Ready s ia ib t) × (Place (now s) out) ⌝ }
+    requires { ⌜ (Ready s ia ib t) × (VectorPlace (now s) out) ⌝ }
     ensures { λ r. ⌜ Does (Beside out) (came s) (left s) (ranAs r (vecAt (left s) out (t .rows)))
         (ratesOf (systemIn s ia ib t .rows) (t .rows) (sharesIn (came s) (t .bodies))) ⌝ }
 {
@@ -207,8 +207,8 @@ pub(crate) fn operator(
     input: usize,
     out: usize,
 ) -> End
-    requires { ⌜ (Ready s ia ib t) × (Place (now s) input) × (Place (now s) out) ⌝ }
-    ensures { λ r. ⌜ Does (Moves out) (came s) (left s) (ranAs r (vecAt (left s) out (t .rows)))
+    requires { ⌜ (Ready s ia ib t) × (VectorPlace (now s) input) × (VectorPlace (now s) out) ⌝ }
+    ensures { λ r. ⌜ Does (Operating out) (came s) (left s) (ranAs r (vecAt (left s) out (t .rows)))
         (operatorOf (systemIn s ia ib t) (vecAt (came s) input (t .rows))) ⌝ }
 {
     let pushed = transpose(s, ia, ib, t, input);

@@ -39,7 +39,7 @@ ghost use Rattle.solves.specs.Answer.{sumAs, ranAs, edgesAs, Solves};
 ghost use Rattle.solves.specs.Lent.{came, left};
 ghost use Rattle.solves.specs.PathView.{Bodies, blocksAt, rowsOf, Noted, Parted, OnGraph, Edged, orderAt, Listed, Appended, Free};
 ghost use Rattle.solves.specs.PathView.{edgesOn, walkOn, endOn, fromOn, walksOn, walkedWith, WalksOn, Orders, Ordered, onPath, BandAs, byFactor};
-ghost use Rattle.solves.specs.PathView.{placeOf, lineAt, Stands, Lies, rowLine, columnLine, sideLine};
+ghost use Rattle.solves.specs.PathView.{placeOf, lineAt, InLine, Lies, rowLine, columnLine, sideLine};
 ghost use Rattle.solves.specs.Region.{vecAt, Does};
 ghost use Rattle.solves.specs.View.{listAt, Along, noPath, bandAt, factorAt, refinedAt, Refining, Factoring};
 ghost use Rattle.solves.specs.View.{SOLUTION, RESIDUAL, PATH-SCALE, PATH-RHS, END, Beside};
@@ -394,7 +394,7 @@ fn side_line(from: usize) -> Line
 }
 
 fn place(line: Line, k: usize) -> usize
-    requires { ⌜ Stands line k ⌝ }
+    requires { ⌜ InLine line k ⌝ }
     ensures { λ r. ⌜ r ≡ placeOf line k ⌝ }
 {
     line.first + line.on * k - line.back * k

@@ -1,7 +1,6 @@
 -- advance: along the direction as far as the curvature says; five ways to end.
 use native.Mathlib.Omega.{arith}
 use borrow.Author.Needs.{needs}
-use mathlib.Core.Path.{_∙_}
 use Prim.Native.Nat.{_-_}
 use Rattle.arith.specs.Laws.Constants.{zero-is}
 use Rattle.solves.specs.View.{DIRECTION, PRODUCT}
@@ -20,11 +19,6 @@ operator-requires c κs =
           (omega (arith, start .pre .whole)),
     )
 
-same-length : tie.Need-same-length
-same-length c =
-    let at-operator = c .before .before .before .before in
-    at-operator .operator .ensures .kept .size
-
 returns : tie.Need-returns
 returns c =
     let at-done = c .before in
@@ -35,12 +29,6 @@ returns c =
     (advance-unmoved (start .args .t) (start .pre) (start .args .rho)
     (failed _ end (at-done .done .ensures) (at-operator .operator .ensures) (c .if1 .taken)))
 
-same-length-2 : tie.Need-same-length-2
-same-length-2 c =
-    let at-slice-known2 = c .before .before .before .before .before .before in
-    let at-operator = at-slice-known2 .before .before in
-    at-operator .operator .ensures .kept .size
-
 returns-2 : tie.Need-returns-2
 returns-2 c =
     let at-if1 = c .before .before .before .before in
@@ -49,12 +37,6 @@ returns-2 c =
     advance-unmeasured (start .args .t) (start .pre) (start .args .rho)
     (went _ (at-operator .operator .result) (at-if1 .before .done .ensures) (at-operator .operator .ensures) (at-if1 .if1 .left))
     (sum-over (c .before .before .dot .ensures) (c .enum-told .given .1))
-
-same-length-3 : tie.Need-same-length-3
-same-length-3 c =
-    let at-if1 = c .before .before .before .before .before .before in
-    let at-operator = at-if1 .before .before .before .before in
-    at-operator .operator .ensures .kept .size
 
 returns-3 : tie.Need-returns-3
 returns-3 c =
@@ -66,12 +48,6 @@ returns-3 c =
     (went _ (at-operator .operator .result) (at-done .done .ensures) (at-operator .operator .ensures) (at-dot .before .before .if1 .left))
     zero-is (sum-there (at-dot .dot .ensures) (c .before .before .curvature .given .1)) (c .if2 .taken)
 
-same-length-4 : tie.Need-same-length-4
-same-length-4 c =
-    let at-dot = c .before .before .before .before .before .before in
-    let at-operator = at-dot .before .before .before .before .before .before in
-    at-operator .operator .ensures .kept .size
-
 returns-4 : tie.Need-returns-4
 returns-4 c =
     let at-curvature = c .before .before .before .before in
@@ -82,14 +58,6 @@ returns-4 c =
     (went _ (at-operator .operator .result) (at-if1 .before .done .ensures) (at-operator .operator .ensures) (at-if1 .if1 .left))
     zero-is (sum-there (at-curvature .before .before .dot .ensures) (at-curvature .curvature .given .1)) (c .before .before .if2 .left)
     (c .before .is-finite .ensures) (c .if3 .taken)
-
-same-length-5 : tie.Need-same-length-5
-same-length-5 c =
-    let at-add-scaled = c .before .before .before .before .before .before in
-    let at-curvature = at-add-scaled .before .before .before .before .before .before in
-    let at-slice-known2 = at-curvature .before .before .before .before .before .before in
-    let at-operator = at-slice-known2 .before .before in
-    c .before .before .sub-scaled .ensures .kept .size ∙ at-add-scaled .add-scaled .ensures .kept .size ∙ at-operator .operator .ensures .kept .size
 
 returns-5 : tie.Need-returns-5
 returns-5 c =
@@ -108,6 +76,6 @@ returns-5 c =
 pub advance-spec : {M : Type 1} → statement M
 advance-spec =
     tie.close (tie.spec
-    operator-requires (λ c κs. search needs) same-length returns (λ c κs. omega arith) (λ c. search needs)
-    (λ c. search needs) same-length-2 returns-2 same-length-3 returns-3 (λ c κs. search needs) same-length-4
-    returns-4 (λ c κs. omega arith) (λ c κs. omega arith) same-length-5 returns-5)
+    operator-requires (λ c κs. search needs) (λ c. omega arith) returns (λ c κs. omega arith) (λ c. search needs)
+    (λ c. search needs) (λ c. omega arith) returns-2 (λ c. omega arith) returns-3 (λ c κs. search needs) (λ c. omega arith)
+    returns-4 (λ c κs. omega arith) (λ c κs. omega arith) (λ c. omega arith) returns-5)

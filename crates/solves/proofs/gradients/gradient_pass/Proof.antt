@@ -1,7 +1,7 @@
 -- gradient_pass: over, or its two halves.
 use native.Mathlib.Omega.{arith}
 use borrow.Author.Needs.{needs}
-use mathlib.Core.Path.{_∙_, ap}
+use mathlib.Core.Path.{ap}
 use Prim.Native.Nat.{_-_}
 use Rattle.arith.specs.Run.{ran}
 use Rattle.solves.specs.DoesLaws.{went, failed, fails-over, does-eq}
@@ -22,11 +22,6 @@ advance-requires c κs =
     let start = c .before .before .before .before .before .before in
     start .pre
 
-same-length-2 : tie.Need-same-length-2
-same-length-2 c =
-    let at-advance = c .before .before .before .before in
-    at-advance .advance .ensures .kept .size
-
 returns-2 : tie.Need-returns-2
 returns-2 c =
     let at-done = c .before in
@@ -45,12 +40,6 @@ settle-requires c κs =
     let start = at-slice-known .before in
     rows-kept (start .pre) (at-advance .advance .ensures .kept .size)
 
-same-length-3 : tie.Need-same-length-3
-same-length-3 c =
-    let at-slice-known2 = c .before .before .before .before .before .before in
-    let at-advance = at-slice-known2 .before .before in
-    c .before .before .settle .ensures .kept .size ∙ at-advance .advance .ensures .kept .size
-
 returns-3 : tie.Need-returns-3
 returns-3 c =
     let at-if1 = c .before .before .before .before in
@@ -66,4 +55,4 @@ pub gradient-pass-spec : {M : Type 1} → statement M
 gradient-pass-spec =
     tie.close (tie.spec
     (λ c κs. omega arith) (λ c. search needs) (λ c. search needs) returns (λ c. search needs) advance-requires
-    (λ c κs. search needs) same-length-2 returns-2 settle-requires same-length-3 returns-3)
+    (λ c κs. search needs) (λ c. omega arith) returns-2 settle-requires (λ c. omega arith) returns-3)

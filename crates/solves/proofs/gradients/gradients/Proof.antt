@@ -15,11 +15,6 @@ use Rattle.solves.proofs.SearchLaws.{tenth-12, new-ended}
 use Rattle.solves.proofs.gradients.gradients.Statement.{statement}
 use Rattle.solves.proofs.gradients.gradients.Tie as tie
 
-same-length : tie.Need-same-length
-same-length c =
-    let at-prepare = c .before .before .before .before .before in
-    at-prepare .prepare .ensures .kept .size
-
 returns : tie.Need-returns
 returns c =
     let at-prepare = c .before .before .before .before .before in
@@ -28,12 +23,6 @@ returns c =
     (gradients-refused (start .args .t) (start .pre)
     (does-as (λ r. preparedAs r (at-prepare .prepare .last .0) (start .args .t .rows)) (c .before .enum-told .given .1)
     (at-prepare .prepare .ensures)))
-
-same-length-2 : tie.Need-same-length-2
-same-length-2 c =
-    let at-rho = c .before .before .before .before .before .before in
-    let at-prepare = at-rho .before .before .before .before in
-    at-prepare .prepare .ensures .kept .size
 
 returns-2 : tie.Need-returns-2
 returns-2 c =
@@ -53,13 +42,6 @@ search-requires c κs =
     let at-prepare = at-known-told .before .before .before .before .before in
     rows-kept (at-prepare .before .before .before .pre) (at-prepare .prepare .ensures .kept .size)
 
-same-length-3 : tie.Need-same-length-3
-same-length-3 c =
-    let at-match2-keys1 = c .before .before .before .before .before .before in
-    let at-slice-known2 = at-match2-keys1 .before .before .before .before .before .before in
-    let at-prepare = at-slice-known2 .before .before in
-    c .before .before .search .ensures .kept .size ∙ at-prepare .prepare .ensures .kept .size
-
 returns-3 : tie.Need-returns-3
 returns-3 c =
     let at-tolerance = c .before .before .before .before .before in
@@ -76,5 +58,5 @@ pub gradients-spec : {M : Type 1} → statement M
 gradients-spec =
     tie.close (tie.spec
     (λ c κs. c .before .before .pre) (λ c. search needs) (λ c. search needs) (λ c κs. search needs)
-    same-length returns (λ c κs. omega arith) (λ c. search needs) (λ c. search needs) (λ c κs. search needs)
-    same-length-2 returns-2 search-requires same-length-3 returns-3)
+    (λ c. omega arith) returns (λ c κs. omega arith) (λ c. search needs) (λ c. search needs) (λ c κs. search needs)
+    (λ c. omega arith) returns-2 search-requires (λ c. omega arith) returns-3)

@@ -40,12 +40,6 @@ load-mass-requires-2 c κs =
     omega
     (arith, on-b (at-loop .before .before .pre) (at-load-row .before .before .loop-test .taken) (at-loop .loop .s) (at-load-row .load-row .ensures))
 
-same-length : tie.Need-same-length Inv-loop μ-loop
-same-length c =
-    let at-load-mass-arg = c .before .before .before .before .before .before in
-    let at-loop = at-load-mass-arg .before .before .before .before in
-    at-loop .loop .inv .1
-
 returns : tie.Need-returns Inv-loop μ-loop
 returns c =
     let at-load-mass2 = c .before .before .before in
@@ -55,12 +49,6 @@ returns c =
     (at-load-row .load-row .ensures)
     (at-load-mass2 .before .before .load-mass .ensures) (at-load-mass2 .load-mass2 .ensures) (c .before .before .diagonal-entry .ensures)
     (c .before .is-finite .ensures) zero-is (c .if1 .taken)
-
-same-length-2 : tie.Need-same-length-2 Inv-loop μ-loop
-same-length-2 c =
-    let at-load-mass = c .before .before .before .before .before .before in
-    let at-loop = at-load-mass .before .before .before .before .before in
-    at-loop .loop .inv .1
 
 returns-2 : tie.Need-returns-2 Inv-loop μ-loop
 returns-2 c =
@@ -101,7 +89,7 @@ pub prepare-spec : {M : Type 1} → statement M
 prepare-spec =
     tie.close (tie.spec
     Inv-loop μ-loop loop-holds (λ c κs. omega arith) load-mass-requires load-mass-requires-2
-    (λ c κs. omega arith) (λ c κs. omega arith) same-length returns same-length-2 returns-2 (λ c. omega arith)
+    (λ c κs. omega arith) (λ c κs. omega arith) (λ c. omega arith) returns (λ c. omega arith) returns-2 (λ c. omega arith)
     (λ c. omega arith) (λ c. omega arith) (λ c. omega arith) (λ c. omega arith) (λ c. omega arith)
     (λ c. omega arith) (λ c. omega arith) slice-write-s-2 (λ c. omega arith) (λ c. omega arith) loop-again
     (λ c. c .before .loop .inv .1) returns-3)

@@ -1,16 +1,10 @@
 -- settle: over with the true residual, or the next direction.
 use native.Mathlib.Omega.{arith}
 use borrow.Author.Needs.{needs}
-use mathlib.Core.Path.{_∙_}
 use Prim.Native.Nat.{_-_}
 use Rattle.solves.proofs.GradientLaws.{settle-over, settle-next}
 use Rattle.solves.proofs.gradients.settle.Statement.{statement}
 use Rattle.solves.proofs.gradients.settle.Tie as tie
-
-same-length : tie.Need-same-length
-same-length c =
-    let at-true-residual = c .before .before .before .before .before in
-    at-true-residual .true-residual .ensures .kept .size
 
 returns : tie.Need-returns
 returns c =
@@ -19,12 +13,6 @@ returns c =
     let start = at-true-residual .before .before .before in
     settle-over (start .args .t) (start .pre) (start .args .tolerance) (start .args .rho) (at-true-residual .true-residual .result)
     (at-end .end .given .0 .0) (at-end .end .given .1) (at-true-residual .true-residual .ensures)
-
-same-length-2 : tie.Need-same-length-2
-same-length-2 c =
-    let at-enum-told = c .before .before .before .before .before .before in
-    let at-true-residual = at-enum-told .before .before .before .before in
-    c .before .before .next-direction .ensures .kept .size ∙ at-true-residual .true-residual .ensures .kept .size
 
 returns-2 : tie.Need-returns-2
 returns-2 c =
@@ -38,5 +26,5 @@ returns-2 c =
 pub settle-spec : {M : Type 1} → statement M
 settle-spec =
     tie.close (tie.spec
-    (λ c κs. c .before .before .pre) (λ c. search needs) same-length returns (λ c. search needs)
-    (λ c κs. omega arith) (λ c κs. omega arith) same-length-2 returns-2)
+    (λ c κs. c .before .before .pre) (λ c. search needs) (λ c. omega arith) returns (λ c. search needs)
+    (λ c κs. omega arith) (λ c κs. omega arith) (λ c. omega arith) returns-2)

@@ -38,11 +38,6 @@ operator-requires c κs =
           (omega (arith, start .pre .whole)),
     )
 
-same-length-3 : tie.Need-same-length-3
-same-length-3 c =
-    let at-operator = c .before .before .before .before in
-    at-operator .operator .ensures .kept .size
-
 returns-3 : tie.Need-returns-3
 returns-3 c =
     let at-done2 = c .before in
@@ -56,12 +51,6 @@ returns-3 c =
     (sym (ran-done true (at-near .near .given .0 .0) (sym (at-done .done .ensures) ∙ not-no _ (at-operator .before .before .if1 .left)))
     ∙ test-is (at-near .before .before .residual-test .ensures) (at-near .near .given .1))
     (failed _ end (at-done2 .done2 .ensures) (at-operator .operator .ensures) (c .if2 .taken)))
-
-same-length-4 : tie.Need-same-length-4
-same-length-4 c =
-    let at-difference = c .before .before .before .before in
-    let at-operator = at-difference .before .before .before .before .before .before in
-    at-difference .difference .ensures .kept .size ∙ at-operator .operator .ensures .kept .size
 
 returns-4 : tie.Need-returns-4
 returns-4 c =
@@ -82,4 +71,4 @@ true-residual-spec =
     tie.close (tie.spec
     (λ c κs. omega arith) (λ c. search needs) (λ c. search needs) (λ c. search needs) returns
     (λ c κs. search needs) (λ c. search needs) returns-2 operator-requires (λ c κs. search needs)
-    same-length-3 returns-3 (λ c κs. omega arith) (λ c κs. omega arith) same-length-4 returns-4)
+    (λ c. omega arith) returns-3 (λ c κs. omega arith) (λ c κs. omega arith) (λ c. omega arith) returns-4)

@@ -25,11 +25,6 @@ operator-requires c κs =
           (omega (arith, start .pre .whole)),
     )
 
-same-length : tie.Need-same-length
-same-length c =
-    let at-operator = c .before .before .before .before .before in
-    at-operator .operator .ensures .kept .size
-
 returns : tie.Need-returns
 returns c =
     let at-if1 = c .before in
@@ -41,12 +36,6 @@ returns c =
     (does-eq (ap (λ x. ran x 0 0) (fails _ end (at-done .done .ensures) (at-if1 .if1 .taken)))
     (least-unmoved (start .args .t) (start .pre) (failed _ end (at-done .done .ensures) (at-operator .operator .ensures) (at-if1 .if1 .taken))))
 
-same-length-2 : tie.Need-same-length-2
-same-length-2 c =
-    let at-done = c .before .before .before .before .before .before in
-    let at-operator = at-done .before .before .before in
-    at-operator .operator .ensures .kept .size
-
 returns-2 : tie.Need-returns-2
 returns-2 c =
     let at-dot = c .before .before .before in
@@ -57,13 +46,6 @@ returns-2 c =
     (least-unmeasured (start .args .t) (start .pre)
     (went _ (at-operator .operator .result) (at-done .done .ensures) (at-operator .operator .ensures) (at-dot .before .before .if1 .left))
     (sum-over (at-dot .dot .ensures) (c .before .enum-told .given .1)))
-
-same-length-3 : tie.Need-same-length-3
-same-length-3 c =
-    let at-norm = c .before .before .before .before .before .before in
-    let at-slice-known2 = at-norm .before .before .before .before .before .before in
-    let at-operator = at-slice-known2 .before .before in
-    at-operator .operator .ensures .kept .size
 
 returns-3 : tie.Need-returns-3
 returns-3 c =
@@ -87,14 +69,6 @@ search-requires c κs =
     let at-operator = at-if1 .before .before .before .before in
     rows-kept (at-operator .before .before .before .pre) (at-copy .copy .ensures .kept .size ∙ at-operator .operator .ensures .kept .size)
 
-same-length-4 : tie.Need-same-length-4
-same-length-4 c =
-    let at-copy = c .before .before .before .before .before .before in
-    let at-tolerance-for-arg = at-copy .before .before .before .before .before .before in
-    let at-if1 = at-tolerance-for-arg .before .before .before .before .before .before in
-    let at-operator = at-if1 .before .before .before .before in
-    c .before .before .search .ensures .kept .size ∙ at-copy .copy .ensures .kept .size ∙ at-operator .operator .ensures .kept .size
-
 returns-4 : tie.Need-returns-4
 returns-4 c =
     let at-copy = c .before .before .before .before .before .before in
@@ -113,7 +87,7 @@ returns-4 c =
 pub least-squares-spec : {M : Type 1} → statement M
 least-squares-spec =
     tie.close (tie.spec
-    operator-requires (λ c κs. search needs) (λ c κs. search needs) same-length returns (λ c κs. omega arith)
-    (λ c. search needs) (λ c. search needs) (λ c κs. search needs) same-length-2 returns-2
-    (λ c κs. omega arith) (λ c. search needs) (λ c. search needs) (λ c κs. search needs) same-length-3
-    returns-3 (λ c κs. omega arith) search-requires same-length-4 returns-4)
+    operator-requires (λ c κs. search needs) (λ c κs. search needs) (λ c. omega arith) returns (λ c κs. omega arith)
+    (λ c. search needs) (λ c. search needs) (λ c κs. search needs) (λ c. omega arith) returns-2
+    (λ c κs. omega arith) (λ c. search needs) (λ c. search needs) (λ c κs. search needs) (λ c. omega arith)
+    returns-3 (λ c κs. omega arith) search-requires (λ c. omega arith) returns-4)

@@ -12,11 +12,6 @@ transpose-requires c κs =
     let start = c .before .before in
     (start .pre .0, start .pre .1)
 
-same-length : tie.Need-same-length
-same-length c =
-    let at-transpose = c .before .before .before .before in
-    at-transpose .transpose .ensures .0 .kept .size
-
 returns : tie.Need-returns
 returns c =
     let at-done = c .before in
@@ -26,12 +21,6 @@ returns c =
     does-eq (fails _ end (at-done .done .ensures) (c .if1 .taken))
     (operator-pushes-failed (start .args .t) (start .pre .0) (start .args .input) (start .args .out)
     (failed _ end (at-done .done .ensures) (at-transpose .transpose .ensures .0) (c .if1 .taken)))
-
-same-length-2 : tie.Need-same-length-2
-same-length-2 c =
-    let at-scale-all = c .before .before .before .before in
-    let at-transpose = at-scale-all .before .before .before .before .before .before in
-    at-scale-all .scale-all .ensures .kept .size ∙ at-transpose .transpose .ensures .0 .kept .size
 
 returns-2 : tie.Need-returns-2
 returns-2 c =
@@ -57,13 +46,6 @@ rates-requires c κs =
           { low = start .pre .2 .low; apart = start .pre .2 .apart; there = omega (arith, size, start .pre .2 .there) },
     )
 
-same-length-3 : tie.Need-same-length-3
-same-length-3 c =
-    let at-slice-known3 = c .before .before .before .before .before .before in
-    let at-scale-all = at-slice-known3 .before .before in
-    let at-transpose = at-scale-all .before .before .before .before .before .before in
-    c .before .before .rates .ensures .kept .size ∙ at-scale-all .scale-all .ensures .kept .size ∙ at-transpose .transpose .ensures .0 .kept .size
-
 returns-3 : tie.Need-returns-3
 returns-3 c =
     let at-if2 = c .before .before .before .before in
@@ -79,5 +61,5 @@ returns-3 c =
 pub operator-spec : {M : Type 1} → statement M
 operator-spec =
     tie.close (tie.spec
-    transpose-requires (λ c κs. omega arith) same-length returns (λ c κs. omega arith) (λ c κs. omega arith)
-    same-length-2 returns-2 rates-requires same-length-3 returns-3)
+    transpose-requires (λ c κs. omega arith) (λ c. omega arith) returns (λ c κs. omega arith) (λ c κs. omega arith)
+    (λ c. omega arith) returns-2 rates-requires (λ c. omega arith) returns-3)

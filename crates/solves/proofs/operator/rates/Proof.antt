@@ -41,27 +41,6 @@ load-generalized-requires-2 c κs =
           (at-load-row .load-row .ensures),
     )
 
-add-s : tie.Need-add-s Inv-loop μ-loop
-add-s c =
-    let at-load-row-arg = c .before .before .before .before .before .before in
-    let in-loop = at-load-row-arg .before in
-    let start = in-loop .before .before .before in
-    omega (arith, in-loop .loop-test .taken, in-loop .before .loop .inv .1, start .pre .0 .whole, start .pre .0 .most, start .pre .1 .there)
-
-mul-s : tie.Need-mul-s Inv-loop μ-loop
-mul-s c =
-    let at-load-row-arg = c .before .before .before .before .before .before in
-    let in-loop = at-load-row-arg .before in
-    let start = in-loop .before .before .before in
-    omega (arith, in-loop .loop-test .taken, in-loop .before .loop .inv .1, start .pre .0 .whole, start .pre .0 .most, start .pre .1 .there)
-
-slice-write-s : tie.Need-slice-write-s Inv-loop μ-loop
-slice-write-s c =
-    let at-load-row-arg = c .before .before .before .before .before .before in
-    let in-loop = at-load-row-arg .before in
-    let start = in-loop .before .before .before in
-    omega (arith, in-loop .loop-test .taken, in-loop .before .loop .inv .1, start .pre .0 .whole, start .pre .0 .most, start .pre .1 .there)
-
 same-length : tie.Need-same-length Inv-loop μ-loop
 same-length c =
     let at-load-generalized-arg = c .before .before .before .before .before .before in
@@ -79,12 +58,6 @@ returns c =
     (at-load-generalized2 .before .before .load-generalized .ensures) (at-load-generalized2 .load-generalized2 .ensures)
     (c .before .before .rate .ensures) (c .before .is-finite .ensures)
     (not-yes _ (c .if1 .taken))
-
-add-k : tie.Need-add-k Inv-loop μ-loop
-add-k c =
-    let at-load-generalized-arg = c .before .before .before .before .before .before in
-    let in-loop = at-load-generalized-arg .before .before .before in
-    omega (arith, in-loop .loop-test .taken, in-loop .before .before .before .pre .0 .most)
 
 loop-again : tie.Need-loop-again Inv-loop μ-loop
 loop-again c =
@@ -111,5 +84,8 @@ pub rates-spec : {M : Type 1} → statement M
 rates-spec =
     tie.close (tie.spec
     Inv-loop μ-loop loop-holds (λ c κs. omega arith) load-generalized-requires load-generalized-requires-2
-    (λ c κs. omega arith) add-s mul-s slice-write-s (λ c κs. omega arith) same-length returns add-k
+    (λ c κs. omega arith) (λ c. let near = c .before .before .before .before .before .before in omega arith)
+    (λ c. let near = c .before .before .before .before .before .before in omega arith)
+    (λ c. let near = c .before .before .before .before .before .before in omega arith) (λ c κs. omega arith)
+    same-length returns (λ c. let near = c .before .before .before .before .before .before in omega arith)
     (λ c. omega arith) loop-again (λ c. c .before .loop .inv .1) returns-2)

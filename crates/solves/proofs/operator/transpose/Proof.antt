@@ -2,13 +2,18 @@
 use native.Mathlib.Omega.{arith}
 use mathlib.Core.Path.{_≡_, refl, sym, _∙_}
 use Prim.Native.Nat.{_≤_, _-_}
+use mathlib.Core.List.{List}
 use lib.ListN.{length}
+use denote.Ref.{now}
 use Rattle.arith.specs.Flow.{loop}
 use Rattle.arith.specs.FlowLaws.{cond-yes, cond-no}
 use Rattle.rows.specs.declared.End.the-variants as Ends
 use Rattle.solves.specs.DoesLaws.{does-numbered}
 use Rattle.solves.specs.Region.{vecAt, Does}
-use Rattle.solves.specs.View.{rowsOn, sharesIn, Shares}
+use Rattle.rows.specs.Fault.{Result}
+use Rattle.solves.specs.declared.places.Generalized.{Generalized}
+use Rattle.solves.specs.Solver.{transpose as transposeOf}
+use Rattle.solves.specs.View.{rowsOn, sharesIn, Shares, END}
 use Rattle.solves.specs.Checked.{checked}
 use Rattle.solves.proofs.OperatorLaws.{rowTurn, on-a, on-b, transpose-none, transpose-again, transpose-ends, transpose-from}
 use Rattle.solves.proofs.operator.transpose.Statement.{statement}
@@ -29,89 +34,25 @@ loop-holds c =
     let start = at-clear .before .before .before in
     (omega arith, refl, transpose-none (start .pre .0) (start .pre .1) _ (at-clear .clear .ensures))
 
-load-row-requires : tie.Need-load-row-requires Inv-loop μ-loop
-load-row-requires c κs =
-    let at-clear = c .before .before .before .before .before in
-    let start = at-clear .before .before .before in
-    omega (
-      arith,
-      at-clear .clear .ensures .kept .size,
-      c .before .before .loop .inv .1,
-      c .before .loop-test .taken,
-      start .pre .0 .whole,
-      start .pre .0 .table,
-      start .pre .0 .most,
-      start .pre .1 .there,
-    )
+abbrev begin-of : tie.At-loop Inv-loop μ-loop → tie.Start Inv-loop μ-loop
+begin-of c = c .before .before .before .before .before .before
 
-add-value : tie.Need-add-value Inv-loop μ-loop
-add-value c =
-    let at-loop = c .before .before .before in
-    let at-clear = at-loop .before .before .before in
-    let start = at-clear .before .before .before in
-    omega (
-      arith,
-      at-clear .clear .ensures .kept .size,
-      at-loop .loop .inv .1,
-      c .before .before .loop-test .taken,
-      start .pre .0 .whole,
-      start .pre .0 .table,
-      start .pre .0 .most,
-      start .pre .1 .there,
-    )
-
-mul-value : tie.Need-mul-value Inv-loop μ-loop
-mul-value c =
-    let at-loop = c .before .before .before in
-    let at-clear = at-loop .before .before .before in
-    let start = at-clear .before .before .before in
-    omega (
-      arith,
-      at-clear .clear .ensures .kept .size,
-      at-loop .loop .inv .1,
-      c .before .before .loop-test .taken,
-      start .pre .0 .whole,
-      start .pre .0 .table,
-      start .pre .0 .most,
-      start .pre .1 .there,
-    )
-
-slice-read-value : tie.Need-slice-read-value Inv-loop μ-loop
-slice-read-value c =
-    let in-loop = c .before .before .before in
-    let at-clear = in-loop .before .before .before .before in
-    let start = at-clear .before .before .before in
-    omega (
-      arith,
-      at-clear .clear .ensures .kept .size,
-      in-loop .before .loop .inv .1,
-      in-loop .loop-test .taken,
-      start .pre .0 .whole,
-      start .pre .0 .table,
-      start .pre .0 .most,
-      start .pre .1 .there,
-    )
+whole : (c : tie.At-loop Inv-loop μ-loop) → END ≤ length (c .loop .s)
+whole c =
+    let at-clear = c .before .before .before in
+    omega (arith, at-clear .clear .ensures .kept .size, c .loop .inv .1, begin-of c .pre .0 .whole)
 
 push-row-requires : tie.Need-push-row-requires Inv-loop μ-loop
 push-row-requires c κs =
     let at-load-row = c .before .before in
     let in-loop = at-load-row .before .before in
     let at-loop = in-loop .before in
-    let at-clear = at-loop .before .before .before in
-    let start = at-clear .before .before .before in (
-      omega (arith, at-clear .clear .ensures .kept .size, at-loop .loop .inv .1, start .pre .0 .whole),
-      on-a (start .pre .0) (in-loop .loop-test .taken) (at-loop .loop .s) (at-load-row .load-row .ensures),
-      on-b (start .pre .0) (in-loop .loop-test .taken) (at-loop .loop .s) (at-load-row .load-row .ensures),
-      start .pre .0 .bodies,
+    let pre = begin-of at-loop .pre .0 in (
+      whole at-loop,
+      on-a pre (in-loop .loop-test .taken) (at-loop .loop .s) (at-load-row .load-row .ensures),
+      on-b pre (in-loop .loop-test .taken) (at-loop .loop .s) (at-load-row .load-row .ensures),
+      pre .bodies,
     )
-
-add-k : tie.Need-add-k Inv-loop μ-loop
-add-k c =
-    let at-push-row = c .before .before in
-    let in-loop = at-push-row .before .before .before .before .before in
-    let at-clear = in-loop .before .before .before .before in
-    let start = at-clear .before .before .before in
-    omega (arith, in-loop .loop-test .taken, start .pre .0 .most)
 
 loop-again : tie.Need-loop-again Inv-loop μ-loop
 loop-again c =
@@ -119,57 +60,37 @@ loop-again c =
     let at-load-row = at-push-row .before .before .before in
     let in-loop = at-load-row .before .before in
     let at-loop = in-loop .before in
-    let start = at-loop .before .before .before .before .before .before in (
+    let start = begin-of at-loop in (
       omega (arith, in-loop .loop-test .taken),
       omega (arith, at-loop .loop .inv .1, at-push-row .push-row .ensures .kept .size),
       transpose-again (start .pre .0) (start .pre .1) _ (at-loop .loop .inv .2) (in-loop .loop-test .taken) (at-load-row .load-row .ensures) refl
           (at-push-row .push-row .ensures),
     )
 
-shares-finite-requires : tie.Need-shares-finite-requires Inv-loop μ-loop
-shares-finite-requires c κs =
-    let at-loop = c .before .before in
-    let at-clear = at-loop .before .before .before in
-    let start = at-clear .before .before .before in
-    (omega (arith, at-clear .clear .ensures .kept .size, at-loop .loop .inv .1, start .pre .0 .whole), start .pre .0 .bodies)
-
-same-length : tie.Need-same-length Inv-loop μ-loop
-same-length c =
-    let at-loop = c .before .before .before .before in
-    let at-clear = at-loop .before .before .before in
-    omega (arith, at-clear .clear .ensures .kept .size, at-loop .loop .inv .1)
+-- the shares when all rows are in, with what the last test found of them
+summed : {y : Result (List Generalized)} (c : tie.After-loop Inv-loop μ-loop) → let start = begin-of (c .before) in
+    let s = now (start .args .s) in let t = start .args .t in y ≡ checked (sharesIn (c .before .loop .s) (t .bodies))
+    → Does Shares s (c .before .loop .s) y (transposeOf (rowsOn (now (start .args .ia)) (now (start .args .ib)) s (t .place) (t .rows))
+    (vecAt s (start .args .values) (t .rows)) (t .bodies))
+summed c e =
+    let at-clear = c .before .before .before .before in
+    let pre = begin-of (c .before) .pre in
+    transpose-from (pre .0) (pre .1) _ (at-clear .clear .ensures)
+    (transpose-ends (pre .0) (pre .1) _ e (c .before .loop .inv .2) (omega arith) (c .loop-test .left))
 
 returns : tie.Need-returns Inv-loop μ-loop
-returns c =
-    let at-test = c .before .before .before in
-    let at-loop = at-test .before in
-    let at-clear = at-loop .before .before .before in
-    let start = at-clear .before .before .before in
-    does-numbered (sharesIn (at-loop .loop .s) (start .args .t .bodies)) Ends.Done
-    (transpose-from (start .pre .0) (start .pre .1) _ (at-clear .clear .ensures)
-    (transpose-ends (start .pre .0) (start .pre .1) _ (cond-yes _ _ (sym (c .before .shares-finite .ensures) ∙ c .if1 .taken))
-    (at-loop .loop .inv .2) (omega arith) (at-test .loop-test .left)))
-
-same-length-2 : tie.Need-same-length-2 Inv-loop μ-loop
-same-length-2 c =
-    let at-loop = c .before .before .before .before in
-    let at-clear = at-loop .before .before .before in
-    omega (arith, at-clear .clear .ensures .kept .size, at-loop .loop .inv .1)
+returns c = does-numbered _ Ends.Done (summed (c .before .before .before) (cond-yes _ _ (sym (c .before .shares-finite .ensures) ∙ c .if1 .taken)))
 
 returns-2 : tie.Need-returns-2 Inv-loop μ-loop
 returns-2 c =
-    let at-test = c .before .before .before in
-    let at-loop = at-test .before in
-    let at-clear = at-loop .before .before .before in
-    let start = at-clear .before .before .before in
-    does-numbered (sharesIn (at-loop .loop .s) (start .args .t .bodies)) Ends.ArithmeticOverflow
-    (transpose-from (start .pre .0) (start .pre .1) _ (at-clear .clear .ensures)
-    (transpose-ends (start .pre .0) (start .pre .1) _ (cond-no _ _ (sym (c .before .shares-finite .ensures) ∙ c .if1 .left))
-    (at-loop .loop .inv .2) (omega arith) (at-test .loop-test .left)))
+    let at-loop = c .before .before .before .before in
+    does-numbered (sharesIn (at-loop .loop .s) (begin-of at-loop .args .t .bodies)) Ends.ArithmeticOverflow
+    (summed (c .before .before .before) (cond-no _ _ (sym (c .before .shares-finite .ensures) ∙ c .if1 .left)))
 
 pub transpose-spec : {M : Type 1} → statement M
 transpose-spec =
     tie.close (tie.spec
-    Inv-loop μ-loop (λ c. omega arith) (λ c κs. omega arith) loop-holds load-row-requires add-value mul-value
-    slice-read-value push-row-requires add-k (λ c. omega arith) loop-again shares-finite-requires same-length
-    returns same-length-2 returns-2)
+    Inv-loop μ-loop (λ c. omega arith) (λ c κs. omega arith) loop-holds (λ c κs. omega arith) (λ c. omega arith)
+    (λ c. omega arith) (λ c. omega arith) push-row-requires (λ c. omega arith) (λ c. omega arith) loop-again
+    (λ c κs. (whole (c .before .before), begin-of (c .before .before) .pre .0 .bodies)) (λ c. omega arith)
+    returns (λ c. omega arith) returns-2)

@@ -1,8 +1,8 @@
 -- `backward` meets its contract: row by row, from the last to the first, by SweepLaws `backwards-more`.
 use native.Mathlib.Omega.{arith}
 use mathlib.Core.Path.{_≡_, refl}
-use Prim.Native.Nat.{_≤_, _-_}
-use lib.ListN.{length, length-set}
+use Prim.Native.Nat.{_≤_, _<_, _-_}
+use lib.ListN.{length, getD, length-set}
 use denote.Ref.{now}
 use Rattle.arith.specs.Flow.{turns}
 use Rattle.solves.specs.Path.{backwardTurn}
@@ -27,50 +27,13 @@ loop-holds c =
     let pre = start .pre in
     (omega arith, refl, backwards-none (args .n) (pre .1) (now (args .order)) (pre .2) _)
 
-add-at : tie.Need-add-at Inv-loop μ-loop
-add-at c =
-    let at-loop-test = c .before .before .before .before in
-    let at-loop = at-loop-test .before in
-    let start = at-loop .before .before in
-    omega (arith, start .pre .2 (start .args .n - 1 - at-loop .loop .k) (omega (arith, at-loop-test .loop-test .taken)))
+abbrev start-of : tie.In-loop Inv-loop μ-loop → tie.Start Inv-loop μ-loop
+start-of c = c .before .before .before
 
-mul-s-2 : tie.Need-mul-s-2 Inv-loop μ-loop
-mul-s-2 c =
-    let at-loop-test = c .before .before .before .before in
-    let at-loop = at-loop-test .before in
-    let start = at-loop .before .before in
-    omega (arith, start .pre .2 (start .args .n - 1 - at-loop .loop .k) (omega (arith, at-loop-test .loop-test .taken)))
-
-slice-read-s : tie.Need-slice-read-s Inv-loop μ-loop
-slice-read-s c =
-    let at-loop-test = c .before .before .before .before .before in
-    let at-loop = at-loop-test .before in
-    let start = at-loop .before .before in
-    simp length-set
-    (omega (arith, start .pre .2 (start .args .n - 1 - at-loop .loop .k) (omega (arith, at-loop-test .loop-test .taken))))
-
-slice-read-s-2 : tie.Need-slice-read-s-2 Inv-loop μ-loop
-slice-read-s-2 c =
-    let at-loop-test = c .before .before .before .before .before .before in
-    let at-loop = at-loop-test .before in
-    let start = at-loop .before .before in
-    simp length-set
-    (omega (arith, start .pre .2 (start .args .n - 1 - at-loop .loop .k) (omega (arith, at-loop-test .loop-test .taken))))
-
-mul-s-4 : tie.Need-mul-s-4 Inv-loop μ-loop
-mul-s-4 c =
-    let at-loop-test = c .before .before .before .before .before .before in
-    let at-loop = at-loop-test .before in
-    let start = at-loop .before .before in
-    omega (arith, start .pre .2 (start .args .n - 1 - at-loop .loop .k) (omega (arith, at-loop-test .loop-test .taken)))
-
-slice-write-s-2 : tie.Need-slice-write-s-2 Inv-loop μ-loop
-slice-write-s-2 c =
-    let at-loop-test = c .before .before .before .before .before .before in
-    let at-loop = at-loop-test .before in
-    let start = at-loop .before .before in
-    simp length-set
-    (omega (arith, start .pre .2 (start .args .n - 1 - at-loop .loop .k) (omega (arith, at-loop-test .loop-test .taken))))
+-- the row whose solution is written
+row-there : (c : tie.In-loop Inv-loop μ-loop)
+    → getD (now (start-of c .args .order)) (start-of c .args .n - 1 - c .before .loop .k) 0 < start-of c .args .n
+row-there c = start-of c .pre .2 (start-of c .args .n - 1 - c .before .loop .k) (omega (arith, c .loop-test .taken))
 
 loop-again : tie.Need-loop-again Inv-loop μ-loop
 loop-again c =
@@ -100,6 +63,11 @@ backward-spec =
     Inv-loop μ-loop loop-holds (λ c. omega arith) (λ c. omega arith) (λ c. omega arith) (λ c. omega arith)
     (λ c. omega arith) (λ c κs. omega arith) (λ c. omega arith) (λ c. omega arith) (λ c. omega arith)
     (λ c. omega arith) (λ c. omega arith) (λ c. omega arith) (λ c. omega arith) (λ c. omega arith)
-    (λ c. omega arith) add-at mul-s-2 slice-read-s (λ c. omega arith) (λ c. omega arith) slice-read-s-2
-    mul-s-4 slice-write-s-2 (λ c. omega arith) (λ c. omega arith) loop-again (λ c. c .before .loop .inv .1)
-    returns)
+    (λ c. omega arith) (λ c. omega (arith, row-there (c .before .before .before .before)))
+    (λ c. omega (arith, row-there (c .before .before .before .before)))
+    (λ c. simp length-set (omega (arith, row-there (c .before .before .before .before .before))))
+    (λ c. omega arith) (λ c. omega arith)
+    (λ c. simp length-set (omega (arith, row-there (c .before .before .before .before .before .before))))
+    (λ c. omega (arith, row-there (c .before .before .before .before .before .before)))
+    (λ c. simp length-set (omega (arith, row-there (c .before .before .before .before .before .before))))
+    (λ c. omega arith) (λ c. omega arith) loop-again (λ c. c .before .loop .inv .1) returns)

@@ -1,8 +1,8 @@
 -- `forward` meets its contract: row by row by SweepLaws `forwards-more`.
 use native.Mathlib.Omega.{arith}
 use mathlib.Core.Path.{_≡_, refl}
-use Prim.Native.Nat.{_≤_, _-_}
-use lib.ListN.{length, length-set}
+use Prim.Native.Nat.{_≤_, _<_, _-_}
+use lib.ListN.{length, getD, length-set}
 use denote.Ref.{now}
 use mathlib.Core.List.{[]}
 use Rattle.arith.specs.Flow.{turns}
@@ -28,23 +28,9 @@ loop-holds c =
     let pre = start .pre in
     (omega arith, refl, forwards-none (args .n) (pre .1) (now (args .order)) (pre .2) _)
 
-add-start : tie.Need-add-start Inv-loop μ-loop
-add-start c =
-    let at-loop-test = c .before in
-    let at-loop = at-loop-test .before in
-    omega (arith, at-loop .before .before .pre .2 (at-loop .loop .i) (at-loop-test .loop-test .taken))
-
-mul-start-2 : tie.Need-mul-start-2 Inv-loop μ-loop
-mul-start-2 c =
-    let at-loop-test = c .before in
-    let at-loop = at-loop-test .before in
-    omega (arith, at-loop .before .before .pre .2 (at-loop .loop .i) (at-loop-test .loop-test .taken))
-
-slice-read-start : tie.Need-slice-read-start Inv-loop μ-loop
-slice-read-start c =
-    let at-loop-test = c .before .before in
-    let at-loop = at-loop-test .before in
-    omega (arith, at-loop .before .before .pre .2 (at-loop .loop .i) (at-loop-test .loop-test .taken))
+-- the row that is read of the residual
+row-there : (c : tie.In-loop Inv-loop μ-loop) → getD (now (c .before .before .before .args .order)) (c .before .loop .i) 0 < c .before .before .before .args .n
+row-there c = c .before .before .before .pre .2 (c .before .loop .i) (c .loop-test .taken)
 
 loop-again : tie.Need-loop-again Inv-loop μ-loop
 loop-again c =
@@ -71,7 +57,8 @@ returns c =
 pub forward-spec : {M : Type 1} → statement M
 forward-spec =
     tie.close (tie.spec
-    Inv-loop μ-loop loop-holds (λ c. omega arith) (λ c. omega arith) add-start mul-start-2 slice-read-start
+    Inv-loop μ-loop loop-holds (λ c. omega arith) (λ c. omega arith) (λ c. omega (arith, row-there (c .before)))
+    (λ c. omega (arith, row-there (c .before))) (λ c. omega (arith, row-there (c .before .before)))
     (λ c. omega arith) (λ c. omega arith) (λ c. omega arith) (λ c κs. omega arith) (λ c. omega arith)
     (λ c. omega arith) (λ c. omega arith) (λ c. omega arith) (λ c. omega arith) (λ c. omega arith)
     (λ c. omega arith) (λ c. omega arith) (λ c. omega arith) loop-again (λ c. c .before .loop .inv .1) returns)

@@ -2,6 +2,8 @@
 use native.Mathlib.Omega.{arith}
 use borrow.Author.Needs.{needs}
 use mathlib.Core.Path.{refl}
+use Prim.Native.Nat.{_<_}
+use lib.ListN.{getD}
 use denote.Ref.{now}
 use Rattle.solves.proofs.BlockLaws.{row-there, a-body, b-body}
 use Rattle.solves.proofs.WalkLaws.{end-visited, end-a, end-b}
@@ -15,20 +17,21 @@ returns c =
     let pre = start .pre in
     end-visited (pre .0) (now (args .visited)) (args .block) (c .if1 .taken)
 
-mul-neighbor : tie.Need-mul-neighbor
-mul-neighbor c =
-    let pre = c .before .before .before .pre in
-    omega (arith, row-there (pre .0 .blocked) (pre .1))
-
-element-copy-out-neighbor : tie.Need-element-copy-out-neighbor
-element-copy-out-neighbor c =
-    let pre = c .before .before .before .pre in
-    omega (arith, row-there (pre .0 .blocked) (pre .1))
+-- the block's first row, and its bodies
+row-of : (c : tie.Start) → getD (now (c .args .starts)) (c .args .block) 0 < 96
+row-of c =
+    let pre = c .pre .0 .blocked in
+    omega (arith, row-there pre (c .pre .1))
 
 neighbor-requires : tie.Need-neighbor-requires
 neighbor-requires c κs =
     let pre = c .before .before .before .before .pre in
     a-body (pre .0 .blocked) (pre .1)
+
+neighbor-requires-2 : tie.Need-neighbor-requires-2
+neighbor-requires-2 c κs =
+    let at-if2 = c .before .before .before .before .before .before in
+    b-body (at-if2 .before .pre .0 .blocked) (at-if2 .before .pre .1)
 
 returns-2 : tie.Need-returns-2
 returns-2 c =
@@ -38,24 +41,6 @@ returns-2 c =
     let args = start .args in
     let pre = start .pre in
     end-a (pre .0) (now (args .visited)) (args .block) (pre .1) (at-if1 .if1 .left) (at-neighbor .neighbor .ensures) (c .if2 .taken)
-
-mul-neighbor-2 : tie.Need-mul-neighbor-2
-mul-neighbor-2 c =
-    let start = c .before .before .before .before .before .before in
-    let pre = start .pre in
-    omega (arith, row-there (pre .0 .blocked) (pre .1))
-
-element-copy-out-neighbor-2 : tie.Need-element-copy-out-neighbor-2
-element-copy-out-neighbor-2 c =
-    let start = c .before .before .before .before .before .before in
-    let pre = start .pre in
-    omega (arith, row-there (pre .0 .blocked) (pre .1))
-
-neighbor-requires-2 : tie.Need-neighbor-requires-2
-neighbor-requires-2 c κs =
-    let at-if12 = c .before .before .before .before .before .before in
-    let pre = at-if12 .before .pre in
-    b-body (pre .0 .blocked) (pre .1)
 
 returns-3 : tie.Need-returns-3
 returns-3 c =
@@ -71,5 +56,9 @@ returns-3 c =
 pub is-end-spec : {M : Type 1} → statement M
 is-end-spec =
     tie.close (tie.spec
-    (λ c. search needs) returns (λ c. search needs) (λ c. search needs) mul-neighbor element-copy-out-neighbor
-    neighbor-requires returns-2 mul-neighbor-2 element-copy-out-neighbor-2 neighbor-requires-2 returns-3)
+    (λ c. search needs) returns (λ c. search needs) (λ c. search needs)
+    (λ c. omega (arith, row-of (c .before .before .before)))
+    (λ c. omega (arith, row-of (c .before .before .before))) neighbor-requires returns-2
+    (λ c. omega (arith, row-of (c .before .before .before .before .before .before)))
+    (λ c. omega (arith, row-of (c .before .before .before .before .before .before))) neighbor-requires-2
+    returns-3)

@@ -5,7 +5,7 @@ use Prim.Native.Nat.{_≤_, _-_}
 use denote.Ref.{now}
 use Rattle.arith.specs.FlowLaws.{turns-none, turns-end}
 use Rattle.solves.specs.Path.{lessProducts}
-use Rattle.solves.specs.PathView.{lineAt}
+use Rattle.solves.specs.PathView.{lineAt, InLine}
 use Rattle.solves.proofs.SweepLaws.{products-more}
 use Rattle.solves.proofs.path.less_products.Statement.{statement}
 use Rattle.solves.proofs.path.less_products.Tie as tie
@@ -16,40 +16,12 @@ Inv-loop s start a b terms value₀ k₀ value k = (k ≤ terms) × (value ≡ l
 abbrev μ-loop : tie.MeasureT-loop
 μ-loop s start a b terms value₀ k₀ value k = terms - k
 
-place-requires : tie.Need-place-requires Inv-loop μ-loop
-place-requires c κs =
-    let at-loop = c .before in
-    at-loop .before .before .pre .1 (at-loop .loop .k) (c .loop-test .taken)
-
-mul-value : tie.Need-mul-value Inv-loop μ-loop
-mul-value c =
-    let at-loop-test = c .before in
-    let at-loop = at-loop-test .before in
-    omega (arith, at-loop .before .before .pre .1 (at-loop .loop .k) (at-loop-test .loop-test .taken))
-
-shared-slice-read-value : tie.Need-shared-slice-read-value Inv-loop μ-loop
-shared-slice-read-value c =
-    let at-loop-test = c .before .before in
-    let at-loop = at-loop-test .before in
-    omega (arith, at-loop .before .before .pre .1 (at-loop .loop .k) (at-loop-test .loop-test .taken))
-
-place-requires-2 : tie.Need-place-requires-2 Inv-loop μ-loop
-place-requires-2 c κs =
-    let at-loop-test = c .before .before in
-    let at-loop = at-loop-test .before in
-    at-loop .before .before .pre .2 (at-loop .loop .k) (at-loop-test .loop-test .taken)
-
-mul-value-2 : tie.Need-mul-value-2 Inv-loop μ-loop
-mul-value-2 c =
-    let at-loop-test = c .before .before .before in
-    let at-loop = at-loop-test .before in
-    omega (arith, at-loop .before .before .pre .2 (at-loop .loop .k) (at-loop-test .loop-test .taken))
-
-shared-slice-read-value-2 : tie.Need-shared-slice-read-value-2 Inv-loop μ-loop
-shared-slice-read-value-2 c =
-    let at-loop-test = c .before .before .before .before in
-    let at-loop = at-loop-test .before in
-    omega (arith, at-loop .before .before .pre .2 (at-loop .loop .k) (at-loop-test .loop-test .taken))
+-- number k of both lines is there
+both : (c : tie.In-loop Inv-loop μ-loop) → let args = c .before .before .before .args in
+    (InLine (args .a) (c .before .loop .k)) × (InLine (args .b) (c .before .loop .k))
+both c =
+    let pre = c .before .before .before .pre in
+    (pre .1 (c .before .loop .k) (c .loop-test .taken), pre .2 (c .before .loop .k) (c .loop-test .taken))
 
 loop-again : tie.Need-loop-again Inv-loop μ-loop
 loop-again c =
@@ -70,6 +42,8 @@ returns c =
 pub less-products-spec : {M : Type 1} → statement M
 less-products-spec =
     tie.close (tie.spec
-    Inv-loop μ-loop (λ c. (omega arith, turns-none _ _)) place-requires mul-value shared-slice-read-value
-    place-requires-2 mul-value-2 shared-slice-read-value-2 (λ c. omega arith) (λ c. omega arith) loop-again
-    returns)
+    Inv-loop μ-loop (λ c. (omega arith, turns-none _ _)) (λ c κs. both c .0)
+    (λ c. omega (arith, both (c .before))) (λ c. omega (arith, both (c .before .before)))
+    (λ c κs. both (c .before .before) .1) (λ c. omega (arith, both (c .before .before .before)))
+    (λ c. omega (arith, both (c .before .before .before .before))) (λ c. omega arith) (λ c. omega arith)
+    loop-again returns)

@@ -16,11 +16,6 @@ use Rattle.solves.proofs.SolveLaws.{along-refused, along-intolerant, al
 use Rattle.solves.proofs.path.path_along.Statement.{statement}
 use Rattle.solves.proofs.path.path_along.Tie as tie
 
-same-length : tie.Need-same-length
-same-length c =
-    let at-path-factored = c .before .before .before .before .before in
-    at-path-factored .path-factored .ensures .kept .size
-
 returns : tie.Need-returns
 returns c =
     let at-if1 = c .before in
@@ -32,12 +27,6 @@ returns c =
     (does-eq (ap (λ x. ran x 0 0) (fails _ end (at-done .done .ensures) (at-if1 .if1 .taken)))
     (along-refused (start .args .t) (start .pre .0) (now (start .args .order))
     (failed _ end (at-done .done .ensures) (at-path-factored .path-factored .ensures) (at-if1 .if1 .taken))))
-
-same-length-2 : tie.Need-same-length-2
-same-length-2 c =
-    let at-done = c .before .before .before .before .before .before in
-    let at-path-factored = at-done .before .before .before in
-    at-path-factored .path-factored .ensures .kept .size
 
 returns-2 : tie.Need-returns-2
 returns-2 c =
@@ -60,13 +49,6 @@ refinements-requires c κs =
     let start = at-path-factored .before .before .before in
     (rows-kept (start .pre .0) (at-copy .copy .ensures .kept .size ∙ at-path-factored .path-factored .ensures .kept .size), start .pre .1)
 
-same-length-3 : tie.Need-same-length-3
-same-length-3 c =
-    let at-copy = c .before .before .before .before .before .before in
-    let at-tolerance-for-arg = at-copy .before .before .before .before .before .before in
-    let at-path-factored = at-tolerance-for-arg .before .before .before .before .before in
-    c .before .before .refinements .ensures .kept .size ∙ at-copy .copy .ensures .kept .size ∙ at-path-factored .path-factored .ensures .kept .size
-
 returns-3 : tie.Need-returns-3
 returns-3 c =
     let at-copy = c .before .before .before .before .before .before in
@@ -83,6 +65,6 @@ returns-3 c =
 pub path-along-spec : {M : Type 1} → statement M
 path-along-spec =
     tie.close (tie.spec
-    (λ c κs. c .before .before .pre) (λ c κs. search needs) (λ c κs. search needs) same-length returns
-    (λ c κs. omega arith) (λ c. search needs) (λ c. search needs) (λ c κs. search needs) same-length-2
-    returns-2 (λ c κs. omega arith) refinements-requires same-length-3 returns-3)
+    (λ c κs. c .before .before .pre) (λ c κs. search needs) (λ c κs. search needs) (λ c. omega arith) returns
+    (λ c κs. omega arith) (λ c. search needs) (λ c. search needs) (λ c κs. search needs) (λ c. omega arith)
+    returns-2 (λ c κs. omega arith) refinements-requires (λ c. omega arith) returns-3)

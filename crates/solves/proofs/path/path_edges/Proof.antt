@@ -1,6 +1,8 @@
 -- `path_edges` meets its contract: turn by turn by BlockLaws `edges-more`, where a body is full by `edges-lost-a` and `edges-lost-b`.
 use native.Mathlib.Omega.{arith}
-use Prim.Native.Nat.{_≤_, _-_}
+use Prim.Native.Nat.{_≤_, _<_, _-_}
+use lib.ListN.{getD}
+use denote.Ref.{now}
 use Rattle.arith.specs.FlowLaws.{loop-end, not-yes, not-no}
 use Rattle.solves.specs.PathView.{blocksAt}
 use Rattle.solves.proofs.BlockLaws.{row-there, a-body, b-body, EdgesSo, edges-none, edges-yes, edges-no, edges-lost-a, edges-lost-b, edges-more}
@@ -14,15 +16,11 @@ Inv-loop ia ib starts blocks edges₀ k₀ edges k = (k ≤ blocks) × (EdgesSo 
 abbrev μ-loop : tie.MeasureT-loop
 μ-loop ia ib starts blocks edges₀ k₀ edges k = blocks - k
 
-mul-add-edge : tie.Need-mul-add-edge Inv-loop μ-loop
-mul-add-edge c =
-    let at-loop-test = c .before .before in
-    omega (arith, row-there (at-loop-test .before .before .pre .blocked) (at-loop-test .loop-test .taken))
-
-element-copy-out-add-edge : tie.Need-element-copy-out-add-edge Inv-loop μ-loop
-element-copy-out-add-edge c =
-    let at-loop-test = c .before .before in
-    omega (arith, row-there (at-loop-test .before .before .pre .blocked) (at-loop-test .loop-test .taken))
+-- the block's first row
+row-of : (c : tie.In-loop Inv-loop μ-loop) → getD (now (c .before .before .args .starts)) (c .before .loop .k) 0 < 96
+row-of c =
+    let pre = c .before .before .pre .blocked in
+    omega (arith, row-there pre (c .loop-test .taken))
 
 add-edge-requires : tie.Need-add-edge-requires Inv-loop μ-loop
 add-edge-requires c κs =
@@ -39,16 +37,6 @@ returns c =
           (edges-no (at-add-edge .add-edge .result) (at-add-edge .add-edge .last .0) (at-add-edge .add-edge .ensures) (not-yes _ (c .if1 .taken)));
       links = λ e. absurd (false-true e);
     }
-
-mul-add-edge-2 : tie.Need-mul-add-edge-2 Inv-loop μ-loop
-mul-add-edge-2 c =
-    let at-loop-test = c .before .before .before .before .before .before in
-    omega (arith, row-there (at-loop-test .before .before .pre .blocked) (at-loop-test .loop-test .taken))
-
-element-copy-out-add-edge-2 : tie.Need-element-copy-out-add-edge-2 Inv-loop μ-loop
-element-copy-out-add-edge-2 c =
-    let at-loop-test = c .before .before .before .before .before .before in
-    omega (arith, row-there (at-loop-test .before .before .pre .blocked) (at-loop-test .loop-test .taken))
 
 add-edge-requires-2 : tie.Need-add-edge-requires-2 Inv-loop μ-loop
 add-edge-requires-2 c κs =
@@ -93,6 +81,7 @@ pub path-edges-spec : {M : Type 1} → statement M
 path-edges-spec =
     tie.close (tie.spec
     Inv-loop μ-loop (λ c. (omega arith, edges-none (c .pre .linking))) (λ c. omega arith) (λ c. omega arith)
-    mul-add-edge element-copy-out-add-edge add-edge-requires returns mul-add-edge-2
-    element-copy-out-add-edge-2 add-edge-requires-2 returns-2 (λ c. omega arith) (λ c. omega arith) loop-again
-    returns-3)
+    (λ c. omega (arith, row-of (c .before .before))) (λ c. omega (arith, row-of (c .before .before)))
+    add-edge-requires returns (λ c. omega (arith, row-of (c .before .before .before .before .before .before)))
+    (λ c. omega (arith, row-of (c .before .before .before .before .before .before))) add-edge-requires-2
+    returns-2 (λ c. omega arith) (λ c. omega arith) loop-again returns-3)

@@ -15,13 +15,21 @@ cross-at-requires c κs =
     let pre = c .before .before .pre in
     (pre .0, pre .1, pre .2, omega arith)
 
+-- ---- places, seen from where the entry was reduced
+abbrev entry-of : tie.After-reduced → tie.After-entry
+entry-of c = c .before .before .before
+
+abbrev cross-of : tie.After-reduced → tie.After-cross-at
+cross-of c = entry-of c .before .before
+
+abbrev start-of : tie.After-reduced → tie.Start
+start-of c = cross-of c .before .before .before
+
 returns : tie.Need-returns
 returns c =
     let at-cross-at = c .before .before in
     let start = at-cross-at .before .before .before in
-    let pre = start .pre in
-    entry-lost (pre .0) (now (start .args .order)) (pre .1) (pre .2) (pre .3) (pre .4)
-    (sum-over (at-cross-at .cross-at .ensures) (c .enum-told .given .1))
+    entry-lost (now (start .args .order)) (start .pre) (sum-over (at-cross-at .cross-at .ensures) (c .enum-told .given .1))
 
 reduced-requires : tie.Need-reduced-requires
 reduced-requires c κs =
@@ -34,53 +42,36 @@ returns-2 c =
     let at-is-finite = c .before in
     let at-if1 = at-is-finite .before in
     let at-reduced = at-if1 .before in
-    let at-entry = at-reduced .before .before .before in
-    let at-cross-at = at-entry .before .before in
-    let start = at-cross-at .before .before .before in
-    let pre = start .pre in
-    entry-wild (pre .0) (now (start .args .order)) (pre .1) (pre .2) (pre .3) (pre .4)
-    (sum-there (at-cross-at .cross-at .ensures) (at-entry .entry .given .1)) (at-reduced .reduced .ensures) (at-if1 .if1 .taken)
-    (at-is-finite .is-finite .ensures) zero-is (c .if2 .taken)
+    let start = start-of at-reduced in
+    entry-wild (now (start .args .order)) (start .pre) (sum-there (cross-of at-reduced .cross-at .ensures) (entry-of at-reduced .entry .given .1))
+    (at-reduced .reduced .ensures) (at-if1 .if1 .taken) (at-is-finite .is-finite .ensures) zero-is (c .if2 .taken)
 
 returns-3 : tie.Need-returns-3
 returns-3 c =
-    let at-if2 = c .before in
-    let at-is-finite = at-if2 .before in
+    let at-is-finite = c .before .before in
     let at-if1 = at-is-finite .before in
     let at-reduced = at-if1 .before in
-    let at-entry = at-reduced .before .before .before in
-    let at-cross-at = at-entry .before .before in
-    let start = at-cross-at .before .before .before in
-    let pre = start .pre in
-    entry-low (pre .0) (now (start .args .order)) (pre .1) (pre .2) (pre .3) (pre .4)
-    (sum-there (at-cross-at .cross-at .ensures) (at-entry .entry .given .1)) (at-reduced .reduced .ensures) (at-if1 .if1 .taken)
-    (at-is-finite .is-finite .ensures) zero-is (at-if2 .if2 .left) (c .if3 .taken)
+    let start = start-of at-reduced in
+    entry-low (now (start .args .order)) (start .pre) (sum-there (cross-of at-reduced .cross-at .ensures) (entry-of at-reduced .entry .given .1))
+    (at-reduced .reduced .ensures) (at-if1 .if1 .taken) (at-is-finite .is-finite .ensures) zero-is (c .before .if2 .left) (c .if3 .taken)
 
 returns-4 : tie.Need-returns-4
 returns-4 c =
-    let at-if3 = c .before in
-    let at-if2 = at-if3 .before in
+    let at-if2 = c .before .before in
     let at-is-finite = at-if2 .before in
     let at-if1 = at-is-finite .before in
     let at-reduced = at-if1 .before in
-    let at-entry = at-reduced .before .before .before in
-    let at-cross-at = at-entry .before .before in
-    let start = at-cross-at .before .before .before in
-    let pre = start .pre in
-    entry-pivot (pre .0) (now (start .args .order)) (pre .1) (pre .2) (pre .3) (pre .4)
-    (sum-there (at-cross-at .cross-at .ensures) (at-entry .entry .given .1)) (at-reduced .reduced .ensures) (at-if1 .if1 .taken)
-    (at-is-finite .is-finite .ensures) zero-is (at-if2 .if2 .left) (at-if3 .if3 .left) (c .sqrt .ensures .is)
+    let start = start-of at-reduced in
+    entry-pivot (now (start .args .order)) (start .pre) (sum-there (cross-of at-reduced .cross-at .ensures) (entry-of at-reduced .entry .given .1))
+    (at-reduced .reduced .ensures) (at-if1 .if1 .taken) (at-is-finite .is-finite .ensures) zero-is (at-if2 .if2 .left) (c .before .if3 .left)
+    (c .sqrt .ensures .is)
 
 returns-5 : tie.Need-returns-5
 returns-5 c =
-    let at-if1 = c .before in
-    let at-reduced = at-if1 .before in
-    let at-entry = at-reduced .before .before .before in
-    let at-cross-at = at-entry .before .before in
-    let start = at-cross-at .before .before .before in
-    let pre = start .pre in
-    entry-side (pre .0) (now (start .args .order)) (pre .1) (pre .2) (pre .3) (pre .4)
-    (sum-there (at-cross-at .cross-at .ensures) (at-entry .entry .given .1)) (at-reduced .reduced .ensures) (at-if1 .if1 .left)
+    let at-reduced = c .before .before in
+    let start = start-of at-reduced in
+    entry-side (now (start .args .order)) (start .pre) (sum-there (cross-of at-reduced .cross-at .ensures) (entry-of at-reduced .entry .given .1))
+    (at-reduced .reduced .ensures) (c .before .if1 .left)
 
 pub path-entry-spec : {M : Type 1} → statement M
 path-entry-spec =

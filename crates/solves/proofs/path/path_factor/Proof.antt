@@ -30,13 +30,6 @@ path-row-requires c κs =
     let pre = at-clear .before .before .before .before .pre in
     (rows-kept (pre .0) (at-loop .loop .inv .1 .kept .size ∙ at-clear .clear .ensures .kept .size), pre .1, c .before .loop-test .taken)
 
-same-length : tie.Need-same-length Inv-loop μ-loop
-same-length c =
-    let at-path-row = c .before .before .before .before in
-    let at-loop = at-path-row .before .before .before in
-    let at-clear = at-loop .before .before .before in
-    at-path-row .path-row .ensures .kept .size ∙ at-loop .loop .inv .1 .kept .size ∙ at-clear .clear .ensures .kept .size
-
 returns : tie.Need-returns Inv-loop μ-loop
 returns c =
     let at-done = c .before in
@@ -62,12 +55,6 @@ loop-again c =
           (went _ (at-path-row .path-row .result) (at-done .done .ensures) (at-path-row .path-row .ensures) (c .if1 .left)),
     )
 
-same-length-2 : tie.Need-same-length-2 Inv-loop μ-loop
-same-length-2 c =
-    let at-loop = c .before in
-    let at-clear = at-loop .before .before .before in
-    at-loop .loop .inv .1 .kept .size ∙ at-clear .clear .ensures .kept .size
-
 returns-2 : tie.Need-returns-2 Inv-loop μ-loop
 returns-2 c =
     let at-loop = c .before in
@@ -80,5 +67,5 @@ pub path-factor-spec : {M : Type 1} → statement M
 path-factor-spec =
     tie.close (tie.spec
     Inv-loop μ-loop (λ c. omega arith) (λ c κs. omega arith) loop-holds path-row-requires
-    (λ c κs. search needs) same-length returns (λ c. omega arith) (λ c. omega arith) loop-again same-length-2
+    (λ c κs. search needs) (λ c. omega arith) returns (λ c. omega arith) (λ c. omega arith) loop-again (λ c. omega arith)
     returns-2)

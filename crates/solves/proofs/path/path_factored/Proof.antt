@@ -1,17 +1,12 @@
 -- `path_factored` meets its contract: by FactorLaws from what scales and factor gave.
+use native.Mathlib.Omega.{arith}
 use borrow.Author.Needs.{needs}
-use mathlib.Core.Path.{_∙_}
 use denote.Ref.{now}
 use Rattle.solves.specs.DoesLaws.{went, failed, fails, does-eq}
 use Rattle.solves.proofs.OperatorLaws.{rows-kept}
 use Rattle.solves.proofs.FactorLaws.{factored-unscaled, factored-on}
 use Rattle.solves.proofs.path.path_factored.Statement.{statement}
 use Rattle.solves.proofs.path.path_factored.Tie as tie
-
-same-length : tie.Need-same-length
-same-length c =
-    let at-path-scale = c .before .before .before .before in
-    at-path-scale .path-scale .ensures .kept .size
 
 returns : tie.Need-returns
 returns c =
@@ -29,12 +24,6 @@ path-factor-requires c κs =
     let pre = at-path-scale .before .before .before .pre in
     (rows-kept (pre .0) (at-path-scale .path-scale .ensures .kept .size), pre .1)
 
-same-length-2 : tie.Need-same-length-2
-same-length-2 c =
-    let at-path-factor = c .before .before in
-    let at-path-scale = at-path-factor .before .before .before .before .before .before in
-    at-path-factor .path-factor .ensures .kept .size ∙ at-path-scale .path-scale .ensures .kept .size
-
 returns-2 : tie.Need-returns-2
 returns-2 c =
     let at-path-factor = c .before .before in
@@ -48,5 +37,5 @@ returns-2 c =
 pub path-factored-spec : {M : Type 1} → statement M
 path-factored-spec =
     tie.close (tie.spec
-    (λ c κs. c .before .before .pre) (λ c κs. search needs) same-length returns
-    path-factor-requires same-length-2 returns-2)
+    (λ c κs. c .before .before .pre) (λ c κs. search needs) (λ c. omega arith) returns
+    path-factor-requires (λ c. omega arith) returns-2)

@@ -1,7 +1,7 @@
 -- `path_row` meets its contract: entry by entry by FactorLaws `entries-more`, and where one fails by `entries-stop`.
 use native.Mathlib.Omega.{arith}
 use borrow.Author.Needs.{needs}
-use mathlib.Core.Path.{refl, _∙_}
+use mathlib.Core.Path.{refl}
 use Prim.Native.Nat.{_+_, _≤_, _-_}
 use denote.Ref.{now}
 use Rattle.solves.specs.Path.{pathEntry}
@@ -36,12 +36,6 @@ path-entry-requires c κs =
     let pre = at-loop .before .before .before .pre in
     let so = at-loop .loop .inv in
     (rows-kept (pre .0) (so .2 .kept .size), pre .1, pre .2, omega (arith, at-loop-test .loop-test .taken), omega (arith, so .0))
-
-same-length : tie.Need-same-length Inv-loop μ-loop
-same-length c =
-    let at-path-entry = c .before .before .before .before in
-    let at-loop = at-path-entry .before .before .before in
-    at-path-entry .path-entry .ensures .kept .size ∙ at-loop .loop .inv .2 .kept .size
 
 returns : tie.Need-returns Inv-loop μ-loop
 returns c =
@@ -78,5 +72,5 @@ pub path-row-spec : {M : Type 1} → statement M
 path-row-spec =
     tie.close (tie.spec
     Inv-loop μ-loop (λ c κs. search needs) (λ c. omega arith) loop-holds path-entry-requires
-    (λ c κs. search needs) same-length returns (λ c. omega arith) (λ c. omega arith) loop-again
+    (λ c κs. search needs) (λ c. omega arith) returns (λ c. omega arith) (λ c. omega arith) loop-again
     (λ c. c .before .loop .inv .2 .kept .size) returns-2)

@@ -37,11 +37,6 @@ cross-at-requires c κs =
     let pre = at-loop .before .before .pre in
     (rows-kept (pre .0) (at-loop .loop .inv .1), pre .1, at-loop-test .loop-test .taken, at-loop-test .loop-test .taken)
 
-same-length : tie.Need-same-length Inv-loop μ-loop
-same-length c =
-    let at-loop = c .before .before .before .before .before in
-    at-loop .loop .inv .1
-
 returns : tie.Need-returns Inv-loop μ-loop
 returns c =
     let at-cross-at = c .before .before in
@@ -51,11 +46,6 @@ returns c =
     let pre = start .pre in
     scales-lost (pre .0) (now (start .args .order)) (pre .1) _ (at-loop .loop .inv .2) (at-loop-test .loop-test .taken) (at-loop .loop .inv .1)
     (sum-over (at-cross-at .cross-at .ensures) (c .enum-told .given .1))
-
-same-length-2 : tie.Need-same-length-2 Inv-loop μ-loop
-same-length-2 c =
-    let at-loop-test = c .before .before .before .before .before .before in
-    at-loop-test .before .loop .inv .1
 
 returns-2 : tie.Need-returns-2 Inv-loop μ-loop
 returns-2 c =
@@ -93,6 +83,6 @@ returns-3 c =
 pub path-scale-spec : {M : Type 1} → statement M
 path-scale-spec =
     tie.close (tie.spec
-    Inv-loop μ-loop loop-holds cross-at-requires (λ c. search needs) (λ c. search needs) same-length returns
-    same-length-2 returns-2 (λ c κs. search needs) (λ c. omega arith) (λ c. omega arith) (λ c. omega arith)
+    Inv-loop μ-loop loop-holds cross-at-requires (λ c. search needs) (λ c. search needs) (λ c. omega arith) returns
+    (λ c. omega arith) returns-2 (λ c κs. search needs) (λ c. omega arith) (λ c. omega arith) (λ c. omega arith)
     (λ c. omega arith) (λ c. omega arith) loop-again (λ c. c .before .loop .inv .1) returns-3)

@@ -33,13 +33,6 @@ operator-requires c κs =
       place-of PRODUCT (omega arith) (omega arith) (omega (arith, size, start .pre .0 .whole)),
     )
 
-same-length : tie.Need-same-length
-same-length c =
-    let at-operator = c .before .before .before .before in
-    let at-backward = at-operator .before .before .before .before in
-    let at-forward = at-backward .before .before .before .before in
-    at-operator .operator .ensures .kept .size ∙ at-backward .backward .ensures .kept .size ∙ at-forward .forward .ensures .kept .size
-
 returns : tie.Need-returns
 returns c =
     let at-done = c .before in
@@ -51,29 +44,6 @@ returns c =
     does-eq (fails _ end (at-done .done .ensures) (c .if1 .taken))
     (refine-failed (start .args .t) (start .pre .0) (now (start .args .order)) (at-forward .forward .ensures) (at-backward .backward .ensures)
     (failed _ end (at-done .done .ensures) (at-operator .operator .ensures) (c .if1 .taken)))
-
-difference-requires : tie.Need-difference-requires
-difference-requires c κs =
-    let at-operator = c .before .before .before .before .before in
-    let at-backward = at-operator .before .before .before .before in
-    let at-forward = at-backward .before .before .before .before in
-    let start = at-forward .before .before .before in
-    omega (
-      arith,
-      at-operator .operator .ensures .kept .size,
-      at-backward .backward .ensures .kept .size ∙ at-forward .forward .ensures .kept .size,
-      start .pre .0 .whole,
-      start .pre .0 .most,
-    )
-
-same-length-2 : tie.Need-same-length-2
-same-length-2 c =
-    let at-slice-known4 = c .before .before .before .before .before .before in
-    let at-operator = at-slice-known4 .before .before in
-    let at-backward = at-operator .before .before .before .before in
-    let at-forward = at-backward .before .before .before .before in
-    c .before .before .difference .ensures .kept .size ∙ at-operator .operator .ensures .kept .size ∙ at-backward .backward .ensures .kept .size
-    ∙ at-forward .forward .ensures .kept .size
 
 returns-2 : tie.Need-returns-2
 returns-2 c =
@@ -89,5 +59,5 @@ returns-2 c =
 pub refine-spec : {M : Type 1} → statement M
 refine-spec =
     tie.close (tie.spec
-    forward-requires backward-requires operator-requires (λ c κs. search needs) same-length returns
-    difference-requires same-length-2 returns-2)
+      forward-requires backward-requires operator-requires (λ c κs. search needs) (λ c. omega arith) returns
+      (λ c κs. omega arith) (λ c. omega arith) returns-2)

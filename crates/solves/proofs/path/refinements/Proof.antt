@@ -1,7 +1,7 @@
 -- refinements: at most four, by `Reached`.
 use native.Mathlib.Omega.{arith}
 use borrow.Author.Needs.{needs}
-use mathlib.Core.Path.{_∙_, ap}
+use mathlib.Core.Path.{ap}
 use Prim.Native.Nat.{_-_}
 use denote.Ref.{now}
 use Rattle.arith.specs.Flow.{loop}
@@ -40,12 +40,6 @@ refine-requires c κs =
     let start = c .before .before .before .before in
     (rows-kept (start .pre .0) (c .before .before .loop .inv .kept .size), start .pre .1)
 
-same-length : tie.Need-same-length Inv-loop μ-loop
-same-length c =
-    let at-refine = c .before .before .before .before .before in
-    let at-loop = at-refine .before .before .before in
-    at-refine .refine .ensures .kept .size ∙ at-loop .loop .inv .kept .size
-
 returns : tie.Need-returns Inv-loop μ-loop
 returns c =
     let at-if1 = c .before in
@@ -61,13 +55,6 @@ returns c =
     (refined-failed (start .args .t) (start .pre .0) (now (start .args .order)) (start .args .tolerance) _ (at-loop .loop .inv)
     (at-refine .before .before .loop-test .taken)
     (failed _ end (at-done .done .ensures) (at-refine .refine .ensures) (at-if1 .if1 .taken)))))
-
-same-length-2 : tie.Need-same-length-2 Inv-loop μ-loop
-same-length-2 c =
-    let at-if1 = c .before .before .before .before .before .before in
-    let at-refine = at-if1 .before .before .before .before in
-    let at-loop = at-refine .before .before .before in
-    at-refine .refine .ensures .kept .size ∙ at-loop .loop .inv .kept .size
 
 returns-2 : tie.Need-returns-2 Inv-loop μ-loop
 returns-2 c =
@@ -109,7 +96,7 @@ returns-3 c =
 pub refinements-spec : {M : Type 1} → statement M
 refinements-spec =
     tie.close (tie.spec
-    Inv-loop μ-loop loop-holds refine-requires (λ c κs. search needs) (λ c κs. search needs) same-length
-    returns (λ c κs. omega arith) (λ c. search needs) (λ c. omega arith) (λ c κs. search needs) same-length-2
+    Inv-loop μ-loop loop-holds refine-requires (λ c κs. search needs) (λ c κs. search needs) (λ c. omega arith)
+    returns (λ c κs. omega arith) (λ c. search needs) (λ c. omega arith) (λ c κs. search needs) (λ c. omega arith)
     returns-2 (λ c. search needs) (λ c. omega arith) (λ c. omega arith) loop-again (λ c κs. search needs)
     (λ c. c .before .before .loop .inv .kept .size) returns-3)

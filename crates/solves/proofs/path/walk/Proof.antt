@@ -82,17 +82,6 @@ loop-again c =
           (at-neighbor .neighbor .ensures) (at-neighbor2 .neighbor2 .ensures) (at-next-block .next-block .ensures) (c .if2 .left),
     )
 
-add-k : tie.Need-add-k Inv-loop μ-loop
-add-k c =
-    let at-append = c .before .before .before .before .before .before in
-    let pre = at-loop at-append .before .pre .0 .blocked in
-    omega (arith, turns-left at-append, pre .few, pre .most)
-
-loop-less : tie.Need-loop-less Inv-loop μ-loop
-loop-less c =
-    let at-append = c .before .before .before .before .before .before in
-    omega (arith, turns-left at-append)
-
 returns-3 : tie.Need-returns-3 Inv-loop μ-loop
 returns-3 c =
     let at-loop = c .before .before in
@@ -101,9 +90,10 @@ returns-3 c =
 pub walk-spec : {M : Type 1} → statement M
 walk-spec =
     tie.close (tie.spec
-    Inv-loop μ-loop (λ c. (omega arith, walk-none (c .pre .0) (c .pre .1) (c .pre .2))) (λ c. omega arith)
-    (λ c κs. search needs) returns (λ c. omega arith) (λ c. omega arith) (λ c. omega arith)
-    (λ c. omega arith) (λ c. omega arith) (λ c. omega arith) append-requires (λ c. omega (arith, there c))
-    (λ c. omega (arith, there c)) neighbor-requires (λ c. omega (arith, there (c .before .before)))
-    (λ c. omega (arith, there (c .before .before))) neighbor-requires-2 (λ c κs. search needs)
-    (λ c κs. search needs) returns-2 add-k loop-less loop-again (λ c κs. search needs) returns-3)
+      Inv-loop μ-loop (λ c. (omega arith, walk-none (c .pre .0) (c .pre .1) (c .pre .2))) (λ c. omega arith)
+      (λ c κs. search needs) returns (λ c. omega arith) (λ c. omega arith) (λ c. omega arith) (λ c. omega arith)
+      (λ c. omega arith) (λ c. omega arith) append-requires (λ c. omega (arith, there c))
+      (λ c. omega (arith, there c)) neighbor-requires (λ c. omega (arith, there (c .before .before)))
+      (λ c. omega (arith, there (c .before .before))) neighbor-requires-2 (λ c κs. search needs)
+      (λ c κs. search needs) returns-2 (λ c. omega arith) (λ c. omega arith) loop-again (λ c κs. search needs)
+      returns-3)

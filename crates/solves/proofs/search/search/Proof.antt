@@ -1,7 +1,7 @@
 -- search: the passes of a search, by `Reached`.
 use native.Mathlib.Omega.{arith}
 use borrow.Author.Needs.{needs}
-use mathlib.Core.Path.{_∙_, ap}
+use mathlib.Core.Path.{ap}
 use Prim.Native.Nat.{ℕ, _-_}
 use denote.Ref.{now}
 use Rattle.arith.specs.Flow.{loop}
@@ -36,12 +36,6 @@ search-pass-requires : tie.Need-search-pass-requires Inv-loop μ-loop
 search-pass-requires c κs =
     let start = c .before .before .before .before .before in
     rows-kept (start .pre) (c .before .before .loop .inv .kept .size)
-
-same-length : tie.Need-same-length Inv-loop μ-loop
-same-length c =
-    let at-search-pass = c .before .before .before .before .before .before in
-    let at-loop = at-search-pass .before .before .before in
-    at-search-pass .search-pass .ensures .kept .size ∙ at-loop .loop .inv .kept .size
 
 returns : tie.Need-returns Inv-loop μ-loop
 returns c =
@@ -95,5 +89,5 @@ pub search-spec : {M : Type 1} → statement M
 search-spec =
     tie.close (tie.spec
     Inv-loop μ-loop (λ c κs. c .before .pre .most) loop-holds search-pass-requires (λ c. search needs)
-    (λ c. search needs) (λ c κs. search needs) same-length returns (λ c. omega arith) (λ c. omega arith)
+    (λ c. search needs) (λ c κs. search needs) (λ c. omega arith) returns (λ c. omega arith) (λ c. omega arith)
     loop-again (λ c κs. search needs) (λ c. c .before .before .loop .inv .kept .size) returns-2)

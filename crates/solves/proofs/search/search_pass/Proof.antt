@@ -1,4 +1,5 @@
 -- search_pass: the pass of one search or the other, by the case of `which`.
+use native.Mathlib.Omega.{arith}
 use borrow.Author.Needs.{needs}
 use mathlib.Core.Path.{sym, ap}
 use Prim.Native.Nat.{_-_}
@@ -20,9 +21,6 @@ gradient-pass-requires c κs =
     let start = c .before .before .before .before in
     start .pre
 
-same-length : tie.Need-same-length
-same-length c = c .before .before .least-pass .ensures .kept .size
-
 returns : tie.Need-returns
 returns c =
     let at-enum-told = c .before .before .before .before in
@@ -33,9 +31,6 @@ returns c =
     (λ (w : Which). PassAt (start .args .t) (start .pre) w (start .args .tolerance) (now (start .args .s))
     (searchAt (now (start .args .s)) (start .args .t .rows) (start .args .rho)))
     (at-enum-told .enum-told .given .1)))
-
-same-length-2 : tie.Need-same-length-2
-same-length-2 c = c .before .before .gradient-pass .ensures .kept .size
 
 returns-2 : tie.Need-returns-2
 returns-2 c =
@@ -51,5 +46,5 @@ returns-2 c =
 pub search-pass-spec : {M : Type 1} → statement M
 search-pass-spec =
     tie.close (tie.spec
-    (λ c. search needs) least-pass-requires (λ c. search needs) gradient-pass-requires same-length returns
-    same-length-2 returns-2)
+    (λ c. search needs) least-pass-requires (λ c. search needs) gradient-pass-requires (λ c. omega arith) returns
+    (λ c. omega arith) returns-2)

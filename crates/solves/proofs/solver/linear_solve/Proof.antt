@@ -15,13 +15,6 @@ least-squares-requires c κs =
     let at-clear = at-copy .before .before .before .before in
     rows-kept (at-clear .before .before .before .pre) (at-copy .copy .ensures .kept .size ∙ at-clear .clear .ensures .kept .size)
 
-same-length : tie.Need-same-length
-same-length c =
-    let at-s2 = c .before .before .before .before .before .before in
-    let at-copy = at-s2 .before in
-    let at-clear = at-copy .before .before .before .before in
-    c .before .before .least-squares .ensures .kept .size ∙ at-copy .copy .ensures .kept .size ∙ at-clear .clear .ensures .kept .size
-
 returns : tie.Need-returns
 returns c =
     let at-if1 = c .before .before .before .before in
@@ -49,13 +42,6 @@ gradients-requires c κs =
     let at-clear = at-copy .before .before .before .before in
     rows-kept (at-clear .before .before .before .pre) (at-copy .copy .ensures .kept .size ∙ at-clear .clear .ensures .kept .size)
 
-same-length-2 : tie.Need-same-length-2
-same-length-2 c =
-    let at-path-order = c .before .before .before .before .before .before in
-    let at-copy = at-path-order .before .before .before .before in
-    let at-clear = at-copy .before .before .before .before in
-    c .before .before .gradients .ensures .kept .size ∙ at-copy .copy .ensures .kept .size ∙ at-clear .clear .ensures .kept .size
-
 returns-2 : tie.Need-returns-2
 returns-2 c =
     let at-if2 = c .before .before .before .before in
@@ -78,13 +64,6 @@ path-along-requires c κs =
       at-if2 .before .before .path-order .ensures .along (not-no _ (at-if2 .if2 .left)),
     )
 
-same-length-3 : tie.Need-same-length-3
-same-length-3 c =
-    let at-if2 = c .before .before .before .before .before .before in
-    let at-copy = at-if2 .before .before .before .before .before .before in
-    let at-clear = at-copy .before .before .before .before in
-    c .before .before .path-along .ensures .kept .size ∙ at-copy .copy .ensures .kept .size ∙ at-clear .clear .ensures .kept .size
-
 returns-3 : tie.Need-returns-3
 returns-3 c =
     let at-if2 = c .before .before .before .before .before .before in
@@ -102,5 +81,5 @@ returns-3 c =
 pub linear-solve-spec : {M : Type 1} → statement M
 linear-solve-spec =
     tie.close (tie.spec
-    (λ c κs. omega arith) (λ c κs. omega arith) least-squares-requires same-length returns path-order-requires
-    gradients-requires same-length-2 returns-2 path-along-requires same-length-3 returns-3)
+    (λ c κs. omega arith) (λ c κs. omega arith) least-squares-requires (λ c. omega arith) returns path-order-requires
+    gradients-requires (λ c. omega arith) returns-2 path-along-requires (λ c. omega arith) returns-3)
