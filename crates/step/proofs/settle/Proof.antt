@@ -1,6 +1,5 @@
 -- `settle` is `settledAs` for each end of the run: the states are written where all stand on the ground (FinishLaws).
 use borrow.Author.Needs.{needs}
-use native.Mathlib.Omega.{arith}
 use denote.Ref.{now}
 use Rattle.step.specs.View.{statesAt}
 use Rattle.step.proofs.FinishLaws.{settle-accepts, settle-grounds, settle-fails}

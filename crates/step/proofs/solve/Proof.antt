@@ -1,8 +1,6 @@
 -- `solve` meets `Answered`: an early refusal by the checks' contract, else by `solve_in` and the laws of the definition (AnsweredLaws).
-use native.Mathlib.Omega.{arith}
 use Rattle.step.specs.Layout.{SCRATCH}
 use Rattle.step.specs.Step.{runFor}
-use lib.ListN.{length}
 use denote.Ref.{now}
 use Rattle.step.specs.CheckLaws.{ready-joined}
 use Rattle.step.proofs.AnsweredLaws.{run-ready, answered-refused, answered-run}

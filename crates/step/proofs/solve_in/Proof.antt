@@ -1,7 +1,7 @@
 -- `solve_in` is the run, settled, with the scratch cleared (FinishLaws).
 use borrow.Author.Needs.{needs}
 use native.Mathlib.Omega.{arith}
-use mathlib.Core.Path.{refl, _∙_}
+use mathlib.Core.Path.{_∙_}
 use denote.Ref.{now}
 use Rattle.step.specs.Step.{runFor}
 use Rattle.step.proofs.FinishLaws.{all-zero, solved-in}

@@ -1,7 +1,6 @@
 -- `candidate` is `candidateOf`: shares, candidates and rows, each by its function's contract (LoopLaws).
 use borrow.Author.Needs.{needs}
 use native.Mathlib.Omega.{arith}
-use mathlib.Core.Path.{_∙_}
 use denote.Ref.{now}
 use Rattle.solves.specs.DoesLaws.{went}
 use Rattle.step.specs.RunView.{jobFor}

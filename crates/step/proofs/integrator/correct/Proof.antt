@@ -1,9 +1,7 @@
 -- `correct` is the second half of a nonlinear pass: the right side, the solve and the impulses, one after the other (NonlinearLaws).
 use borrow.Author.Needs.{needs}
 use native.Mathlib.Omega.{arith}
-use mathlib.Core.Path.{_∙_}
 use denote.Ref.{now}
-use Rattle.step.proofs.StepLaws.{rows-at}
 use Rattle.step.proofs.NonlinearLaws.{correct-unsolved, correct-added}
 use Rattle.step.proofs.integrator.correct.Statement.{statement}
 use Rattle.step.proofs.integrator.correct.Tie as tie

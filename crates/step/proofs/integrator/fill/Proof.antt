@@ -1,10 +1,10 @@
 -- `fill` puts one body number into n places: before turn k those before k have it (`Spread`).
 use native.Mathlib.Omega.{arith}
-use mathlib.Core.Path.{_≡_, refl}
+use mathlib.Core.Path.{_≡_}
 use Prim.Native.Nat.{_+_, _≤_, _-_}
 use lib.ListN.{length, length-set}
 use Rattle.step.specs.Ready.{Spread}
-use Rattle.step.proofs.StepLaws.{spread-none, spread-more, spread-end}
+use Rattle.step.proofs.StepLaws.{spread-more, spread-end}
 use Rattle.step.proofs.integrator.fill.Statement.{statement}
 use Rattle.step.proofs.integrator.fill.Tie as tie
 

@@ -1,11 +1,9 @@
 -- `finish_run` is `finishOf`: masses, the velocity loop and the states, one after the other (FinishLaws).
 use borrow.Author.Needs.{needs}
 use native.Mathlib.Omega.{arith}
-use mathlib.Core.Path.{_∙_}
 use denote.Ref.{now}
 use Rattle.step.specs.Records.{recordsOf}
 use Rattle.step.specs.View.{statesAt}
-use Rattle.step.proofs.StepLaws.{rows-at}
 use Rattle.step.proofs.PassLaws.{ended-is}
 use Rattle.step.proofs.FinishLaws.{not-weighed, not-rested, all-finished}
 use Rattle.step.proofs.integrator.finish_run.Statement.{statement}

@@ -1,10 +1,8 @@
 -- `nonlinear_pass` is `nonlinearPass`: the candidates, the test of their rows, and where it fails the correction (NonlinearLaws).
 use borrow.Author.Needs.{needs}
 use native.Mathlib.Omega.{arith}
-use mathlib.Core.Path.{_∙_}
 use denote.Ref.{now}
 use Rattle.step.specs.RunView.{impulsesAt, foundAt, jobFor}
-use Rattle.step.proofs.StepLaws.{rows-at}
 use Rattle.step.proofs.PassLaws.{passed-is}
 use Rattle.step.proofs.NonlinearLaws.{not-found, found-met, found-unmet}
 use Rattle.step.proofs.integrator.nonlinear_pass.Statement.{statement}

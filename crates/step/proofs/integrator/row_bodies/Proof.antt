@@ -1,5 +1,4 @@
 -- `row_bodies` says of each row which bodies it joins: before turn k the rows of the first k joints are named (`RowBodies`, `Sides`).
-use borrow.Author.Needs.{needs}
 use Rattle.arith.specs.FlowLaws.{turns-end}
 use Rattle.rows.specs.Geometry.{rowCount}
 use Rattle.step.specs.RunView.{rowsBefore, Sides}

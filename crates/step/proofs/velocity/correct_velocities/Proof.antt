@@ -1,8 +1,6 @@
 -- `correct_velocities` is the second half of a velocity pass: the solve and its reaction, one after the other (VelocityLaws).
 use borrow.Author.Needs.{needs}
 use native.Mathlib.Omega.{arith}
-use mathlib.Core.Path.{_∙_}
-use Rattle.step.proofs.StepLaws.{rows-at}
 use Rattle.step.proofs.VelocityLaws.{rest-unsolved, rest-kicked}
 use Rattle.step.proofs.velocity.correct_velocities.Statement.{statement}
 use Rattle.step.proofs.velocity.correct_velocities.Tie as tie

@@ -1,9 +1,7 @@
 -- `velocity_pass` is `velocityPass`: the rates, their test, and where it fails the correction (VelocityLaws).
 use borrow.Author.Needs.{needs}
 use native.Mathlib.Omega.{arith}
-use mathlib.Core.Path.{_∙_}
 use Rattle.step.specs.View.{candidatesAt}
-use Rattle.step.proofs.StepLaws.{rows-at}
 use Rattle.step.proofs.PassLaws.{passed-is}
 use Rattle.step.proofs.VelocityLaws.{rates-fail, at-rest, kicked-on}
 use Rattle.step.proofs.velocity.velocity_pass.Statement.{statement}
