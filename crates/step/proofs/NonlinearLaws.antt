@@ -1,5 +1,5 @@
 -- `correct`, `nonlinear_pass` and `nonlinear_loop`: from the calls' contracts and what stays between them to the definition's run (PassLaws).
-use Prim.Native.Nat.{ℕ, _+_, _≤_}
+use Prim.Native.Nat.{ℕ}
 use mathlib.Core.Path.{_≡_, sym, _∙_, ap}
 use mathlib.Core.Bool.{Bool, true, false, not}
 use mathlib.Core.List.{List}
@@ -16,7 +16,6 @@ use Rattle.rows.specs.Region.{tab-length, is-tab, kept-then, kept-more}
 use Rattle.rows.specs.declared.End.{End}
 use Rattle.solves.specs.declared.Ended.{Ended}
 use Rattle.solves.specs.declared.Table.{Table}
-use Rattle.solves.specs.Layout.{ROW-TABLE}
 use Rattle.solves.specs.Region.{vecAt, Filled, Does}
 use Rattle.solves.specs.RegionLaws.{kept-vec, filled-vec}
 use Rattle.solves.specs.System.{Counting}
@@ -97,22 +96,22 @@ passFrom job ia ib table s = nonlinearPass job (startedAt ia ib s table)
 zeros : (n : ℕ) (x : Float) → tab n (λ _. x) ≡ replicate n x
 zeros n x = sym (is-tab n (λ _. x) nan (replicate n x) (length-replicate n x) (λ k h. getD-replicate n k x nan h))
 
-module _ (job : Job) (ia ib : List ℕ) (table : Table) (p : table .place + ROW-TABLE ≤ ROWS) (l : table .rows ≤ 96) (g : table .bodies ≤ 16)
-    {s : List Float} where
-  pub same-pass : (t : List Float) → Kept Trying s t → passFrom job ia ib table t ≡ passFrom job ia ib table s
-  same-pass t kept = ap (nonlinearPass job) (kept-started kept ia ib table p l g (λ i x. x))
+module _ (job : Job) {S : Slice Float} {IA IB : Slice ℕ} {table : Table} (pre : Starting S IA IB table) {s : List Float} where
+  pub same-pass : (t : List Float) → Kept Trying s t → passFrom job (IA .now) (IB .now) table t ≡ passFrom job (IA .now) (IB .now) table s
+  same-pass t kept = ap (nonlinearPass job)
+      (kept-started kept (IA .now) (IB .now) table (pre .apart) (pre .ours .ready .most) (pre .ours .ready .bodies) (λ i x. x))
 
   -- from no impulse
   pub from-none : {s₁ u : List Float} {x : Counting Found} → Filled IMPULSES (table .rows) (λ _. ratio 0 1) s s₁
-      → Does Trying s₁ u x (upTo 32 nonConvergent (passFrom job ia ib table s₁) (impulsesAt s₁ table)) → Does Trying s u x
-      (nonlinearLoop job (startedAt ia ib s table))
+      → Does Trying s₁ u x (upTo 32 nonConvergent (passFrom job (IA .now) (IB .now) table s₁) (impulsesAt s₁ table))
+      → Does Trying s u x (nonlinearLoop job (startedAt (IA .now) (IB .now) s table))
   unfolding nonlinearLoop
   from-none {s₁} f d = record {
-    kept = kept-then (kept-more (f .kept) (λ i x. omega (arith, x .1))) (d .kept) (λ i x. x);
-    is = d .is ∙ λ j. upTo 32 nonConvergent (same-pass s₁ (kept-more (f .kept) (λ i x. omega (arith, x .1))) j) (none j);
+    kept = kept-then (kept-more (f .kept) (λ i x. omega (arith, x .1, pre .ours .ready .most))) (d .kept) (λ i x. x);
+    is = d .is ∙ λ j. upTo 32 nonConvergent (same-pass s₁ (kept-more (f .kept) (λ i x. omega (arith, x .1, pre .ours .ready .most))) j) (none j);
   }
     where
-      none : impulsesAt s₁ table ≡ replicate (length (rowsOn ia ib s (table .place) (table .rows))) (ratio 0 1)
+      none : impulsesAt s₁ table ≡ replicate (length (rowsOn (IA .now) (IB .now) s (table .place) (table .rows))) (ratio 0 1)
       none =
           filled-vec f ∙ zeros (table .rows) (ratio 0 1) ∙ ap (λ (m : ℕ). replicate m (ratio 0 1))
-          (sym (tab-length (table .rows) (rowOn ia ib s (table .place))))
+          (sym (tab-length (table .rows) (rowOn (IA .now) (IB .now) s (table .place))))

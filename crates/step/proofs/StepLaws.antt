@@ -1,6 +1,6 @@
 -- What the loops of a run keep: lengths, the bodies of rows, how many rows a joint has.
 use Prim.Native.Nat.{ℕ, _+_, _-_, _≤_, _<_}
-use mathlib.Core.Path.{_≡_, refl, sym, _∙_, subst}
+use mathlib.Core.Path.{_≡_, sym, _∙_, subst}
 use mathlib.Core.List.{List}
 use native.Mathlib.Omega.{arith}
 use native.Mathlib.Decide.{ℕ-discrete, decLe}
@@ -28,10 +28,6 @@ joined-sixteen {joints} {count} {size} pre =
   where
     low : {x : ℕ} → x < size → x < 16
     low h = omega (arith, pre .small)
-
--- `fill`
-pub spread-none : (from k body : ℕ) (s : List ℕ) → k ≤ from → Spread from (k - from) body s s
-spread-none from k body s q = record { before = λ j h. refl; here = λ j h g. absurd (omega arith) }
 
 pub spread-more : {from k body : ℕ} {s t : List ℕ} → from ≤ k → k < length t → Spread from (k - from) body s t
     → Spread from (k + 1 - from) body s (set t k body)
@@ -71,14 +67,3 @@ rows-of {joints} {count} {n} {size} rows t w j b = record {
 
 pub take-long : (n : ℕ) (s : List Float) → n ≤ length s → length (take n s) ≡ n
 take-long n s h = simp length-take (omega arith)
-
--- rows stay where the scratch keeps its length
-pub rows-at : {s t : List Float} {ia ib : List ℕ} {rows n size : ℕ} → Rows s ia ib rows n size → length t ≡ length s → Rows t ia ib rows n size
-rows-at pre e = record {
-  whole = omega (arith, pre .whole);
-  table = pre .table;
-  most = pre .most;
-  bodies = pre .bodies;
-  a-there = pre .a-there;
-  b-there = pre .b-there;
-}

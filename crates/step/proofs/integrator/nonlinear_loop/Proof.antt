@@ -20,17 +20,6 @@ Inv-loop s₀ ia ib t joints task linear₀ k₀ s linear k =
 abbrev μ-loop : tie.MeasureT-loop
 μ-loop s₀ ia ib t joints task linear₀ k₀ s linear k = 32 - k
 
-loop-holds : tie.Need-loop-holds Inv-loop μ-loop
-loop-holds c =
-    let at-entry = c .before .before .before .before .before in (
-      omega arith,
-      refl,
-      omega arith,
-      loop-none 32 Trying
-          (passFrom (jobFor (at-entry .args .joints) (at-entry .args .task)) (now (at-entry .args .ia)) (now (at-entry .args .ib)) (at-entry .args .t))
-          (λ x. impulsesAt x (at-entry .args .t)) _,
-    )
-
 nonlinear-pass-requires : tie.Need-nonlinear-pass-requires Inv-loop μ-loop
 nonlinear-pass-requires c κs = (record { ours = record { ready = search needs; long = search needs }; apart = search needs }, search needs)
 
@@ -52,13 +41,9 @@ returns c =
     let at-test = at-nonlinear-pass .before .before in let at-loop = at-test .before in let at-clear = at-loop .before .before .before in
     let at-entry = at-clear .before .before .before in
     left-is (λ x. foundAt (now (at-entry .args .ia)) (now (at-entry .args .ib)) x (at-entry .args .t)) (c .run-ended .ensures)
-    (from-none (jobFor (at-entry .args .joints) (at-entry .args .task)) (now (at-entry .args .ia)) (now (at-entry .args .ib)) (at-entry .args .t)
-    (at-entry .pre .0 .apart) (at-entry .pre .0 .ours .ready .most) (at-entry .pre .0 .ours .ready .bodies) (at-clear .clear .ensures)
-    (loop-over 32 Trying
-    (passFrom (jobFor (at-entry .args .joints) (at-entry .args .task)) (now (at-entry .args .ia)) (now (at-entry .args .ib)) (at-entry .args .t))
-    (λ x. impulsesAt x (at-entry .args .t)) _ (λ x. foundAt (now (at-entry .args .ia)) (now (at-entry .args .ib)) x (at-entry .args .t))
-    (same-pass (jobFor (at-entry .args .joints) (at-entry .args .task)) (now (at-entry .args .ia)) (now (at-entry .args .ib)) (at-entry .args .t)
-    (at-entry .pre .0 .apart) (at-entry .pre .0 .ours .ready .most) (at-entry .pre .0 .ours .ready .bodies)) (at-loop .loop .inv .3)
+    (from-none (jobFor (at-entry .args .joints) (at-entry .args .task)) (at-entry .pre .0) (at-clear .clear .ensures)
+    (loop-over _ _ _ _ _ (λ x. foundAt (now (at-entry .args .ia)) (now (at-entry .args .ib)) x (at-entry .args .t))
+    (same-pass (jobFor (at-entry .args .joints) (at-entry .args .task)) (at-entry .pre .0)) (at-loop .loop .inv .3)
     (at-nonlinear-pass .nonlinear-pass .result) (at-nonlinear-pass .nonlinear-pass .ensures) (at-test .loop-test .taken)
     (c .before .before .pass .given .1)))
 
@@ -75,11 +60,8 @@ loop-again c =
             (at-entry .pre .0 .ours .ready .most) (jobFor (at-entry .args .joints) (at-entry .args .task)) _
             (at-nonlinear-pass .nonlinear-pass .ensures .is),
       ),
-      looped-again 32 Trying
-          (passFrom (jobFor (at-entry .args .joints) (at-entry .args .task)) (now (at-entry .args .ia)) (now (at-entry .args .ib)) (at-entry .args .t))
-          (λ x. impulsesAt x (at-entry .args .t)) _ (λ x. foundAt (now (at-entry .args .ia)) (now (at-entry .args .ib)) x (at-entry .args .t))
-          (same-pass (jobFor (at-entry .args .joints) (at-entry .args .task)) (now (at-entry .args .ia)) (now (at-entry .args .ib)) (at-entry .args .t)
-          (at-entry .pre .0 .apart) (at-entry .pre .0 .ours .ready .most) (at-entry .pre .0 .ours .ready .bodies)) (at-loop .loop .inv .3)
+      looped-again _ _ _ _ _ (λ x. foundAt (now (at-entry .args .ia)) (now (at-entry .args .ib)) x (at-entry .args .t))
+          (same-pass (jobFor (at-entry .args .joints) (at-entry .args .task)) (at-entry .pre .0)) (at-loop .loop .inv .3)
           (at-nonlinear-pass .nonlinear-pass .result) (at-nonlinear-pass .nonlinear-pass .ensures) (at-test .loop-test .taken) (c .enum-told .given .1),
     )
 
@@ -87,16 +69,12 @@ returns-2 : tie.Need-returns-2 Inv-loop μ-loop
 returns-2 c =
     let at-loop = c .before .before in let at-clear = at-loop .before .before .before in let at-entry = at-clear .before .before .before in
     left-is (λ x. foundAt (now (at-entry .args .ia)) (now (at-entry .args .ib)) x (at-entry .args .t)) (c .run-ended2 .ensures)
-    (from-none (jobFor (at-entry .args .joints) (at-entry .args .task)) (now (at-entry .args .ia)) (now (at-entry .args .ib)) (at-entry .args .t)
-    (at-entry .pre .0 .apart) (at-entry .pre .0 .ours .ready .most) (at-entry .pre .0 .ours .ready .bodies) (at-clear .clear .ensures)
-    (loop-spent 32 Trying
-    (passFrom (jobFor (at-entry .args .joints) (at-entry .args .task)) (now (at-entry .args .ia)) (now (at-entry .args .ib)) (at-entry .args .t))
-    (λ x. impulsesAt x (at-entry .args .t)) _ (at-loop .loop .inv .3) (c .before .loop-test .left)
-    (omega (arith, at-loop .loop .inv .0, c .before .loop-test .left))))
+    (from-none (jobFor (at-entry .args .joints) (at-entry .args .task)) (at-entry .pre .0) (at-clear .clear .ensures)
+    (loop-spent _ _ _ _ _ (at-loop .loop .inv .3) (c .before .loop-test .left) (omega (arith, at-loop .loop .inv .0, c .before .loop-test .left))))
 
 pub nonlinear-loop-spec : {M : Type 1} → statement M
 nonlinear-loop-spec =
     tie.close (tie.spec
-      Inv-loop μ-loop (λ c κs. search needs) loop-holds nonlinear-pass-requires add-linear (λ c. search needs)
+      Inv-loop μ-loop (λ c κs. search needs) (λ c. (omega arith, refl, omega arith, loop-none _ _ _ _ _)) nonlinear-pass-requires add-linear (λ c. search needs)
       (λ c. omega arith) (λ c κs. omega arith) (λ c. omega arith) returns (λ c. search needs) (λ c. omega arith)
       (λ c. omega arith) loop-again (λ c κs. omega arith) (λ c. omega arith) returns-2)

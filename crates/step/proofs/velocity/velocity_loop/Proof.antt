@@ -21,15 +21,6 @@ Inv-loop s₀ ia ib t cyclic linear₀ k₀ s linear k =
 abbrev μ-loop : tie.MeasureT-loop
 μ-loop s₀ ia ib t cyclic linear₀ k₀ s linear k = 3 - k
 
-loop-holds : tie.Need-loop-holds Inv-loop μ-loop
-loop-holds c = (
-  omega arith,
-  refl,
-  omega arith,
-  loop-none 3 Correcting (passOver (c .before .args .cyclic) (now (c .before .args .ia)) (now (c .before .args .ib)) (c .before .args .t))
-      (λ x. candidatesAt x (c .before .args .t .bodies)) _,
-)
-
 velocity-pass-requires : tie.Need-velocity-pass-requires Inv-loop μ-loop
 velocity-pass-requires c κs = record { ready = search needs; long = search needs }
 
@@ -51,8 +42,7 @@ returns c =
     let at-test = at-velocity-pass .before .before in let at-loop = at-test .before in let at-entry = at-loop .before .before in
     ended-is (λ x. candidatesAt x (at-entry .args .t .bodies)) (c .new .ensures)
     (rests (at-entry .args .cyclic) (now (at-entry .args .ia)) (now (at-entry .args .ib)) (at-entry .args .t)
-    (loop-over 3 Correcting (passOver (at-entry .args .cyclic) (now (at-entry .args .ia)) (now (at-entry .args .ib)) (at-entry .args .t))
-    (λ x. candidatesAt x (at-entry .args .t .bodies)) _ (λ x. candidatesAt x (at-entry .args .t .bodies))
+    (loop-over _ _ _ _ _ (λ x. candidatesAt x (at-entry .args .t .bodies))
     (same-pass (at-entry .args .cyclic) (at-entry .args .t) (at-entry .pre .ready)) (at-loop .loop .inv .3)
     (at-velocity-pass .velocity-pass .result) (at-velocity-pass .velocity-pass .ensures) (at-test .loop-test .taken)
     (c .before .before .pass .given .1)))
@@ -69,8 +59,7 @@ loop-again c =
         velocity-few (now (at-entry .args .ia)) (now (at-entry .args .ib)) (at-loop .loop .s) (at-entry .args .t) (at-entry .pre .ready .most)
             (at-entry .args .cyclic) _ (at-velocity-pass .velocity-pass .ensures .is),
       ),
-      looped-again 3 Correcting (passOver (at-entry .args .cyclic) (now (at-entry .args .ia)) (now (at-entry .args .ib)) (at-entry .args .t))
-          (λ x. candidatesAt x (at-entry .args .t .bodies)) _ (λ x. candidatesAt x (at-entry .args .t .bodies))
+      looped-again _ _ _ _ _ (λ x. candidatesAt x (at-entry .args .t .bodies))
           (same-pass (at-entry .args .cyclic) (at-entry .args .t) (at-entry .pre .ready)) (at-loop .loop .inv .3)
           (at-velocity-pass .velocity-pass .result) (at-velocity-pass .velocity-pass .ensures) (at-test .loop-test .taken) (c .enum-told .given .1),
     )
@@ -80,12 +69,11 @@ returns-2 c =
     let at-entry = c .before .before .before .before in
     ended-is (λ x. candidatesAt x (at-entry .args .t .bodies)) (c .new2 .ensures)
     (rests (at-entry .args .cyclic) (now (at-entry .args .ia)) (now (at-entry .args .ib)) (at-entry .args .t)
-    (loop-spent 3 Correcting (passOver (at-entry .args .cyclic) (now (at-entry .args .ia)) (now (at-entry .args .ib)) (at-entry .args .t))
-    (λ x. candidatesAt x (at-entry .args .t .bodies)) _ (c .before .before .loop .inv .3) (c .before .loop-test .left) refl))
+    (loop-spent _ _ _ _ _ (c .before .before .loop .inv .3) (c .before .loop-test .left) refl))
 
 pub velocity-loop-spec : {M : Type 1} → statement M
 velocity-loop-spec =
     tie.close (tie.spec
-      Inv-loop μ-loop loop-holds velocity-pass-requires add-linear (λ c. search needs) (λ c κs. omega arith)
+      Inv-loop μ-loop (λ c. (omega arith, refl, omega arith, loop-none _ _ _ _ _)) velocity-pass-requires add-linear (λ c. search needs) (λ c κs. omega arith)
       (λ c. omega arith) returns (λ c. search needs) (λ c. omega arith) (λ c. omega arith) loop-again
       (λ c κs. omega arith) (λ c. c .before .before .loop .inv .1) returns-2)
