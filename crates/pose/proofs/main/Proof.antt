@@ -4,14 +4,11 @@ use borrow.Author.Needs.{needs}
 use Rattle.pose.proofs.main.Statement.{statement}
 use Rattle.pose.proofs.main.Tie as tie
 
-reply-to-requires : tie.Need-reply-to-requires
-reply-to-requires c κs = received-counts (c .receive .result) (c .receive .ensures)
-
 send-requires : tie.Need-send-requires
 send-requires c κs = let at-reply = c .before .before in reply-text _ (at-reply .reply-to .ensures .1)
 
 pub main-spec : {M : Type 1} → statement M
 main-spec =
     tie.close (tie.spec
-      (λ c κs. search needs) reply-to-requires (λ c. search needs) (λ c. search needs) send-requires
-      (λ c. search needs))
+      (λ c κs. search needs) (λ c κs. received-counts (c .receive .result) (c .receive .ensures))
+      (λ c. search needs) (λ c. search needs) send-requires (λ c. search needs))

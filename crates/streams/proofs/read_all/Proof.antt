@@ -19,9 +19,6 @@ Inv-loop fd buffer₀ chunk₀ count₀ last₀ answer₀ buffer chunk count las
 abbrev μ-loop : tie.MeasureT-loop
 μ-loop fd buffer₀ chunk₀ count₀ last₀ answer₀ buffer chunk count last answer = length buffer - count
 
-loop-holds : tie.Need-loop-holds Inv-loop μ-loop
-loop-holds c = (refl, refl, omega arith, omega arith, reading-none _)
-
 -- the answer as the machine reads it back
 back : (c : tie.After-read-to Inv-loop μ-loop) → toZ w64 (ofZ w64 (c .read-to .result .answer)) ≡ c .read-to .result .answer
 back c = toZ-ofZ (sfits-of (c .read-to .ok .1 .1 .0 .1))
@@ -67,6 +64,6 @@ returns-2 c =
 pub read-all-spec : {M : Type 1} → statement M
 read-all-spec =
     tie.close (tie.spec
-      Inv-loop μ-loop (λ c κs. search needs) (λ c. omega arith) loop-holds (λ c κs. omega arith)
-      (λ c κs. search needs) (λ c. omega arith) returns add-count loop-less loop-again (λ c. omega arith)
-      returns-2)
+      Inv-loop μ-loop (λ c κs. search needs) (λ c. omega arith)
+      (λ c. (refl, refl, omega arith, omega arith, reading-none _)) (λ c κs. omega arith) (λ c κs. search needs)
+      (λ c. omega arith) returns add-count loop-less loop-again (λ c. omega arith) returns-2)

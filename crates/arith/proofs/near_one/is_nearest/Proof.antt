@@ -8,23 +8,8 @@ use borrow.Author.Needs.{needs}
 use Rattle.arith.proofs.near_one.is_nearest.Statement.{statement}
 use Rattle.arith.proofs.near_one.is_nearest.Tie as tie
 
-mul-aa : tie.Need-mul-aa
-mul-aa c = omega (arith, high-square (c .args .q) (c .pre))
-
-returns : tie.Need-returns
-returns c = λ e. no e
-
-returns-2 : tie.Need-returns-2
-returns-2 c = λ e. no e
-
 mul-c : tie.Need-mul-c
 mul-c c = let at-start = c .before .before in omega (arith, mixed (at-start .args .q) (at-start .pre))
-
-returns-3 : tie.Need-returns-3
-returns-3 c = λ e. no e
-
-returns-4 : tie.Need-returns-4
-returns-4 c = λ e. no e
 
 mul-z : tie.Need-mul-z
 mul-z c = omega (arith, low-square (c .before .before .before .before .args .q))
@@ -39,11 +24,9 @@ returns-5 c = λ e.
     let args = at-square .before .args in
     checked (args .m) (args .q) (at-square .if1 .left) (at-p .if3 .left) (c .if5 .taken) (leb→le _ _ (subst T (sym e) tt))
 
-returns-6 : tie.Need-returns-6
-returns-6 c = λ e. no e
-
 pub is-nearest-spec : {M : Type 1} → statement M
 is-nearest-spec =
     tie.close (tie.spec
-      mul-aa returns returns-2 (λ c. search needs) (λ c. search needs) mul-c returns-3 returns-4
-      (λ c. search needs) mul-z add-z (λ c. search needs) (λ c. search needs) returns-5 returns-6)
+      (λ c. omega (arith, high-square (c .args .q) (c .pre))) (λ c e. no e) (λ c e. no e)
+      (λ c. search needs) (λ c. search needs) mul-c (λ c e. no e) (λ c e. no e) (λ c. search needs) mul-z
+      add-z (λ c. search needs) (λ c. search needs) returns-5 (λ c e. no e))

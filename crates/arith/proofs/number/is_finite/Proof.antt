@@ -4,12 +4,8 @@ use borrow.Author.Needs.{needs}
 use Rattle.arith.proofs.number.is_finite.Statement.{statement}
 use Rattle.arith.proofs.number.is_finite.Tie as tie
 
-returns : tie.Need-returns
-returns c = finite-yes _ (c .before .infinity .ensures) (c .if1 .taken)
-
-returns-2 : tie.Need-returns-2
-returns-2 c = finite-no _ (c .before .infinity .ensures) (c .if1 .left)
-
 pub is-finite-spec : {M : Type 1} → statement M
 is-finite-spec =
-    tie.close (tie.spec (λ c κs. search needs) returns returns-2)
+    tie.close (tie.spec
+      (λ c κs. search needs) (λ c. finite-yes _ (c .before .infinity .ensures) (c .if1 .taken))
+      (λ c. finite-no _ (c .before .infinity .ensures) (c .if1 .left)))

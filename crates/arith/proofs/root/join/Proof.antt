@@ -21,14 +21,10 @@ odd c =
     join-odd (at-start .args .m) (at-start .args .h) (c .nearest-root2 .result) (at-start .pre .0)
     (at-start .pre .1) (at-start .pre .2) (at-start .pre .3) (c .before .if1 .left) (c .nearest-root2 .ensures)
 
-add-result : tie.Need-add-result
-add-result c = record { fits = lt-of-lt-of-le (even c .0) (lit≤ tt) }
-
-add-result-2 : tie.Need-add-result-2
-add-result-2 c = record { fits = lt-of-lt-of-le (odd c .0) (lit≤ tt) }
-
 pub join-spec : {M : Type 1} → statement M
 join-spec =
     tie.close (tie.spec
-      (λ c. search needs) (λ c. search needs) (λ c κs. search needs) add-result (λ c. search needs)
-      (λ c. search needs) (λ c. search needs) (λ c κs. search needs) add-result-2 (λ c. even c) (λ c. odd c))
+      (λ c. search needs) (λ c. search needs) (λ c κs. search needs)
+      (λ c. record { fits = lt-of-lt-of-le (even c .0) (lit≤ tt) }) (λ c. search needs) (λ c. search needs)
+      (λ c. search needs) (λ c κs. search needs) (λ c. record { fits = lt-of-lt-of-le (odd c .0) (lit≤ tt) })
+      even odd)

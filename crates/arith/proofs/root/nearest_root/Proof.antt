@@ -28,12 +28,6 @@ up-fits s t d a b c = omega arith
 mul-d-2 : tie.Need-mul-d-2
 mul-d-2 c = record { fits = d-fits _ (c .whole-root .result) (known c .s-hi) (known c .d-hi) }
 
-div-t : tie.Need-div-t
-div-t c = positive (c .whole-root .result) (known c .s-lo)
-
-rem-p : tie.Need-rem-p
-rem-p c = positive (c .whole-root .result) (known c .s-lo)
-
 mul-p : tie.Need-mul-p
 mul-p c = record { fits = p-fits _ (c .whole-root .result) (known c .s-hi) (known c .p-hi) }
 
@@ -42,9 +36,6 @@ mul-q c = record { fits = h-fits (c .whole-root .result) (known c .s-hi) }
 
 add-q : tie.Need-add-q
 add-q c = record { fits = q-fits (c .whole-root .result) _ (known c .s-hi) (known c .t-hi) }
-
-mul-if1 : tie.Need-mul-if1
-mul-if1 c = record { fits = square-fits _ (known c .tt-hi) }
 
 add-if1 : tie.Need-add-if1
 add-if1 c = record { fits = sum-fits (c .whole-root .result) _ _ (known c .s-hi) (known c .t-hi) (known c .tt-hi) }
@@ -61,5 +52,7 @@ returns-2 c = near-stay (c .before .before .args .m) (c .before .whole-root .res
 pub nearest-root-spec : {M : Type 1} → statement M
 nearest-root-spec =
     tie.close (tie.spec
-      (λ c κs. search needs) (λ c. search needs) (λ c. search needs) mul-d-2 div-t rem-p mul-p mul-q add-q
-      mul-if1 add-if1 add-result returns returns-2)
+      (λ c κs. search needs) (λ c. search needs) (λ c. search needs) mul-d-2
+      (λ c. positive (c .whole-root .result) (known c .s-lo))
+      (λ c. positive (c .whole-root .result) (known c .s-lo)) mul-p mul-q add-q
+      (λ c. record { fits = square-fits _ (known c .tt-hi) }) add-if1 add-result returns returns-2)

@@ -12,9 +12,6 @@ use Rattle.arith.proofs.root.sqrt.Tie as tie
 held : (c : tie.Start) → T (fits binary64 (c .args .x))
 held c = subst T (sym (c .good .0 .1)) tt
 
-float-to-bits-b : tie.Need-float-to-bits-b
-float-to-bits-b c = above-no-nan (c .before .args .x) (c .if1 .taken)
-
 root-bits-requires : tie.Need-root-bits-requires
 root-bits-requires c κs = (bits-pos (c .before .before .args .x) (held (c .before .before)) (c .before .if1 .taken), c .if2 .taken)
 
@@ -46,12 +43,6 @@ returns-4 c =
 
 pub sqrt-spec : {M : Type 1} → statement M
 sqrt-spec =
-    tie.close
-    (tie.spec
-    float-to-bits-b
-    root-bits-requires
-    float-from-bits-result
-    returns
-    returns-2
-    returns-3
-    returns-4)
+    tie.close (tie.spec
+      (λ c. above-no-nan (c .before .args .x) (c .if1 .taken)) root-bits-requires float-from-bits-result returns
+      returns-2 returns-3 returns-4)

@@ -3,12 +3,8 @@ use Rattle.plan.proofs.Heads.{body-full, body-short, body-there}
 use Rattle.plan.proofs.reader.body_head.Statement.{statement}
 use Rattle.plan.proofs.reader.body_head.Tie as tie
 
-returns-2 : tie.Need-returns-2
-returns-2 c = body-short _ _ (c .before .if1 .left) (c .if2 .taken)
-
-returns-3 : tie.Need-returns-3
-returns-3 c = body-there _ _ (c .before .if1 .left) (c .if2 .left)
-
 pub body-head-spec : {M : Type 1} → statement M
 body-head-spec =
-    tie.close (tie.spec (λ c. body-full _ _ (c .if1 .taken)) returns-2 returns-3)
+    tie.close (tie.spec
+      (λ c. body-full _ _ (c .if1 .taken)) (λ c. body-short _ _ (c .before .if1 .left) (c .if2 .taken))
+      (λ c. body-there _ _ (c .before .if1 .left) (c .if2 .left)))

@@ -4,9 +4,6 @@ use borrow.Author.Needs.{needs}
 use Rattle.plan.proofs.reader.joint_head.Statement.{statement}
 use Rattle.plan.proofs.reader.joint_head.Tie as tie
 
-returns-2 : tie.Need-returns-2
-returns-2 c = joint-lone _ _ (c .before .if1 .left) (c .if2 .taken)
-
 returns-3 : tie.Need-returns-3
 returns-3 c = joint-kind _ _ (c .before .before .before .if1 .left) (c .before .before .if2 .left) (c .if3 .taken)
 
@@ -29,5 +26,5 @@ returns-5 c =
 pub joint-head-spec : {M : Type 1} → statement M
 joint-head-spec =
     tie.close (tie.spec
-      (λ c. joint-full _ _ (c .if1 .taken)) returns-2 (λ c. search needs) returns-3 (λ c κs. search needs)
-      returns-4 returns-5)
+      (λ c. joint-full _ _ (c .if1 .taken)) (λ c. joint-lone _ _ (c .before .if1 .left) (c .if2 .taken))
+      (λ c. search needs) returns-3 (λ c κs. search needs) returns-4 returns-5)

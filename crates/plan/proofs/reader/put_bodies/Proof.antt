@@ -16,9 +16,6 @@ Inv-loop table₀ file count places k₀ table k = (k ≤ count) × (length tabl
 abbrev μ-loop : tie.MeasureT-loop
 μ-loop table₀ file count places k₀ table k = count - k
 
-loop-holds : tie.Need-loop-holds Inv-loop μ-loop
-loop-holds c = (omega arith, c .before .before .pre .0 .1, turns-none _ _)
-
 sub-put-body : tie.Need-sub-put-body Inv-loop μ-loop
 sub-put-body c =
     let at-loop = c .before .before in
@@ -60,6 +57,6 @@ returns c =
 pub put-bodies-spec : {M : Type 1} → statement M
 put-bodies-spec =
     tie.close (tie.spec
-      Inv-loop μ-loop loop-holds (λ c. omega arith) (λ c. omega arith) (λ c. omega arith) sub-put-body
-      part-put-body-start (λ c. omega arith) put-body-requires (λ c. omega arith) (λ c. omega arith) loop-again
-      (λ c. omega arith) returns)
+      Inv-loop μ-loop (λ c. (omega arith, c .before .before .pre .0 .1, turns-none _ _)) (λ c. omega arith)
+      (λ c. omega arith) (λ c. omega arith) sub-put-body part-put-body-start (λ c. omega arith)
+      put-body-requires (λ c. omega arith) (λ c. omega arith) loop-again (λ c. omega arith) returns)

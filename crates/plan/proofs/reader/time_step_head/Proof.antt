@@ -3,12 +3,9 @@ use Rattle.plan.proofs.Heads.{time-step-second, time-step-short, time-s
 use Rattle.plan.proofs.reader.time_step_head.Statement.{statement}
 use Rattle.plan.proofs.reader.time_step_head.Tie as tie
 
-returns-2 : tie.Need-returns-2
-returns-2 c = time-step-short _ _ (c .before .if1 .left) (c .if2 .taken)
-
-returns-3 : tie.Need-returns-3
-returns-3 c = time-step-there _ _ (c .before .if1 .left) (c .if2 .left)
-
 pub time-step-head-spec : {M : Type 1} → statement M
 time-step-head-spec =
-    tie.close (tie.spec (λ c. time-step-second _ _ (c .if1 .taken)) returns-2 returns-3)
+    tie.close (tie.spec
+      (λ c. time-step-second _ _ (c .if1 .taken))
+      (λ c. time-step-short _ _ (c .before .if1 .left) (c .if2 .taken))
+      (λ c. time-step-there _ _ (c .before .if1 .left) (c .if2 .left)))
