@@ -18,7 +18,7 @@ use Rattle.vectors.specs.declared.vector.OptionVec3.the-variants as Vector
 use Rattle.vectors.specs.declared.vector.OptionF64.{OptionF64}
 use Rattle.vectors.specs.declared.vector.OptionF64.the-variants as Number
 use Rattle.vectors.specs.declared.quaternion.Quat.{Quat}
-use Rattle.vectors.specs.Vector.{vec, axisZ, addOf, subOf, scaleOf, negOf, dotOf, crossOf, tryNormalizeOf}
+use Rattle.vectors.specs.Vector.{vec, axisZ, addOf, subOf, scaleOf, negOf, dotOf, crossOf, checkedLengthOf, tryNormalizeOf}
 use Rattle.vectors.specs.VectorLaws.{zero-vec-is, axis-z-is}
 use Rattle.vectors.specs.Quaternion.{conjugateOf, productOf, quatTryNormalizeOf}
 use Rattle.vectors.specs.Answered.{rotateAsUnitOf}
@@ -39,7 +39,7 @@ use Rattle.rows.specs.Geometry.{epsilon, turning, endsOf, toleranceOf, d
 use Rattle.rows.specs.Geometry.{localOf, gradientRow, swingRow, angleOr, twistLocked, twistRow, alignedOf, alignRow}
 use Rattle.rows.specs.Unit.{UnitOf}
 use Rattle.rows.specs.Append.{endsAs, axisAs, relativeAs}
-use Rattle.rows.specs.AnswerLaws.{some-go, none-stop}
+use Rattle.rows.specs.AnswerLaws.{vector-go, some-go, none-stop, number-go}
 use Rattle.rows.proofs.UnitLaws.{rotate-is}
 use Rattle.rows.proofs.Constants.{zero-is, half-is, two-is, thirty-two-is, sixty-four-is, epsilon-is, ten-is, thirteen-is}
 
@@ -119,7 +119,10 @@ module _ (joint : Joint) (a b : MomentumBody) where
   unfolding endsOf
   ends-no-a h = then-stop _ h
 
-  module _ {pa : Vec3} (ha : go pa ≡ anchorOf a (joint .«frame_a» .«local_anchor»)) where
+  module _ {o : OptionVec3} {pa : Vec3} (eo : vectorOr arithmeticOverflow o ≡ anchorOf a (joint .«frame_a» .«local_anchor»)) (so : o ≡ Vector.Some pa) where
+    ha : go pa ≡ anchorOf a (joint .«frame_a» .«local_anchor»)
+    ha = vector-go eo so
+
     pub ends-no-b : over ≡ anchorOf b (joint .«frame_b» .«local_anchor») → over ≡ endsOf joint a b
     unfolding endsOf
     ends-no-b h = then-stop _ h ∙ then-go _ ha
@@ -141,15 +144,18 @@ module _ (pa pb : Vec3) where
   unfolding toleranceOf
   tolerance-no-a h = then-stop _ h
 
-  module _ {la : Float} (ha : go la ≡ tryLength pa) where
+  module _ {o : OptionF64} {la : Float} (eo : o ≡ checkedLengthOf pa) (so : o ≡ Number.Some la) where
+    la-is : go la ≡ tryLength pa
+    la-is = number-go arithmeticOverflow eo so
+
     pub tolerance-no-b : over ≡ tryLength pb → over ≡ toleranceOf pa pb
     unfolding toleranceOf
-    tolerance-no-b h = then-stop _ h ∙ then-go _ ha
+    tolerance-no-b h = then-stop _ h ∙ then-go _ la-is
 
     pub tolerance-is : {lb m : Float} → go lb ≡ tryLength pb
         → m ≡ maxOf (F 0x4040_0000_0000_0000 ⊗ F 0x3cb0_0000_0000_0000 ⊗ (la ⊕ lb)) (F 0x3d3c_25c2_6849_7682) → go m ≡ toleranceOf pa pb
     unfolding toleranceOf
-    tolerance-is {lb} hb e = ap go (e ∙ rw (thirty-two-is, epsilon-is, thirteen-is)) ∙ then-go _ hb ∙ then-go _ ha
+    tolerance-is {lb} hb e = ap go (e ∙ rw (thirty-two-is, epsilon-is, thirteen-is)) ∙ then-go _ hb ∙ then-go _ la-is
 
 -- ---- distance
 module _ (joint : Joint) (e : Ends) (lower : Float) where
@@ -157,12 +163,18 @@ module _ (joint : Joint) (e : Ends) (lower : Float) where
   unfolding distanceRow
   distance-no-length h = then-stop _ h
 
-  module _ {distance : Float} (hd : go distance ≡ tryLength (e .delta)) where
+  module _ {o : OptionF64} {distance : Float} (eo : o ≡ checkedLengthOf (e .delta)) (so : o ≡ Number.Some distance) where
+    hd : go distance ≡ tryLength (e .delta)
+    hd = number-go arithmeticOverflow eo so
+
     pub distance-no-axis : stop nonConvergent ≡ vectorOr nonConvergent (tryNormalizeOf (e .delta)) → stop nonConvergent ≡ distanceRow joint e lower
     unfolding distanceRow
     distance-no-axis h = then-stop _ h ∙ then-go _ hd
 
-    module _ {axis : Vec3} (hx : go axis ≡ vectorOr nonConvergent (tryNormalizeOf (e .delta))) where
+    module _ {p : OptionVec3} {axis : Vec3} (ep : p ≡ tryNormalizeOf (e .delta)) (sp : p ≡ Vector.Some axis) where
+      hx : go axis ≡ vectorOr nonConvergent (tryNormalizeOf (e .delta))
+      hx = some-go nonConvergent ep sp
+
       pub distance-no-tolerance : over ≡ toleranceOf (e .pa) (e .pb) → over ≡ distanceRow joint e lower
       unfolding distanceRow
       distance-no-tolerance h = then-stop _ h ∙ then-go _ hx ∙ then-go _ hd
@@ -188,15 +200,16 @@ module _ (joint : Joint) (e : Ends) (localAxis : Vec3) where
     unfolding linearRow
     linear-no-angular-a h = then-stop _ (h ∙ turn) ∙ then-go _ hx
 
-    module _ {angularA c₃ : Vec3} (ha : go angularA ≡ tryFinite d) (e₃ : c₃ ≡ crossOf (e .«arm_b») axis) where
+    module _ {o : OptionVec3} {angularA c₃ : Vec3} (eo : vectorOr arithmeticOverflow o ≡ tryFinite d) (so : o ≡ Vector.Some angularA)
+        (e₃ : c₃ ≡ crossOf (e .«arm_b») axis) where
       pub linear-no-angular-b : over ≡ tryFinite c₃ → over ≡ linearRow joint e localAxis
       unfolding linearRow
-      linear-no-angular-b h = then-stop _ (h ∙ ap tryFinite e₃) ∙ then-go _ (ha ∙ turn) ∙ then-go _ hx
+      linear-no-angular-b h = then-stop _ (h ∙ ap tryFinite e₃) ∙ then-go _ (vector-go eo so ∙ turn) ∙ then-go _ hx
 
       pub linear-is : {angularB n : Vec3} {v tolerance : Float} → go angularB ≡ tryFinite c₃ → go tolerance ≡ toleranceOf (e .pa) (e .pb)
           → n ≡ negOf axis → v ≡ dotOf (e .delta) axis → go (row-along joint n angularA axis angularB v tolerance) ≡ linearRow joint e localAxis
       unfolding linearRow
-      linear-is hb ht en ev = ap go (cc) ∙ then-go _ ht ∙ then-go _ (hb ∙ ap tryFinite e₃) ∙ then-go _ (ha ∙ turn) ∙ then-go _ hx
+      linear-is hb ht en ev = ap go (cc) ∙ then-go _ ht ∙ then-go _ (hb ∙ ap tryFinite e₃) ∙ then-go _ (vector-go eo so ∙ turn) ∙ then-go _ hx
 
 -- ---- align
 -- Vec3::Z turned, as the code has it

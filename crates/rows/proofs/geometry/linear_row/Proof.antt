@@ -12,15 +12,7 @@ returns-2 : tie.Need-returns-2
 returns-2 c = search (answers, linear-no-angular-a, single-stop, turned-go)
 
 returns-3 : tie.Need-returns-3
-returns-3 c =
-    let at-a = c .before .before .before .before .before in let at-sub = at-a .before .before .before in
-    let at-axis = at-sub .before .before .before .before in let at-turn = at-axis .before .before in
-    single-stop _
-    (linear-no-angular-b _ _ _
-    (turned-go (at-turn .before .pre .0) _ (at-turn .rotate-as-unit .ensures) (at-axis .axis .given .1))
-    (at-sub .before .before .cross .ensures) (at-sub .before .cross2 .ensures) (at-sub .sub .ensures)
-    (vector-go (at-a .before .before .finite .ensures) (at-a .angular-a .given .1))
-    (c .before .before .before .cross3 .ensures) (vector-stop (c .before .before .finite2 .ensures) (c .enum-told3 .given .1)))
+returns-3 c = search (linear-no-angular-b, single-stop, turned-go, vector-stop)
 
 returns-4 : tie.Need-returns-4
 returns-4 c =
@@ -30,7 +22,7 @@ returns-4 c =
     (linear-is _ _ _
     (turned-go (at-turn .before .pre .0) _ (at-turn .rotate-as-unit .ensures) (at-axis .axis .given .1))
     (at-sub .before .before .cross .ensures) (at-sub .before .cross2 .ensures) (at-sub .sub .ensures)
-    (vector-go (at-a .before .before .finite .ensures) (at-a .angular-a .given .1))
+    (at-a .before .before .finite .ensures) (at-a .angular-a .given .1)
     (at-b .before .before .before .cross3 .ensures) (vector-go (at-b .before .before .finite2 .ensures) (at-b .angular-b .given .1))
     (at-turn .before .pre .1) (c .before .neg .ensures) (c .dot .ensures))
 
