@@ -40,10 +40,10 @@ use Rattle.rows.specs.Geometry.{endsOf, toleranceOf, distanceRow, linear
 use Rattle.rows.specs.Geometry.{swingLocked, swingRow, twistLocked, twistRow, coneRows, alignedOf, alignRow, alignRows, turningRows, finiteValues}
 use Rattle.rows.specs.Geometry.{frameRows, motionRows, writeEqualityRows}
 use Rattle.rows.specs.Count.{rowCount}
-use Rattle.rows.specs.View.{rowsAt, Out, Kept, Filled}
+use Rattle.rows.specs.View.{rowsAt, Out, Kept}
 use Rattle.rows.specs.Answer.{refusalNumber, writtenAs, Writes}
 use Rattle.rows.specs.AnswerLaws.{written-number}
-use Rattle.rows.specs.Append.{rowAs, countOf, spanOf, Appends, Adds, Follows, followedBy}
+use Rattle.rows.specs.Append.{rowAs, countOf, spanOf, Appends, Adds, Follows, Filled, followedBy}
 use Rattle.rows.specs.Region.{kept-refl, kept-then, kept-more, tab-length}
 use Rattle.rows.proofs.UnitLaws.{no-turn}
 use Rattle.rows.proofs.CountLaws.{rows-sized}

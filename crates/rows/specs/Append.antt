@@ -1,6 +1,6 @@
 -- What the functions that make rows and write them one behind the other promise of each other.
 -- Only contracts of private functions cite this file.
-use Prim.Native.Nat.{ℕ, _+_, _*_, _≤_}
+use Prim.Native.Nat.{ℕ, _+_, _*_, _≤_, _<_}
 use mathlib.Core.Path.{_≡_}
 use mathlib.Core.List.{List, [], _∷_, _++_}
 use lib.Ieee.{Float}
@@ -107,6 +107,11 @@ pub record Adds (a b i most : ℕ) (s t : List Float) (r : Written) (defined : R
   pub kept : Kept (λ k. Out i (spanOf r) k) s t
   pub within : countOf r ≤ most
   pub is : writtenAs r t i a b ≡ defined
+
+-- t is s with f 0, .. , f (n - 1) at off
+pub record Filled (off n : ℕ) (f : ℕ → Float) (s t : List Float) : Type 0 where
+  pub kept : Kept (λ i. Out off n i) s t
+  pub there : (k : ℕ) → k < n → at t (off + k) ≡ f k
 
 -- what was written before, and more rows behind it
 abbrev pub followedBy : Result (List EqualityRow) → Result (List EqualityRow) → Result (List EqualityRow)

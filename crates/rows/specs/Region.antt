@@ -21,7 +21,8 @@ use Rattle.rows.specs.declared.geometry.Motions.the-variants.{Rod, Frame
 use Rattle.rows.specs.Motions.{motionsOf}
 use Rattle.rows.specs.Geometry.{swingLocked, twistLocked}
 use Rattle.rows.specs.Count.{oneIf, linearCount, turningCount, motionCount, rowCount}
-use Rattle.rows.specs.View.{at, vec3At, rowAt, rowsAt, Out, Kept, Filled}
+use Rattle.rows.specs.View.{at, vec3At, rowAt, rowsAt, Out, Kept}
+use Rattle.rows.specs.Append.{Filled}
 
 module _ {A : Type 0} where
   pub tab-length : (n : ℕ) (f : ℕ → A) → length (tab n f) ≡ n

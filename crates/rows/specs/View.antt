@@ -1,5 +1,5 @@
 -- Where a slice of doubles holds a row, and what a write leaves alone. A row is 14 doubles; the bodies that it joins stand beside the slice.
-use Prim.Native.Nat.{ℕ, suc, _+_, _*_, _-_, _<_, min}
+use Prim.Native.Nat.{ℕ, suc, _+_, _*_, _-_, min}
 use mathlib.Core.Path.{_≡_}
 use mathlib.Core.List.{List}
 use lib.ListN.{length}
@@ -33,8 +33,3 @@ Out a n i = min (suc i - a) (a + n - i) ≡ 0
 pub record Kept (P : ℕ → Type 0) (s t : List Float) : Type 0 where
   pub size : length t ≡ length s
   pub same : (i : ℕ) → P i → at t i ≡ at s i
-
--- t is s with f 0, .. , f (n - 1) at off
-pub record Filled (off n : ℕ) (f : ℕ → Float) (s t : List Float) : Type 0 where
-  pub kept : Kept (λ i. Out off n i) s t
-  pub there : (k : ℕ) → k < n → at t (off + k) ≡ f k

@@ -29,10 +29,10 @@ ghost use Rattle.rows.specs.Geometry.{anyLocked, halfTurned, relativeOf,
 ghost use Rattle.rows.specs.Geometry.{twistLocked, twistRow, coneRows, alignedOf, alignRow, alignRows, turningRows, finiteValues};
 ghost use Rattle.rows.specs.Geometry.{frameRows, writeEqualityRows};
 ghost use Rattle.rows.specs.Count.{oneIf, linearCount, turningCount, rowCount};
-ghost use Rattle.rows.specs.View.{vec3At, rowAt, rowsAt, Out, Kept, Filled};
+ghost use Rattle.rows.specs.View.{vec3At, rowAt, rowsAt, Out, Kept};
 ghost use Rattle.rows.specs.Answer.{Writes};
 ghost use Rattle.rows.specs.Unit.{UnitOf};
-ghost use Rattle.rows.specs.Append.{endsAs, axisAs, relativeAs, rowAs, Stored2, countOf, Room, Appends, Adds, Follows};
+ghost use Rattle.rows.specs.Append.{endsAs, axisAs, relativeAs, rowAs, Stored2, countOf, Room, Appends, Adds, Follows, Filled};
 
 // The doubles of a row.
 pub const ROW: usize = 14;

@@ -5,7 +5,7 @@ use mathlib.Core.List.{List}
 use lib.Ieee.{Float}
 use Rattle.arith.specs.Flow.{tab}
 use Rattle.rows.specs.View.{at, Kept}
-pub use Rattle.rows.specs.View.{Filled}
+pub use Rattle.rows.specs.Append.{Filled}
 
 -- the n doubles at off
 abbrev pub vecAt : List Float → ℕ → ℕ → List Float

@@ -2,7 +2,7 @@
 use Prim.Native.Nat.{_-_, _≤_}
 use Rattle.arith.specs.Real.{ratio}
 use Rattle.rows.proofs.Constants.{zero-is}
-use Rattle.rows.specs.View.{Filled}
+use Rattle.rows.specs.Append.{Filled}
 use Rattle.rows.specs.Region.{filled-none, filled-more, filled-all}
 use lib.ListN.{length, length-set}
 use mathlib.Core.Path.{_≡_, refl}
