@@ -77,6 +77,12 @@ CONE-TWIST = 149
 abbrev pub JOINT : ℕ
 JOINT = 117
 
+-- the doubles of a body, and of the table of sixteen
+abbrev pub DOUBLES : ℕ
+DOUBLES = 26
+abbrev pub TABLE : ℕ
+TABLE = 16 * DOUBLES
+
 abbrev pub jointSize : ℕ → ℕ
 jointSize kind = cond (eqb kind 4) DISTANCE (cond (eqb kind 5) CONE-TWIST JOINT)
 
@@ -95,7 +101,7 @@ double s i = ofBits binary64 (word s i)
 
 -- ---- the records at the head of s, behind their marks
 unfoldable pub bodyOf : List ℕ → List Float
-bodyOf s = tab 26 (λ k. double s (NUMBERS + 8 * k))
+bodyOf s = tab DOUBLES (λ k. double s (NUMBERS + 8 * k))
 
 abbrev pub frameAt : List ℕ → ℕ → JointFrame
 frameAt s i =
@@ -171,7 +177,7 @@ withTimeStep s t =
 unfoldable pub withBody : List ℕ → Plan → Plan
 withBody s t =
     record {
-      dt = t .dt; «has_dt» = t .«has_dt»; bodies = paste (t .bodies) (26 * t .«body_count») (bodyOf s) 26;
+      dt = t .dt; «has_dt» = t .«has_dt»; bodies = paste (t .bodies) (DOUBLES * t .«body_count») (bodyOf s) DOUBLES;
       «body_count» = t .«body_count» + 1; joints = t .joints; «joint_count» = t .«joint_count»;
     }
 
@@ -220,7 +226,7 @@ blank =
 unfoldable pub emptyOf : Plan
 emptyOf =
     record {
-      dt = ofBits binary64 0; «has_dt» = false; bodies = replicate 416 (ofBits binary64 0); «body_count» = 0;
+      dt = ofBits binary64 0; «has_dt» = false; bodies = replicate TABLE (ofBits binary64 0); «body_count» = 0;
       joints = replicate 16 (record { «body_a» = 0; «body_b» = 0; «frame_a» = blank; «frame_b» = blank; kind = Ball });
       «joint_count» = 0;
     }

@@ -17,7 +17,7 @@ use Rattle.plan.specs.declared.reader.ReadOutcome.the-variants.{Read, No
 use Rattle.plan.specs.declared.reader.Found.{Found}
 use Rattle.arith.specs.Flow.{tab}
 use Rattle.plan.specs.declared.reader.Found.the-variants as found
-use Rattle.plan.specs.File.{TIME-STEP, BODY, KIND, FRAME-A, DISTANCE, CONE-TWIST, JOINT}
+use Rattle.plan.specs.File.{TIME-STEP, BODY, KIND, FRAME-A, DISTANCE, CONE-TWIST, JOINT, TABLE}
 use Rattle.plan.specs.File.{numberOf, byte, marked, jointSize, JointThere, DT, BD, JT, timeStepHead, bodyHead, jointHead, headOf, endedOf}
 use Rattle.plan.specs.File.{nextOf, readOn, readOf, cleared, withTimeStep, withBody, withJoint, bodyOf, jointOf, emptyOf}
 
@@ -115,7 +115,7 @@ module _ (s : List ℕ) (seen : Bool) (bodies joints : ℕ) where
 pub record Kept (tables t : Plan) : Type 0 where
   pub body-room : t .«body_count» ≤ 16
   pub joint-room : t .«joint_count» ≤ 16
-  pub body-length : length (t .bodies) ≡ 416
+  pub body-length : length (t .bodies) ≡ TABLE
   pub joint-length : length (t .joints) ≡ 16
   pub bodies-after : drop (26 * t .«body_count») (t .bodies) ≡ drop (26 * t .«body_count») (tables .bodies)
   pub joints-after : drop (t .«joint_count») (t .joints) ≡ drop (t .«joint_count») (tables .joints)
@@ -197,7 +197,7 @@ module _ (tables : Plan) where
       (head-room s (t .«has_dt») (t .«body_count») (t .«joint_count»)) k (λ j u q. kept-on n (drop j s) u q)
 
   -- a reading into tables of sixteen and sixteen
-  pub reading-keeps : (file : List ℕ) → length (tables .bodies) ≡ 416 → length (tables .joints) ≡ 16 → Kept-or-same tables (readOf file tables)
+  pub reading-keeps : (file : List ℕ) → length (tables .bodies) ≡ TABLE → length (tables .joints) ≡ 16 → Kept-or-same tables (readOf file tables)
   unfolding readOf
   reading-keeps file h g =
       kept-on (suc (length file)) file (cleared tables)
@@ -208,6 +208,6 @@ pub read-few : (file : List ℕ) {r : Reading} {n : ℕ} → r ≡ readOf file e
     → (r .plan .«body_count» ≤ 16) × (r .plan .«joint_count» ≤ 16)
 unfolding emptyOf
 read-few file {r} e i z =
-    let k : Kept-or-same emptyOf (readOf file emptyOf) = reading-keeps emptyOf file (length-replicate 416 (ofBits binary64 0)) (simp length-replicate) in
+    let k : Kept-or-same emptyOf (readOf file emptyOf) = reading-keeps emptyOf file (length-replicate TABLE (ofBits binary64 0)) (simp length-replicate) in
     let q : Kept emptyOf (r .plan) = subst (λ (x : Reading). numberOf (x .outcome) ≡ 0 → Kept emptyOf (x .plan)) (sym e) (k .read) (sym i ∙ z) in
     (q .body-room, q .joint-room)

@@ -41,3 +41,8 @@ pub const DISTANCE: usize = 125;
 pub const CONE_TWIST: usize = 149;
 
 pub const JOINT: usize = 117;
+
+// The table of bodies: sixteen of 26 doubles.
+pub const DOUBLES: usize = 26;
+
+pub const TABLE: usize = 16 * DOUBLES;

@@ -18,7 +18,7 @@ use vectors::vector::Vec3;
 pub struct Plan {
     pub dt: f64,
     pub has_dt: bool,
-    pub bodies: [f64; 416],
+    pub bodies: [f64; layout::TABLE],
     pub body_count: usize,
     pub joints: [Joint; 16],
     pub joint_count: usize,
@@ -89,7 +89,7 @@ pub fn empty() -> Plan
     Plan {
         dt: 0.0,
         has_dt: false,
-        bodies: [0.0; 416],
+        bodies: [0.0; layout::TABLE],
         body_count: 0,
         joints: [joint; 16],
         joint_count: 0,
@@ -232,13 +232,13 @@ fn filled(file: &[u8], tables: Plan, notes: Notes) -> Plan
 
 // The bodies that begin at these places of the file.
 fn put_bodies(table: &mut [f64], file: &[u8], places: [usize; 16], count: usize)
-    requires { ⌜ (count ≤ 16) × (length (now table) ≡ 416) ⌝ }
+    requires { ⌜ (count ≤ 16) × (length (now table) ≡ File.TABLE) ⌝ }
     requires { ⌜ Noting.All (Noting.BodyAt (now file)) places count ⌝ }
     ensures { λ _. ⌜ now (table .exit) ≡ Noting.bodiesFrom (now (file .entry)) places count (now (table .entry)) ⌝ }
 {
     for k in 0..count {
         let at = places[k];
-        put_body(table, 26 * k, &file[at..]);
+        put_body(table, layout::DOUBLES * k, &file[at..]);
     }
 }
 

@@ -12,13 +12,13 @@ use rows::geometry::Kind;
 use vectors::quaternion::Quat;
 use vectors::vector::Vec3;
 
-// The 26 doubles of the body at the head of the file.
+// The doubles of the body at the head of the file.
 pub(crate) fn put_body(bodies: &mut [f64], at: usize, file: &[u8])
-    requires { ⌜ (File.BODY ≤ length (now file)) × (at + 26 ≤ length (now bodies)) ⌝ }
-    ensures { λ _. ⌜ now (bodies .exit) ≡ paste (now (bodies .entry)) at (File.bodyOf (now (file .entry))) 26 ⌝ }
+    requires { ⌜ (File.BODY ≤ length (now file)) × (at + File.DOUBLES ≤ length (now bodies)) ⌝ }
+    ensures { λ _. ⌜ now (bodies .exit) ≡ paste (now (bodies .entry)) at (File.bodyOf (now (file .entry))) File.DOUBLES ⌝ }
 {
     let mut i = 0;
-    while i < 26 {
+    while i < layout::DOUBLES {
         bodies[at + i] = double_at(file, layout::NUMBERS + 8 * i);
         i += 1;
     }

@@ -6,8 +6,9 @@ use native.Mathlib.Omega.{arith}
 use lib.ListN.{length, take, drop, length-append}
 use lib.Seq.{length-take-le, take-at}
 use lib.Ieee.{Float}
+use Rattle.plan.specs.File.{TABLE}
 
-module _ (table : List Float) (n : ℕ) (long : length table ≡ 416) (few : n ≤ 16) where
+module _ (table : List Float) (n : ℕ) (long : length table ≡ TABLE) (few : n ≤ 16) where
   pub part-within : 26 * n ≤ length table
   part-within = omega arith
 

@@ -15,14 +15,14 @@ use Rattle.step.specs.Step.{Stepped}
 use Rattle.step.specs.Answered.{Answered}
 use Rattle.plan.specs.declared.reader.Plan.{Plan}
 use Rattle.plan.specs.declared.reader.Reading.{Reading}
-use Rattle.plan.specs.File.{numberOf, emptyOf, readOf}
+use Rattle.plan.specs.File.{numberOf, emptyOf, readOf, TABLE}
 use Rattle.report.specs.Text.{Puts, reportOf, roomOf}
 use Rattle.report.specs.Pose.{Posed, stepOf, posedAfter, posedBy, poseOf, ROOM, poseLength, poseOut, poseScratch}
 use Rattle.report.proofs.Parts.{back, back-part}
 use Rattle.report.proofs.Texts.{Reports, report-puts, same-length, puts-as}
 
 -- ---- a plan that was read
-module _ (plan : Plan) (scratch : List Float) (few : plan .«body_count» ≤ 16) (long : length (plan .bodies) ≡ 416) where
+module _ (plan : Plan) (scratch : List Float) (few : plan .«body_count» ≤ 16) (long : length (plan .bodies) ≡ TABLE) where
   abbrev used : ℕ
   used = 26 * plan .«body_count»
 

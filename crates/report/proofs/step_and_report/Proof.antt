@@ -5,11 +5,12 @@ use lib.ListN.{length}
 use Rattle.report.proofs.Parts.{part-within, part-length, back-within, back-length}
 use Rattle.report.proofs.Poses.{step-scratch, step-puts}
 use borrow.Author.Needs.{needs}
+use Rattle.plan.specs.File.{TABLE}
 use Rattle.report.proofs.step_and_report.Statement.{statement}
 use Rattle.report.proofs.step_and_report.Tie as tie
 
 -- the array in the plan
-long : (c : tie.Start) → length (c .args .plan .bodies) ≡ 416
+long : (c : tie.Start) → length (c .args .plan .bodies) ≡ TABLE
 long c = search needs
 
 array-borrow-prefix-bodies : tie.Need-array-borrow-prefix-bodies

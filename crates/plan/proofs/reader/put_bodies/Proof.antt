@@ -7,11 +7,12 @@ use lib.ListN.{length, getD}
 use Rattle.arith.specs.FlowLaws.{turns-none, turns-end}
 use Rattle.plan.specs.Noting.{bodiesFrom}
 use Rattle.plan.proofs.Readings.{body-within, body-there, bodies-more}
+use Rattle.plan.specs.File.{TABLE}
 use Rattle.plan.proofs.reader.put_bodies.Statement.{statement}
 use Rattle.plan.proofs.reader.put_bodies.Tie as tie
 
 abbrev Inv-loop : tie.InvT-loop
-Inv-loop table₀ file count places k₀ table k = (k ≤ count) × (length table ≡ 416) × (table ≡ bodiesFrom file places k table₀)
+Inv-loop table₀ file count places k₀ table k = (k ≤ count) × (length table ≡ TABLE) × (table ≡ bodiesFrom file places k table₀)
 
 abbrev μ-loop : tie.MeasureT-loop
 μ-loop table₀ file count places k₀ table k = count - k
