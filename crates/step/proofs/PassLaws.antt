@@ -8,7 +8,8 @@ use native.Mathlib.Nat.{zero-add}
 use lib.Ieee.{Float}
 use Rattle.arith.specs.Flow.{Turn, go, stop}
 use Rattle.arith.specs.Run.{ran, after, over, try, begin, again, leaveIf, _>>=_, upTo}
-use Rattle.arith.specs.RunLaws.{run-is, then-go, then-stop, try-go, try-stop, leave-yes, leave-no, Reached, reached-none, reached-again, reached-over, reached-spent}
+use Rattle.arith.specs.RunLaws.{run-is, then-go, then-stop, try-go, try-stop, leave-yes, leave-no}
+use Rattle.arith.specs.RunLaws.{Reached, reached-none, reached-again, reached-over, reached-spent}
 use Rattle.rows.specs.Fault.{nonConvergent, Result}
 use Rattle.rows.specs.View.{Kept}
 use Rattle.rows.specs.Region.{kept-refl, kept-then}
