@@ -24,7 +24,7 @@ use Rattle.solves.specs.Region.{Does}
 use Rattle.solves.specs.View.{ROWS, rowOn, rowsOn}
 use Rattle.solves.specs.Layout.{ROW-TABLE}
 use Rattle.step.specs.Checks.{jointIn}
-use Rattle.step.specs.Ready.{Joined, Spread}
+use Rattle.step.specs.Joined.{Joined, Spread}
 use Rattle.step.specs.View.{startBodyAt, candidateAt}
 use Rattle.step.specs.Bodies.{jointRows, writeRows}
 use Rattle.step.specs.RunView.{bodiesAt, rowsBefore, Sides}

@@ -15,7 +15,7 @@ use Rattle.rows.specs.Answer.{Writes}
 use Rattle.rows.specs.Region.{count-most}
 use Rattle.solves.specs.View.{ROWS, Rows}
 use Rattle.step.specs.Layout.{USED}
-use Rattle.step.specs.Ready.{Joined, RowBodies, Spread}
+use Rattle.step.specs.Joined.{Joined, RowBodies, Spread}
 
 -- a joint has at most six rows
 pub written-most : {joint : Joint} {a b : MomentumBody} {i : ℕ} {s t : List Float} {r : Written} → Writes joint a b i s t r → (n : ℕ)

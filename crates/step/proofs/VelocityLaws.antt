@@ -38,7 +38,7 @@ use Rattle.solves.specs.DoesLaws.{number-yes, number-no, does-stop, does-then, 
 use Rattle.step.specs.Layout.{IMPULSES, CANDIDATE, STATES}
 use Rattle.step.specs.Bodies.{bodyIn, velocityOf, velocityRhs, compatibleOf, kickBodies, reactionOf}
 use Rattle.step.specs.Step.{velocityPass, velocityLoop}
-use Rattle.step.specs.RunView.{Moves, MotionAt, Remembers, Correcting, passedAs, passedAfter, correction}
+use Rattle.step.specs.RunView.{MotionOf, MotionAt, Remembers, Correcting, passedAs, passedAfter, correction}
 use Rattle.step.specs.declared.passes.Passed.{Passed}
 use Rattle.solves.specs.RegionLaws.{vec-at}
 use Rattle.step.specs.View.{startBodyAt, candidateAt, candidatesAt, movedTo}
@@ -50,7 +50,7 @@ use Rattle.step.proofs.MotionLaws.{kick-moved}
 use Rattle.step.proofs.PassLaws.{unsolved, made, pass-fails, pass-met, pass-corrects}
 
 -- velocity: the rate of a row from the motions of its bodies
-module _ (row : EqualityRow) (x y : MomentumBody) {a b : Motion} (ma : Moves x a) (mb : Moves y b) where
+module _ (row : EqualityRow) (x y : MomentumBody) {a b : Motion} (ma : MotionOf x a) (mb : MotionOf y b) where
   pub rate-without-a : a .angular ≡ None → stop arithmeticOverflow ≡ velocityOf row x y
   unfolding velocityOf
   rate-without-a h = then-stop _ (vector-stop (ma .angular-is) h)
@@ -92,14 +92,14 @@ motion-made s k e l w =
 -- motion_again
 pub motion-known : {s : List Float} {k : ℕ} {m : Motion} → Remembers s m → m .body ≡ k → k < 16 → MotionAt s k m
 motion-known {s} {k} {m} known e h =
-    record { body-is = e; moves = subst (λ (j : ℕ). Moves (candidateAt s j) m) e (known .moves (let l : m .body < 16 = omega arith in l)) }
+    record { body-is = e; moves = subst (λ (j : ℕ). MotionOf (candidateAt s j) m) e (known .moves (let l : m .body < 16 = omega arith in l)) }
 
 pub no-body-remembered : (s : List Float) {m : Motion} → m .body ≡ 16 → Remembers s m
 no-body-remembered s {m} e = record { moves = λ h. absurd (let no : ⊥ = omega arith in no) }
 
 -- it stays so when a rate is put into its place
 pub motion-remembered : {s : List Float} {j : ℕ} {m : Motion} (k : ℕ) (v : Float) → k < 96 → MotionAt s j m → Remembers (set s (RHS + k) v) m
-motion-remembered {s} {j} {m} k v l known = record { moves = λ h. subst (λ (body : MomentumBody). Moves body m) (sym (same h ∙ here)) (known .moves) }
+motion-remembered {s} {j} {m} k v l known = record { moves = λ h. subst (λ (body : MomentumBody). MotionOf body m) (sym (same h ∙ here)) (known .moves) }
   where
     here : candidateAt s (m .body) ≡ candidateAt s j
     here = ap (candidateAt s) (known .body-is)
@@ -286,7 +286,8 @@ module _ (cyclic : Bool) {s : List Float} {ia ib : List ℕ} (table : Table) (pr
   abbrev turn : Counting (Turn (List MomentumBody) (List MomentumBody))
   turn = passOver cyclic ia ib table s (candidatesAt s (table .bodies))
 
-  within : Does Correcting s t (ranAs r (vecAt t RHS (table .rows))) (velocityRhs (rowsOn ia ib s (table .place) (table .rows)) (candidatesAt s (table .bodies)))
+  within : Does Correcting s t (ranAs r (vecAt t RHS (table .rows)))
+      (velocityRhs (rowsOn ia ib s (table .place) (table .rows)) (candidatesAt s (table .bodies)))
   within = does-more (λ i x. omega (arith, x .0)) d
 
   -- the rates fail

@@ -22,7 +22,7 @@ use Rattle.step.specs.Layout.{RECORD, SCRATCH}
 use Rattle.step.specs.Records.{recordAt, bodyCount}
 use Rattle.step.specs.Checks.{numberOf, timeStepOk, bodiesFit, bodyInRange, hasInverse, joinsTwo, jointOk, jointIn}
 use Rattle.step.specs.Checks.{sizesOr, bodiesOr, jointsOr, refusalOf, isAccepted}
-use Rattle.step.specs.Ready.{Joined, Sizes}
+use Rattle.step.specs.Joined.{Joined, Sizes}
 
 -- none of refusals 1 to 9
 pub record Ready (bodies : List Float) (joints : List Joint) (count : ℕ) (dt : Float) (scratch : ℕ) : Type 0 where

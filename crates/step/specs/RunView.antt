@@ -35,7 +35,7 @@ use Rattle.step.specs.Checks.{jointIn}
 use Rattle.step.specs.Layout.{IMPULSES, START, CANDIDATE, STATES, USED}
 use Rattle.step.specs.View.{candidateAt, startBodiesAt, candidatesAt}
 use Rattle.step.specs.Bodies.{Job, Started, Found, rhsOf, addImpulses, reactionOf}
-use Rattle.step.specs.Ready.{Joined}
+use Rattle.step.specs.Joined.{Joined}
 
 -- ---- views
 -- the candidates where bodies were moved, else those of the start
@@ -72,18 +72,18 @@ pub record Sides (joints : List Joint) (count : ℕ) (ia ib : List ℕ) : Type 0
   pub b-is : (k i : ℕ) → k < count → i < rowCount (jointIn joints k .kind) → getD ib (rowsBefore joints k + i) 0 ≡ jointIn joints k .«body_b»
 
 -- the motion is the body's: its velocity, and its angular velocity where that is finite
-pub record Moves (body : MomentumBody) (motion : Motion) : Type 0 where
+pub record MotionOf (body : MomentumBody) (motion : Motion) : Type 0 where
   pub linear-is : motion .linear ≡ divOf (body .momentum) (body .mass)
   pub angular-is : vectorOr arithmeticOverflow (motion .angular) ≡ omegaOf body
 
 -- of candidate k
 pub record MotionAt (s : List Float) (k : ℕ) (motion : Motion) : Type 0 where
   pub body-is : motion .body ≡ k
-  pub moves : Moves (candidateAt s k) motion
+  pub moves : MotionOf (candidateAt s k) motion
 
 -- of the candidate that it names, if it names one
 pub record Remembers (s : List Float) (motion : Motion) : Type 0 where
-  pub moves : motion .body < 16 → Moves (candidateAt s (motion .body)) motion
+  pub moves : motion .body < 16 → MotionOf (candidateAt s (motion .body)) motion
 
 -- ---- what a run asks for
 -- rows in a table, and a scratch as long as a step's

@@ -66,9 +66,9 @@ ghost use Rattle.step.specs.View.{startBodyAt, candidateAt, startBodiesA
 ghost use Rattle.step.specs.RunView.{bodiesAt, impulsesAt, candidateTable, jobFor, rowsBefore, Sides, Ours, Starting};
 ghost use Rattle.step.specs.RunView.{Joins, massAs, leftAs, impulsesBy};
 ghost use Rattle.step.specs.Says.{Leaves, Writes, Impels, Finds, Tries, Meets, Finishes, Starts};
-ghost use Rattle.step.specs.Ready.{Joined, RowBodies, Spread};
+ghost use Rattle.step.specs.Joined.{Joined, RowBodies, Spread};
 
-// What a run is about, beside its joints: how many there are, the time step, and whether there are at least as many as bodies.
+// The definition's Job without its joints: how many there are, the time step, and whether there are at least as many as bodies.
 pub(crate) struct Task {
     pub count: usize,
     pub dt: f64,

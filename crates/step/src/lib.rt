@@ -26,7 +26,7 @@ ghost use Rattle.solves.specs.Layout.{BODIES-MOST};
 ghost use Rattle.step.specs.Layout.{RECORD, SCRATCH, USED};
 ghost use Rattle.step.specs.Records.{bodyCount};
 ghost use Rattle.step.specs.Checks.{numberOf};
-ghost use Rattle.step.specs.Ready.{Joined};
+ghost use Rattle.step.specs.Joined.{Joined};
 ghost use Rattle.step.specs.View.{statesAt};
 ghost use Rattle.step.specs.Step.{settled, runFor};
 ghost use Rattle.step.specs.SettleView.{Settles, Reports};

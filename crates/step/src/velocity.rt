@@ -36,7 +36,7 @@ ghost use Rattle.step.specs.Layout.{CANDIDATE, USED, STATES};
 ghost use Rattle.step.specs.Bodies.{velocityOf, velocityRhs, compatibleOf, kickBodies, reactionOf};
 ghost use Rattle.step.specs.Step.{velocityPass, velocityLoop};
 ghost use Rattle.step.specs.View.{candidatesAt};
-ghost use Rattle.step.specs.RunView.{candidatesOf, Moves, MotionAt, Remembers, Ours, Correcting, kicksBy};
+ghost use Rattle.step.specs.RunView.{candidatesOf, MotionOf, MotionAt, Remembers, Ours, Correcting, kicksBy};
 ghost use Rattle.step.specs.Says.{Leaves, Kicks, Rests};
 
 // The number of no body: there are at most 16.
@@ -84,7 +84,7 @@ fn motion_again(s: &[f64], k: usize, last: Motion) -> Motion
 
 // The rate of a row, from the motions of its bodies.
 fn velocity(row: EqualityRow, a: Motion, b: Motion) -> Sum
-    ensures { λ r. ⌜ ((x y : MomentumBody) → Moves x a → Moves y b → sumAs r ≡ velocityOf row x y) ⌝ }
+    ensures { λ r. ⌜ ((x y : MomentumBody) → MotionOf x a → MotionOf y b → sumAs r ≡ velocityOf row x y) ⌝ }
 {
     let turned_a = a.angular;
     let OptionVec3::Some(wa) = turned_a else {

@@ -35,5 +35,5 @@ returns-4 c =
 pub settle-spec : {M : Type 1} → statement M
 settle-spec =
     tie.close (tie.spec
-      (λ c. search needs) (λ c κs. search needs) (λ c κs. search needs) (λ c. search needs) returns
-      (λ c. search needs) (λ c. search needs) returns-2 returns-3 returns-4)
+    (λ c. search needs) (λ c κs. search needs) (λ c κs. search needs) (λ c. search needs) returns
+    (λ c. search needs) (λ c. search needs) returns-2 returns-3 returns-4)

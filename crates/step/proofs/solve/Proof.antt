@@ -36,16 +36,11 @@ slice-aggregate-solve-in c =
 solve-in-requires : tie.Need-solve-in-requires
 solve-in-requires c κs =
     let at-if1 = c .before .before in let at-accepted = at-if1 .before in let at-refusal = at-accepted .before in
-    let at-entry = at-refusal .before .before .before .before in (
-      take-long SCRATCH (at-entry .args .scratch .now)
-          (run-ready (now (at-entry .args .bodies)) (at-entry .args .joints) (at-entry .args .count) (at-entry .args .dt) (now (at-entry .args .scratch))
-          (at-refusal .refusal .ensures) (at-accepted .accepted .ensures) (at-if1 .if1 .left) .room),
-      run-ready (now (at-entry .args .bodies)) (at-entry .args .joints) (at-entry .args .count) (at-entry .args .dt) (now (at-entry .args .scratch))
-          (at-refusal .refusal .ensures) (at-accepted .accepted .ensures) (at-if1 .if1 .left) .whole,
-      ready-joined
-          (run-ready (now (at-entry .args .bodies)) (at-entry .args .joints) (at-entry .args .count) (at-entry .args .dt) (now (at-entry .args .scratch))
-          (at-refusal .refusal .ensures) (at-accepted .accepted .ensures) (at-if1 .if1 .left)),
-    )
+    let at-entry = at-refusal .before .before .before .before in
+    let ready =
+    run-ready (now (at-entry .args .bodies)) (at-entry .args .joints) (at-entry .args .count) (at-entry .args .dt) (now (at-entry .args .scratch))
+    (at-refusal .refusal .ensures) (at-accepted .accepted .ensures) (at-if1 .if1 .left) in
+    (take-long SCRATCH (at-entry .args .scratch .now) (ready .room), ready .whole, ready-joined ready)
 
 returns-2 : tie.Need-returns-2
 returns-2 c =
@@ -60,5 +55,5 @@ returns-2 c =
 pub solve-spec : {M : Type 1} → statement M
 solve-spec =
     tie.close (tie.spec
-      (λ c κs. search needs) (λ c κs. search needs) (λ c. search needs) returns slice-relend-prefix-solve-in
-      slice-aggregate-solve-in solve-in-requires (λ c. search needs) (λ c. search needs) returns-2)
+    (λ c κs. search needs) (λ c κs. search needs) (λ c. search needs) returns slice-relend-prefix-solve-in
+    slice-aggregate-solve-in solve-in-requires (λ c. search needs) (λ c. search needs) returns-2)

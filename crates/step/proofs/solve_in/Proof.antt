@@ -20,5 +20,5 @@ returns c =
 pub solve-in-spec : {M : Type 1} → statement M
 solve-in-spec =
     tie.close (tie.spec
-      (λ c κs. search needs) (λ c κs. search needs) (λ c κs. omega arith) (λ c. search needs)
-      (λ c. search needs) returns)
+    (λ c κs. search needs) (λ c κs. search needs) (λ c κs. omega arith) (λ c. search needs)
+    (λ c. search needs) returns)

@@ -9,7 +9,7 @@ use Rattle.step.proofs.bodies.store4.Tie as tie
 pub store4-spec : {M : Type 1} → statement M
 store4-spec =
     tie.close (tie.spec
-      (λ c. search needs) (λ c. search needs) (λ c. search needs) (λ c. search needs)
-      (λ c. simp length-set (omega arith)) (λ c. search needs) (λ c. search needs)
-      (λ c. simp length-set (omega arith)) (λ c. search needs) (λ c. search needs)
-      (λ c. simp length-set (omega arith)) (λ c. search needs) (λ c. stored4 _ _ _ (c .pre)))
+    (λ c. search needs) (λ c. search needs) (λ c. search needs) (λ c. search needs)
+    (λ c. simp length-set (omega arith)) (λ c. search needs) (λ c. search needs)
+    (λ c. simp length-set (omega arith)) (λ c. search needs) (λ c. search needs)
+    (λ c. simp length-set (omega arith)) (λ c. search needs) (λ c. stored4 _ _ _ (c .pre)))

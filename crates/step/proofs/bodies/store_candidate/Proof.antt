@@ -13,4 +13,4 @@ returns c =
 pub store-candidate-spec : {M : Type 1} → statement M
 store-candidate-spec =
     tie.close (tie.spec
-      (λ c. search needs) (λ c. search needs) (λ c κs. search needs) (λ c. search needs) returns)
+    (λ c. search needs) (λ c. search needs) (λ c κs. search needs) (λ c. search needs) returns)

@@ -14,5 +14,5 @@ returns c =
 pub store-fixed-spec : {M : Type 1} → statement M
 store-fixed-spec =
     tie.close (tie.spec
-      (λ c. search needs) (λ c κs. search needs) (λ c. search needs) (λ c κs. search needs) (λ c. search needs)
-      (λ c. search needs) (λ c. simp length-set (omega arith)) returns)
+    (λ c. search needs) (λ c κs. search needs) (λ c. search needs) (λ c κs. search needs) (λ c. search needs)
+    (λ c. search needs) (λ c. simp length-set (omega arith)) returns)

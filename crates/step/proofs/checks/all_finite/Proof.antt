@@ -31,6 +31,6 @@ loop-again c =
 pub all-finite-spec : {M : Type 1} → statement M
 all-finite-spec =
     tie.close (tie.spec
-      Inv-loop μ-loop (λ c. (omega arith, refl, every-none _)) (λ c. omega arith) (λ c. omega arith)
-      (λ c κs. omega arith) returns (λ c. omega arith) (λ c. omega arith) loop-again
-      (λ c. every-end _ (omega arith) (omega arith) (c .before .loop .inv .2)))
+    Inv-loop μ-loop (λ c. (omega arith, refl, every-none _)) (λ c. omega arith) (λ c. omega arith)
+    (λ c κs. omega arith) returns (λ c. omega arith) (λ c. omega arith) loop-again
+    (λ c. every-end _ (omega arith) (omega arith) (c .before .loop .inv .2)))

@@ -44,5 +44,5 @@ returns-4 c = stays _ (stays _ (fails _ (within-at (c .before .within .ensures) 
 pub body-in-range-spec : {M : Type 1} → statement M
 body-in-range-spec =
     tie.close (tie.spec
-      (λ c κs. search needs) (λ c κs. search needs) (λ c κs. search needs) (λ c κs. search needs) returns
-      returns-2 returns-3 returns-4)
+    (λ c κs. search needs) (λ c κs. search needs) (λ c κs. search needs) (λ c κs. search needs) returns
+    returns-2 returns-3 returns-4)

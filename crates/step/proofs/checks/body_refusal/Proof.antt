@@ -38,4 +38,4 @@ returns-4 c =
 pub body-refusal-spec : {M : Type 1} → statement M
 body-refusal-spec =
     tie.close (tie.spec
-      (λ c κs. search needs) returns (λ c κs. search needs) returns-2 (λ c κs. search needs) returns-3 returns-4)
+    (λ c κs. search needs) returns (λ c κs. search needs) returns-2 (λ c κs. search needs) returns-3 returns-4)

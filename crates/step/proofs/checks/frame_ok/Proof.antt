@@ -24,4 +24,4 @@ returns-3 c = stays _ (fails _ (c .before .is-finite .ensures) (c .if1 .left))
 pub frame-ok-spec : {M : Type 1} → statement M
 frame-ok-spec =
     tie.close (tie.spec
-      (λ c κs. search needs) (λ c κs. search needs) (λ c κs. search needs) returns returns-2 returns-3)
+    (λ c κs. search needs) (λ c κs. search needs) (λ c κs. search needs) returns returns-2 returns-3)

@@ -22,5 +22,5 @@ returns-5 c = inverted-as _ (c .before .before .inverse-spd .ensures) (c .enum-t
 pub has-inverse-spec : {M : Type 1} → statement M
 has-inverse-spec =
     tie.close (tie.spec
-      (λ c κs. search needs) (λ c. search needs) (λ c. search needs) (λ c. search needs) (λ c. search needs)
-      (λ c. search needs) returns returns-2 returns-3 returns-4 returns-5)
+    (λ c κs. search needs) (λ c. search needs) (λ c. search needs) (λ c. search needs) (λ c. search needs)
+    (λ c. search needs) returns returns-2 returns-3 returns-4 returns-5)

@@ -33,6 +33,6 @@ loop-again c =
 pub inertias-invert-spec : {M : Type 1} → statement M
 inertias-invert-spec =
     tie.close (tie.spec
-      Inv-loop μ-loop (λ c. (omega arith, every-none _)) (λ c κs. omega arith) (λ c κs. omega arith) returns
-      (λ c. omega arith) (λ c. omega arith) loop-again
-      (λ c. every-end _ (omega arith) (omega arith) (c .before .loop .inv .1)))
+    Inv-loop μ-loop (λ c. (omega arith, every-none _)) (λ c κs. omega arith) (λ c κs. omega arith) returns
+    (λ c. omega arith) (λ c. omega arith) loop-again
+    (λ c. every-end _ (omega arith) (omega arith) (c .before .loop .inv .1)))

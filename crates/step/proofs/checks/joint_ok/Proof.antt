@@ -22,4 +22,4 @@ returns-3 c = stays _ (fails _ (c .before .frame-ok .ensures) (c .if1 .left))
 pub joint-ok-spec : {M : Type 1} → statement M
 joint-ok-spec =
     tie.close (tie.spec
-      (λ c κs. search needs) (λ c κs. search needs) (λ c κs. search needs) returns returns-2 returns-3)
+    (λ c κs. search needs) (λ c κs. search needs) (λ c κs. search needs) returns returns-2 returns-3)

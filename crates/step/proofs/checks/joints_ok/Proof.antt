@@ -26,6 +26,6 @@ loop-again c =
 pub joints-ok-spec : {M : Type 1} → statement M
 joints-ok-spec =
     tie.close (tie.spec
-      Inv-loop μ-loop (λ c. (omega arith, every-none _)) (λ c. omega arith) (λ c. omega arith)
-      (λ c κs. omega arith) returns (λ c. omega arith) (λ c. omega arith) loop-again
-      (λ c. every-end _ (omega arith) (omega arith) (c .before .loop .inv .1)))
+    Inv-loop μ-loop (λ c. (omega arith, every-none _)) (λ c. omega arith) (λ c. omega arith)
+    (λ c κs. omega arith) returns (λ c. omega arith) (λ c. omega arith) loop-again
+    (λ c. every-end _ (omega arith) (omega arith) (c .before .loop .inv .1)))

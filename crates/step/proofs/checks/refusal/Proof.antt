@@ -35,5 +35,5 @@ returns-3 c =
 pub refusal-spec : {M : Type 1} → statement M
 refusal-spec =
     tie.close (tie.spec
-      (λ c κs. search needs) (λ c κs. search needs) returns (λ c κs. search needs) (λ c κs. search needs)
-      returns-2 joint-refusal-requires returns-3)
+    (λ c κs. search needs) (λ c κs. search needs) returns (λ c κs. search needs) (λ c κs. search needs)
+    returns-2 joint-refusal-requires returns-3)

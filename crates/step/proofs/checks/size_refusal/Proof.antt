@@ -48,4 +48,4 @@ returns-5 c =
 pub size-refusal-spec : {M : Type 1} → statement M
 size-refusal-spec =
     tie.close (tie.spec
-      (λ c κs. search needs) returns (λ c κs. search needs) returns-2 returns-3 returns-4 returns-5)
+    (λ c κs. search needs) returns (λ c κs. search needs) returns-2 returns-3 returns-4 returns-5)

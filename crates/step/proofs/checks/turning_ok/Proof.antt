@@ -11,5 +11,5 @@ returns-3 c = c .cone-ok .ensures ∙ ap turningOk (sym (c .before .before .turn
 pub turning-ok-spec : {M : Type 1} → statement M
 turning-ok-spec =
     tie.close (tie.spec
-      (λ c. search needs) (λ c. search needs) (λ c. search needs) (λ c κs. search needs) (λ c. search needs)
-      (λ c. search needs) returns-3)
+    (λ c. search needs) (λ c. search needs) (λ c. search needs) (λ c κs. search needs) (λ c. search needs)
+    (λ c. search needs) returns-3)

@@ -45,4 +45,4 @@ returns-5 c = stays _ (fails _ (limited (c .before .abs .ensures)) (c .if1 .left
 pub twist-ok-spec : {M : Type 1} → statement M
 twist-ok-spec =
     tie.close (tie.spec
-      (λ c κs. search needs) (λ c κs. search needs) returns returns-2 returns-3 returns-4 returns-5)
+    (λ c κs. search needs) (λ c κs. search needs) returns returns-2 returns-3 returns-4 returns-5)

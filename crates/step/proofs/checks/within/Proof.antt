@@ -27,4 +27,4 @@ returns-3 c = stays _ (fails _ (under _ (c .before .abs .ensures)) (c .if1 .left
 pub within-spec : {M : Type 1} → statement M
 within-spec =
     tie.close (tie.spec
-      (λ c κs. search needs) (λ c κs. search needs) (λ c κs. search needs) returns returns-2 returns-3)
+    (λ c κs. search needs) (λ c κs. search needs) (λ c κs. search needs) returns returns-2 returns-3)

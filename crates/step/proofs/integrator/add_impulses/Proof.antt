@@ -14,9 +14,6 @@ Inv-loop s₀ n k₀ s k = (k ≤ n) × (length s ≡ length s₀) × (Summed n 
 abbrev μ-loop : tie.MeasureT-loop
 μ-loop s₀ n k₀ s k = n - k
 
-loop-holds : tie.Need-loop-holds Inv-loop μ-loop
-loop-holds c = (omega arith, refl, sum-none (c .before .args .n) _)
-
 returns : tie.Need-returns Inv-loop μ-loop
 returns c =
     let at-test = c .before .before .before .before in let at-loop = at-test .before in let at-entry = at-loop .before .before in
@@ -40,7 +37,7 @@ returns-2 c =
 pub add-impulses-spec : {M : Type 1} → statement M
 add-impulses-spec =
     tie.close (tie.spec
-      Inv-loop μ-loop loop-holds (λ c. omega arith) (λ c. omega arith) (λ c. omega arith) (λ c. omega arith)
-      (λ c. omega arith) (λ c. omega arith) (λ c. omega arith) (λ c. omega arith) (λ c. omega arith)
-      (λ c κs. omega arith) (λ c. simp length-set (omega arith)) returns (λ c. omega arith) (λ c. omega arith)
-      loop-again (λ c. omega arith) returns-2)
+    Inv-loop μ-loop (λ c. (omega arith, refl, sum-none _ _)) (λ c. omega arith) (λ c. omega arith)
+    (λ c. omega arith) (λ c. omega arith) (λ c. omega arith) (λ c. omega arith) (λ c. omega arith)
+    (λ c. omega arith) (λ c. omega arith) (λ c κs. omega arith) (λ c. simp length-set (omega arith)) returns
+    (λ c. omega arith) (λ c. omega arith) loop-again (λ c. omega arith) returns-2)

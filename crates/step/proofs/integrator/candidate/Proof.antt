@@ -29,7 +29,7 @@ write-rows-requires : tie.Need-write-rows-requires
 write-rows-requires c κs =
     let at-move-bodies = c .before .before .before .before .before in
     let at-transpose = at-move-bodies .before .before .before .before .before .before in let at-entry = at-transpose .before .before .before in (
-      omega (arith, at-entry .pre .0 .ours .long, at-move-bodies .move-bodies .ensures .kept .size, at-transpose .transpose .ensures .0 .kept .size),
+      omega arith,
       omega arith,
       joined-sixteen (at-entry .pre .1 .joined),
     )
@@ -50,5 +50,5 @@ returns-3 c =
 pub candidate-spec : {M : Type 1} → statement M
 candidate-spec =
     tie.close (tie.spec
-      (λ c κs. search needs) (λ c κs. search needs) (λ c. omega arith) returns (λ c κs. search needs)
-      (λ c κs. search needs) (λ c. omega arith) returns-2 write-rows-requires (λ c. omega arith) returns-3)
+    (λ c κs. search needs) (λ c κs. search needs) (λ c. omega arith) returns (λ c κs. search needs)
+    (λ c κs. search needs) (λ c. omega arith) returns-2 write-rows-requires (λ c. omega arith) returns-3)

@@ -26,5 +26,5 @@ returns-2 c =
 pub correct-spec : {M : Type 1} → statement M
 correct-spec =
     tie.close (tie.spec
-      (λ c κs. search needs) (λ c κs. search needs) (λ c κs. search needs) (λ c κs. search needs)
-      (λ c. omega arith) returns (λ c κs. search needs) (λ c κs. search needs) (λ c. omega arith) returns-2)
+    (λ c κs. search needs) (λ c κs. search needs) (λ c κs. search needs) (λ c κs. search needs)
+    (λ c. omega arith) returns (λ c κs. search needs) (λ c κs. search needs) (λ c. omega arith) returns-2)

@@ -3,7 +3,7 @@ use native.Mathlib.Omega.{arith}
 use mathlib.Core.Path.{_≡_}
 use Prim.Native.Nat.{_+_, _≤_, _-_}
 use lib.ListN.{length, length-set}
-use Rattle.step.specs.Ready.{Spread}
+use Rattle.step.specs.Joined.{Spread}
 use Rattle.step.proofs.StepLaws.{spread-more, spread-end}
 use Rattle.step.proofs.integrator.fill.Statement.{statement}
 use Rattle.step.proofs.integrator.fill.Tie as tie
@@ -30,5 +30,5 @@ returns c = spread-end (omega arith) (omega arith) (omega arith) (c .before .loo
 pub fill-spec : {M : Type 1} → statement M
 fill-spec =
     tie.close (tie.spec
-      Inv-loop μ-loop (λ c. omega arith) (λ c. omega arith) (λ c. omega arith) (λ c. omega arith)
-      (λ c. omega arith) (λ c. omega arith) loop-again (λ c. omega arith) returns)
+    Inv-loop μ-loop (λ c. omega arith) (λ c. omega arith) (λ c. omega arith) (λ c. omega arith)
+    (λ c. omega arith) (λ c. omega arith) loop-again (λ c. omega arith) returns)

@@ -44,6 +44,6 @@ returns-3 c =
 pub finish-run-spec : {M : Type 1} → statement M
 finish-run-spec =
     tie.close (tie.spec
-      (λ c κs. search needs) (λ c κs. search needs) (λ c κs. search needs) (λ c. omega arith) returns
-      velocity-loop-requires (λ c κs. search needs) (λ c. omega arith) returns-2 (λ c κs. search needs)
-      (λ c κs. search needs) (λ c. omega arith) returns-3)
+    (λ c κs. search needs) (λ c κs. search needs) (λ c κs. search needs) (λ c. omega arith) returns
+    velocity-loop-requires (λ c κs. search needs) (λ c. omega arith) returns-2 (λ c κs. search needs)
+    (λ c κs. search needs) (λ c. omega arith) returns-3)

@@ -17,28 +17,20 @@ Inv-loop s₀ bodies n k₀ s k = (k ≤ n) × (length s ≡ length s₀) × (St
 abbrev μ-loop : tie.MeasureT-loop
 μ-loop s₀ bodies n k₀ s k = n - k
 
-loop-holds : tie.Need-loop-holds Inv-loop μ-loop
-loop-holds c =
-    let at-entry = c .before .before in
-    (omega arith, refl, state-none (now (at-entry .args .bodies)) (at-entry .args .body-count) _)
-
 mul-store-state : tie.Need-mul-store-state Inv-loop μ-loop
 mul-store-state c =
-    let at-load-candidate = c .before .before .before .before .before .before in let at-test = at-load-candidate .before .before in
-    let at-loop = at-test .before in let at-entry = at-loop .before .before .before in
-    omega (arith, at-loop .loop .inv, at-test .loop-test .taken, at-entry .pre)
+    let at-load-candidate = c .before .before .before .before .before .before in
+    omega arith
 
 add-store-state : tie.Need-add-store-state Inv-loop μ-loop
 add-store-state c =
-    let at-load-candidate = c .before .before .before .before .before .before in let at-test = at-load-candidate .before .before in
-    let at-loop = at-test .before in let at-entry = at-loop .before .before .before in
-    omega (arith, at-loop .loop .inv, at-test .loop-test .taken, at-entry .pre)
+    let at-load-candidate = c .before .before .before .before .before .before in
+    omega arith
 
 store-state-requires : tie.Need-store-state-requires Inv-loop μ-loop
 store-state-requires c κs =
-    let at-load-candidate = c .before .before .before .before .before .before in let at-test = at-load-candidate .before .before in
-    let at-loop = at-test .before in let at-entry = at-loop .before .before .before in
-    omega (arith, at-loop .loop .inv, at-test .loop-test .taken, at-entry .pre)
+    let at-load-candidate = c .before .before .before .before .before .before in
+    omega arith
 
 returns : tie.Need-returns Inv-loop μ-loop
 returns c =
@@ -50,9 +42,8 @@ returns c =
 
 add-k : tie.Need-add-k Inv-loop μ-loop
 add-k c =
-    let at-match = c .before .before .before .before .before .before in let at-test = at-match .before .before .before .before .before in
-    let at-loop = at-test .before in let at-entry = at-loop .before .before .before in
-    omega (arith, at-loop .loop .inv, at-test .loop-test .taken, at-entry .pre)
+    let at-match = c .before .before .before .before .before .before in
+    omega arith
 
 loop-again : tie.Need-loop-again Inv-loop μ-loop
 loop-again c =
@@ -76,7 +67,8 @@ returns-2 c =
 pub make-states-spec : {M : Type 1} → statement M
 make-states-spec =
     tie.close (tie.spec
-      Inv-loop μ-loop loop-holds (λ c κs. omega arith) (λ c. omega arith) (λ c κs. omega arith)
-      (λ c κs. omega arith) (λ c. search needs) mul-store-state add-store-state store-state-requires
-      (λ c. search needs) (λ c. omega arith) returns add-k (λ c. omega arith) loop-again (λ c. omega arith)
-      returns-2)
+    Inv-loop μ-loop (λ c. (omega arith, refl, state-none (now (c .before .before .args .bodies)) (c .before .before .args .body-count) _))
+    (λ c κs. omega arith) (λ c. omega arith)
+    (λ c κs. omega arith) (λ c κs. omega arith) (λ c. search needs) mul-store-state add-store-state
+    store-state-requires (λ c. search needs) (λ c. omega arith) returns add-k (λ c. omega arith) loop-again
+    (λ c. omega arith) returns-2)

@@ -19,5 +19,5 @@ returns c =
 pub mass-response-spec : {M : Type 1} → statement M
 mass-response-spec =
     tie.close (tie.spec
-      (λ c κs. search needs) (λ c κs. search needs) (λ c κs. search needs) (λ c κs. search needs)
-      (λ c κs. search needs) (λ c κs. search needs) (λ c κs. search needs) returns)
+    (λ c κs. search needs) (λ c κs. search needs) (λ c κs. search needs) (λ c κs. search needs)
+    (λ c κs. search needs) (λ c κs. search needs) (λ c κs. search needs) returns)

@@ -16,9 +16,6 @@ Inv-loop s₀ n dt k₀ s k = (k ≤ n) × (length s ≡ length s₀) × (Moved 
 abbrev μ-loop : tie.MeasureT-loop
 μ-loop s₀ n dt k₀ s k = n - k
 
-loop-holds : tie.Need-loop-holds Inv-loop μ-loop
-loop-holds c = (omega arith, refl, move-none (c .before .args .dt) (c .before .args .body-count) _)
-
 returns : tie.Need-returns Inv-loop μ-loop
 returns c =
     let at-kick-and-drift = c .before .before in let at-load-start = at-kick-and-drift .before in
@@ -51,5 +48,6 @@ returns-2 c =
 pub move-bodies-spec : {M : Type 1} → statement M
 move-bodies-spec =
     tie.close (tie.spec
-    Inv-loop μ-loop loop-holds (λ c κs. omega arith) (λ c κs. omega arith) (λ c κs. omega arith) (λ c κs. search needs)
-    (λ c. omega arith) returns (λ c κs. omega arith) (λ c. omega arith) (λ c. omega arith) loop-again (λ c. omega arith) returns-2)
+    Inv-loop μ-loop (λ c. (omega arith, refl, move-none _ _ _)) (λ c κs. omega arith) (λ c κs. omega arith)
+    (λ c κs. omega arith) (λ c κs. search needs) (λ c. omega arith) returns (λ c κs. omega arith)
+    (λ c. omega arith) (λ c. omega arith) loop-again (λ c. omega arith) returns-2)

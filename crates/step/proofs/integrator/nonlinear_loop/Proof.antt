@@ -70,11 +70,11 @@ returns-2 c =
     let at-loop = c .before .before in let at-clear = at-loop .before .before .before in let at-entry = at-clear .before .before .before in
     left-is (λ x. foundAt (now (at-entry .args .ia)) (now (at-entry .args .ib)) x (at-entry .args .t)) (c .run-ended2 .ensures)
     (from-none (jobFor (at-entry .args .joints) (at-entry .args .task)) (at-entry .pre .0) (at-clear .clear .ensures)
-    (loop-spent _ _ _ _ _ (at-loop .loop .inv .3) (c .before .loop-test .left) (omega (arith, at-loop .loop .inv .0, c .before .loop-test .left))))
+    (loop-spent _ _ _ _ _ (at-loop .loop .inv .3) (c .before .loop-test .left) (omega arith)))
 
 pub nonlinear-loop-spec : {M : Type 1} → statement M
 nonlinear-loop-spec =
     tie.close (tie.spec
-      Inv-loop μ-loop (λ c κs. search needs) (λ c. (omega arith, refl, omega arith, loop-none _ _ _ _ _)) nonlinear-pass-requires add-linear (λ c. search needs)
-      (λ c. omega arith) (λ c κs. omega arith) (λ c. omega arith) returns (λ c. search needs) (λ c. omega arith)
-      (λ c. omega arith) loop-again (λ c κs. omega arith) (λ c. omega arith) returns-2)
+    Inv-loop μ-loop (λ c κs. search needs) (λ c. (omega arith, refl, omega arith, loop-none _ _ _ _ _)) nonlinear-pass-requires add-linear (λ c. search needs)
+    (λ c. omega arith) (λ c κs. omega arith) (λ c. omega arith) returns (λ c. search needs) (λ c. omega arith)
+    (λ c. omega arith) loop-again (λ c κs. omega arith) (λ c. omega arith) returns-2)

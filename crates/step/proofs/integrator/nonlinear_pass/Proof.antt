@@ -40,6 +40,6 @@ returns-3 c =
 pub nonlinear-pass-spec : {M : Type 1} → statement M
 nonlinear-pass-spec =
     tie.close (tie.spec
-      (λ c κs. search needs) (λ c κs. search needs) (λ c κs. search needs) (λ c. omega arith) returns
-      (λ c κs. search needs) (λ c κs. search needs) (λ c. omega arith) returns-2 correct-requires
-      (λ c. omega arith) returns-3)
+    (λ c κs. search needs) (λ c κs. search needs) (λ c κs. search needs) (λ c. omega arith) returns
+    (λ c κs. search needs) (λ c κs. search needs) (λ c. omega arith) returns-2 correct-requires
+    (λ c. omega arith) returns-3)

@@ -21,5 +21,5 @@ returns-2 c =
 pub prepare-mass-spec : {M : Type 1} → statement M
 prepare-mass-spec =
     tie.close (tie.spec
-      (λ c κs. search needs) returns (λ c κs. search needs) (λ c κs. search needs) (λ c κs. search needs)
-      (λ c κs. omega arith) (λ c. search needs) returns-2)
+    (λ c κs. search needs) returns (λ c κs. search needs) (λ c κs. search needs) (λ c κs. search needs)
+    (λ c κs. omega arith) (λ c. search needs) returns-2)

@@ -16,9 +16,6 @@ Inv-loop s₀ n moved k₀ s k =
 abbrev μ-loop : tie.MeasureT-loop
 μ-loop s₀ n moved k₀ s k = n - k
 
-loop-holds : tie.Need-loop-holds Inv-loop μ-loop
-loop-holds c = (omega arith, refl, weigh-none (c .before .args .moved) (c .before .args .body-count) _)
-
 returns : tie.Need-returns Inv-loop μ-loop
 returns c =
     let at-prepare-mass = c .before .before .before .before in let at-load-moved = at-prepare-mass .before .before in
@@ -47,5 +44,6 @@ returns-2 c =
 pub prepare-masses-spec : {M : Type 1} → statement M
 prepare-masses-spec =
     tie.close (tie.spec
-      Inv-loop μ-loop loop-holds (λ c κs. omega arith) (λ c κs. omega arith) (λ c κs. search needs)
-      (λ c. omega arith) returns (λ c. omega arith) (λ c. omega arith) loop-again (λ c. omega arith) returns-2)
+    Inv-loop μ-loop (λ c. (omega arith, refl, weigh-none (c .before .args .moved) (c .before .args .body-count) _)) (λ c κs. omega arith) (λ c κs. omega arith)
+    (λ c κs. search needs) (λ c. omega arith) returns (λ c. omega arith) (λ c. omega arith) loop-again
+    (λ c. omega arith) returns-2)

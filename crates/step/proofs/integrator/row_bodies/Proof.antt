@@ -9,7 +9,7 @@ use Prim.Native.Nat.{ℕ, _+_, _*_, _≤_, _<_, _-_}
 use lib.ListN.{length, getD}
 use Rattle.rows.specs.Region.{count-most}
 use Rattle.step.specs.Checks.{jointIn}
-use Rattle.step.specs.Ready.{Joined}
+use Rattle.step.specs.Joined.{Joined}
 use Rattle.step.proofs.StepLaws.{spread-less}
 use Rattle.step.proofs.integrator.row_bodies.Statement.{statement}
 use Rattle.step.proofs.integrator.row_bodies.Tie as tie
@@ -108,6 +108,6 @@ returns c =
 pub row-bodies-spec : {M : Type 1} → statement M
 row-bodies-spec =
     tie.close (tie.spec
-      Inv-loop μ-loop loop-holds (λ c. omega arith) (λ c. omega arith) (λ c κs. omega arith) fill-requires
-      fill-requires-2 add-n (λ c. omega arith) (λ c. omega arith) loop-again (λ c. omega arith)
-      (λ c. omega arith) returns)
+    Inv-loop μ-loop loop-holds (λ c. omega arith) (λ c. omega arith) (λ c κs. omega arith) fill-requires
+    fill-requires-2 add-n (λ c. omega arith) (λ c. omega arith) loop-again (λ c. omega arith)
+    (λ c. omega arith) returns)

@@ -21,9 +21,6 @@ Inv-loop s n k₀ k = (k ≤ n) × ((ia ib : List ℕ) → true ≡ every k (row
 abbrev μ-loop : tie.MeasureT-loop
 μ-loop s n k₀ k = n - k
 
-loop-holds : tie.Need-loop-holds Inv-loop μ-loop
-loop-holds c = (omega arith, λ ia ib. every-none (rowTest (now (c .before .args .s)) (c .before .args .n) ia ib))
-
 returns : tie.Need-returns Inv-loop μ-loop
 returns c =
     let at-test = c .before .before .before .before in let at-loop = at-test .before in let at-entry = at-loop .before .before in
@@ -50,6 +47,7 @@ returns-2 c =
 pub rows-met-spec : {M : Type 1} → statement M
 rows-met-spec =
     tie.close (tie.spec
-      Inv-loop μ-loop loop-holds (λ c. omega arith) (λ c. omega arith) (λ c. omega arith) (λ c. omega arith)
-      (λ c. omega arith) (λ c κs. omega arith) (λ c. omega arith) (λ c. omega arith) (λ c. omega arith)
-      (λ c. omega arith) (λ c. omega arith) returns (λ c. omega arith) (λ c. omega arith) loop-again returns-2)
+    Inv-loop μ-loop (λ c. (omega arith, λ ia ib. every-none _)) (λ c. omega arith) (λ c. omega arith)
+    (λ c. omega arith) (λ c. omega arith) (λ c. omega arith) (λ c κs. omega arith) (λ c. omega arith)
+    (λ c. omega arith) (λ c. omega arith) (λ c. omega arith) (λ c. omega arith) returns (λ c. omega arith)
+    (λ c. omega arith) loop-again returns-2)

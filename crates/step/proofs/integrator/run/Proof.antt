@@ -31,13 +31,7 @@ nonlinear-loop-requires c κs =
     let at-s = c .before .before .before .before .before .before in let at-start = at-s .before in
     let at-row-bodies = at-start .before .before .before .before in let at-entry = at-row-bodies .before .before .before .before .before in (
       record {
-        ours = record {
-          ready =
-              rows-of _ (omega arith)
-              (omega (arith, at-entry .pre .0, (at-start .start .ensures _ _ (at-row-bodies .row-bodies .ensures .1)) .kept .size))
-              (at-entry .pre .1) (at-row-bodies .row-bodies .ensures .0);
-          long = omega (arith, at-entry .pre .0, (at-start .start .ensures _ _ (at-row-bodies .row-bodies .ensures .1)) .kept .size);
-        };
+        ours = record { ready = rows-of _ (omega arith) (omega arith) (at-entry .pre .1) (at-row-bodies .row-bodies .ensures .0); long = omega arith };
         apart = omega arith;
       },
       record { joined = at-entry .pre .1; sides = at-row-bodies .row-bodies .ensures .1; rows-are = at-row-bodies .row-bodies .ensures .2 },
@@ -61,24 +55,7 @@ finish-run-requires c κs =
     let at-s2 = c .before .before .before .before .before .before in let at-nonlinear-loop = at-s2 .before in
     let at-slice-known2 = at-nonlinear-loop .before .before .before .before .before .before in let at-start = at-slice-known2 .before .before in
     let at-row-bodies = at-start .before .before .before .before in let at-entry = at-row-bodies .before .before .before .before .before in (
-      record {
-        ready =
-            rows-of _ (omega arith)
-            (omega (
-              arith,
-              at-entry .pre .0,
-              at-nonlinear-loop .nonlinear-loop .ensures .kept .size,
-              (at-start .start .ensures _ _ (at-row-bodies .row-bodies .ensures .1)) .kept .size,
-            )) (at-entry .pre .1)
-            (at-row-bodies .row-bodies .ensures .0);
-        long =
-            omega (
-              arith,
-              at-entry .pre .0,
-              at-nonlinear-loop .nonlinear-loop .ensures .kept .size,
-              (at-start .start .ensures _ _ (at-row-bodies .row-bodies .ensures .1)) .kept .size,
-            );
-      },
+      record { ready = rows-of _ (omega arith) (omega arith) (at-entry .pre .1) (at-row-bodies .row-bodies .ensures .0); long = omega arith },
       omega arith,
     )
 
@@ -131,7 +108,7 @@ returns-3 c =
 pub run-spec : {M : Type 1} → statement M
 run-spec =
     tie.close (tie.spec
-      (λ c. search needs) (λ c. search needs) (λ c κs. search needs) (λ c κs. search needs)
-      (λ c κs. search needs) (λ c κs. search needs) (λ c. omega arith) returns nonlinear-loop-requires
-      (λ c κs. search needs) (λ c. omega arith) returns-2 finish-run-requires add-run-ended
-      (λ c κs. search needs) same-length-3 returns-3)
+    (λ c. search needs) (λ c. search needs) (λ c κs. search needs) (λ c κs. search needs)
+    (λ c κs. search needs) (λ c κs. search needs) (λ c. omega arith) returns nonlinear-loop-requires
+    (λ c κs. search needs) (λ c. omega arith) returns-2 finish-run-requires add-run-ended
+    (λ c κs. search needs) same-length-3 returns-3)

@@ -20,7 +20,7 @@ returns c =
 write-rows-requires : tie.Need-write-rows-requires
 write-rows-requires c κs =
     let at-start-bodies = c .before .before .before .before .before in let at-entry = at-start-bodies .before .before .before .before in
-    (omega (arith, at-entry .pre .0, at-start-bodies .start-bodies .ensures .kept .size), omega arith, joined-sixteen (at-entry .pre .1))
+    (omega arith, omega arith, joined-sixteen (at-entry .pre .1))
 
 returns-2 : tie.Need-returns-2
 returns-2 c =
@@ -46,5 +46,5 @@ returns-3 c =
 pub start-spec : {M : Type 1} → statement M
 start-spec =
     tie.close (tie.spec
-      (λ c κs. search needs) (λ c κs. search needs) (λ c. search needs) returns write-rows-requires
-      (λ c κs. search needs) (λ c. search needs) returns-2 (λ c κs. search needs) (λ c. search needs) returns-3)
+    (λ c κs. search needs) (λ c κs. search needs) (λ c. search needs) returns write-rows-requires
+    (λ c κs. search needs) (λ c. search needs) returns-2 (λ c κs. search needs) (λ c. search needs) returns-3)

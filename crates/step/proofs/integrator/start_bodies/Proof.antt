@@ -17,11 +17,6 @@ Inv-loop s₀ bodies n k₀ s k = (k ≤ n) × (length s ≡ length s₀) × (Be
 abbrev μ-loop : tie.MeasureT-loop
 μ-loop s₀ bodies n k₀ s k = n - k
 
-loop-holds : tie.Need-loop-holds Inv-loop μ-loop
-loop-holds c =
-    let at-entry = c .before .before in
-    (omega arith, refl, begin-none (now (at-entry .args .bodies)) (at-entry .args .body-count) _)
-
 returns : tie.Need-returns Inv-loop μ-loop
 returns c =
     let at-new = c .before .before in let at-inverse-spd = at-new .before in let at-load-record = at-inverse-spd .before .before in
@@ -54,5 +49,7 @@ returns-2 c =
 pub start-bodies-spec : {M : Type 1} → statement M
 start-bodies-spec =
     tie.close (tie.spec
-    Inv-loop μ-loop loop-holds (λ c κs. omega arith) (λ c κs. omega arith) (λ c κs. omega arith) (λ c κs. search needs)
-    (λ c. omega arith) returns (λ c κs. omega arith) (λ c. omega arith) (λ c. omega arith) loop-again (λ c. omega arith) returns-2)
+    Inv-loop μ-loop (λ c. (omega arith, refl, begin-none (now (c .before .before .args .bodies)) (c .before .before .args .body-count) _))
+    (λ c κs. omega arith) (λ c κs. omega arith)
+    (λ c κs. omega arith) (λ c κs. search needs) (λ c. omega arith) returns (λ c κs. omega arith)
+    (λ c. omega arith) (λ c. omega arith) loop-again (λ c. omega arith) returns-2)

@@ -1,7 +1,7 @@
 -- `write_rows` is `writeRows`: before turn k the rows of the first k joints stand in the table (RowLaws `Wrote`).
 use lib.ListN.{length}
 use mathlib.Core.List.{List}
-use Rattle.step.specs.Ready.{Joined}
+use Rattle.step.specs.Joined.{Joined}
 use Rattle.step.specs.RunView.{rowsBefore, Sides}
 use Rattle.step.proofs.RowLaws.{before-none, Wrote, wrote-none, wrote-rows, wrote-again, wrote-nonconvergent, wrote-overflow, wrote-ends}
 use Rattle.step.proofs.StepLaws.{written-most}
@@ -27,8 +27,7 @@ loop-holds c = (
   omega arith,
   refl,
   before-none (c .before .args .t2),
-  λ size J ia ib S. wrote-none (c .before .args .t2) (c .before .args .count) (c .before .args .moved)
-      (c .before .args .place) _ size J ia ib S,
+  λ size J ia ib S. wrote-none (c .before .args .t2) (c .before .args .count) (c .before .args .moved) (c .before .args .place) _ size J ia ib S,
 )
 
 load-moved-requires : tie.Need-load-moved-requires Inv-loop μ-loop
@@ -79,7 +78,7 @@ add-k c =
     let at-write-equality-rows-arg = c .before .before .before .before .before .before in
     let at-test = at-write-equality-rows-arg .before .before .before .before .before .before in let at-loop = at-test .before in
     let at-entry = at-loop .before .before in
-    omega (arith, at-loop .loop .inv, at-test .loop-test .taken, at-entry .pre)
+    omega arith
 
 loop-again : tie.Need-loop-again Inv-loop μ-loop
 loop-again c =
@@ -112,7 +111,7 @@ returns-3 c =
 pub write-rows-spec : {M : Type 1} → statement M
 write-rows-spec =
     tie.close (tie.spec
-      Inv-loop μ-loop loop-holds (λ c. omega arith) (λ c. omega arith) load-moved-requires load-moved-requires-2
-      (λ c. omega arith) (λ c. omega arith) (λ c κs. omega arith) (λ c. search needs) add-n (λ c. search needs)
-      (λ c. omega arith) returns (λ c. search needs) (λ c. omega arith) returns-2 add-k (λ c. omega arith)
-      loop-again (λ c. omega arith) returns-3)
+    Inv-loop μ-loop loop-holds (λ c. omega arith) (λ c. omega arith) load-moved-requires load-moved-requires-2
+    (λ c. omega arith) (λ c. omega arith) (λ c κs. omega arith) (λ c. search needs) add-n (λ c. search needs)
+    (λ c. omega arith) returns (λ c. search needs) (λ c. omega arith) returns-2 add-k (λ c. omega arith)
+    loop-again (λ c. omega arith) returns-3)

@@ -38,6 +38,6 @@ returns-2 c =
 pub compatible-spec : {M : Type 1} → statement M
 compatible-spec =
     tie.close (tie.spec
-      Inv-loop μ-loop (λ c. (omega arith, every-none _)) (λ c. omega arith) (λ c. omega arith)
-      (λ c. omega arith) (λ c κs. omega arith) returns (λ c. omega arith) (λ c. omega arith) loop-again
-      returns-2)
+    Inv-loop μ-loop (λ c. (omega arith, every-none _)) (λ c. omega arith) (λ c. omega arith)
+    (λ c. omega arith) (λ c κs. omega arith) returns (λ c. omega arith) (λ c. omega arith) loop-again
+    returns-2)

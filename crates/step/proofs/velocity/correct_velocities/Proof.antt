@@ -25,5 +25,5 @@ returns-2 c =
 pub correct-velocities-spec : {M : Type 1} → statement M
 correct-velocities-spec =
     tie.close (tie.spec
-      (λ c κs. c .before .before .pre .ready) (λ c κs. search needs) (λ c κs. search needs) (λ c. omega arith) returns
-      apply-requires (λ c κs. search needs) (λ c. omega arith) returns-2)
+    (λ c κs. c .before .before .pre .ready) (λ c κs. search needs) (λ c κs. search needs) (λ c. omega arith) returns
+    apply-requires (λ c κs. search needs) (λ c. omega arith) returns-2)

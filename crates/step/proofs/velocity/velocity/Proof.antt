@@ -29,6 +29,6 @@ returns-4 c =
 pub velocity-spec : {M : Type 1} → statement M
 velocity-spec =
     tie.close (tie.spec
-      (λ c. search needs) (λ c. search needs) returns (λ c. search needs) (λ c. search needs) returns-2
-      (λ c κs. search needs) (λ c κs. search needs) (λ c κs. search needs) (λ c κs. search needs)
-      (λ c κs. search needs) returns-3 returns-4)
+    (λ c. search needs) (λ c. search needs) returns (λ c. search needs) (λ c. search needs) returns-2
+    (λ c κs. search needs) (λ c κs. search needs) (λ c κs. search needs) (λ c κs. search needs)
+    (λ c κs. search needs) returns-3 returns-4)

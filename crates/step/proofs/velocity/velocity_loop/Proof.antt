@@ -74,6 +74,6 @@ returns-2 c =
 pub velocity-loop-spec : {M : Type 1} → statement M
 velocity-loop-spec =
     tie.close (tie.spec
-      Inv-loop μ-loop (λ c. (omega arith, refl, omega arith, loop-none _ _ _ _ _)) velocity-pass-requires add-linear (λ c. search needs) (λ c κs. omega arith)
-      (λ c. omega arith) returns (λ c. search needs) (λ c. omega arith) (λ c. omega arith) loop-again
-      (λ c κs. omega arith) (λ c. c .before .before .loop .inv .1) returns-2)
+    Inv-loop μ-loop (λ c. (omega arith, refl, omega arith, loop-none _ _ _ _ _)) velocity-pass-requires add-linear (λ c. search needs) (λ c κs. omega arith)
+    (λ c. omega arith) returns (λ c. search needs) (λ c. omega arith) (λ c. omega arith) loop-again
+    (λ c κs. omega arith) (λ c. c .before .before .loop .inv .1) returns-2)

@@ -38,6 +38,6 @@ returns-3 c =
 pub velocity-pass-spec : {M : Type 1} → statement M
 velocity-pass-spec =
     tie.close (tie.spec
-      (λ c κs. search needs) (λ c κs. search needs) (λ c κs. search needs) (λ c. omega arith) returns
-      (λ c κs. search needs) (λ c κs. search needs) (λ c. omega arith) returns-2 correct-velocities-requires
-      (λ c. omega arith) returns-3)
+    (λ c κs. search needs) (λ c κs. search needs) (λ c κs. search needs) (λ c. omega arith) returns
+    (λ c κs. search needs) (λ c κs. search needs) (λ c. omega arith) returns-2 correct-velocities-requires
+    (λ c. omega arith) returns-3)

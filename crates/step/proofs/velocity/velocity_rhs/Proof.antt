@@ -66,40 +66,40 @@ add-s : tie.Need-add-s Inv-loop μ-loop
 add-s c =
     let at-motion-again = c .before .before .before .before .before .before in let at-test = at-motion-again .before .before .before .before in
     let at-loop = at-test .before in let at-entry = at-loop .before .before .before .before in
-    omega (arith, at-test .loop-test .taken, at-loop .loop .inv .1, at-entry .pre .ready .whole, at-entry .pre .ready .most)
+    omega arith
 
 mul-s : tie.Need-mul-s Inv-loop μ-loop
 mul-s c =
     let at-motion-again = c .before .before .before .before .before .before in let at-test = at-motion-again .before .before .before .before in
     let at-loop = at-test .before in let at-entry = at-loop .before .before .before .before in
-    omega (arith, at-test .loop-test .taken, at-loop .loop .inv .1, at-entry .pre .ready .whole, at-entry .pre .ready .most)
+    omega arith
 
 slice-write-s : tie.Need-slice-write-s Inv-loop μ-loop
 slice-write-s c =
     let at-motion-again = c .before .before .before .before .before .before in let at-test = at-motion-again .before .before .before .before in
     let at-loop = at-test .before in let at-entry = at-loop .before .before .before .before in
-    omega (arith, at-test .loop-test .taken, at-loop .loop .inv .1, at-entry .pre .ready .whole, at-entry .pre .ready .most)
+    omega arith
 
 add-k : tie.Need-add-k Inv-loop μ-loop
 add-k c =
     let at-motion-again = c .before .before .before .before .before .before in let at-test = at-motion-again .before .before .before .before in
     let at-entry = at-test .before .before .before .before .before in
-    omega (arith, at-test .loop-test .taken, at-entry .pre .ready .most)
+    omega arith
 
 loop-again : tie.Need-loop-again Inv-loop μ-loop
 loop-again c =
     let at-velocity = c .before .before .before in let at-motion-again2 = at-velocity .before in
     let at-motion-again = at-motion-again2 .before .before in let at-load-row = at-motion-again .before .before in
     let at-test = at-load-row .before .before in let at-loop = at-test .before in let at-entry = at-loop .before .before .before .before in (
-      omega (arith, at-test .loop-test .taken),
+      omega arith,
       simp length-set (at-loop .loop .inv .1),
       rhs-again (at-entry .pre .ready) (at-loop .loop .inv .2) (at-test .loop-test .taken) (at-load-row .load-row .ensures)
           (sum-there
           (at-velocity .velocity .ensures _ _ (at-motion-again .motion-again .ensures .moves) (at-motion-again2 .motion-again2 .ensures .moves))
           (c .before .value .given .1)),
-      motion-remembered (at-loop .loop .k) _ (omega (arith, at-test .loop-test .taken, at-entry .pre .ready .most))
+      motion-remembered (at-loop .loop .k) _ (omega arith)
           (at-motion-again .motion-again .ensures),
-      motion-remembered (at-loop .loop .k) _ (omega (arith, at-test .loop-test .taken, at-entry .pre .ready .most))
+      motion-remembered (at-loop .loop .k) _ (omega arith)
           (at-motion-again2 .motion-again2 .ensures),
     )
 
@@ -111,7 +111,7 @@ returns-2 c =
 pub velocity-rhs-spec : {M : Type 1} → statement M
 velocity-rhs-spec =
     tie.close (tie.spec
-      Inv-loop μ-loop (λ c κs. omega arith) (λ c κs. omega arith) loop-holds (λ c κs. search needs)
-      motion-again-requires motion-again-requires-2 (λ c κs. omega arith) (λ c. search needs)
-      (λ c. search needs) (λ c. omega arith) returns add-s mul-s slice-write-s add-k (λ c. omega arith)
-      loop-again (λ c. omega arith) returns-2)
+    Inv-loop μ-loop (λ c κs. omega arith) (λ c κs. omega arith) loop-holds (λ c κs. search needs)
+    motion-again-requires motion-again-requires-2 (λ c κs. omega arith) (λ c. search needs)
+    (λ c. search needs) (λ c. omega arith) returns add-s mul-s slice-write-s add-k (λ c. omega arith)
+    loop-again (λ c. omega arith) returns-2)
