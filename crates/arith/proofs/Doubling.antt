@@ -20,6 +20,7 @@ eleven r k d h e =
     ∙ ap (λ (y : ℕ). y % d) (mul-assoc r (2 ^ 11) (2 ^ n) ∙ ap (λ (y : ℕ). r * y) (sym (pow-add 2 11 n)))
     ∙ ap (λ (y : ℕ). r * 2 ^ y % d) (omega arith)
     ∙ e
+
 -- the ten and fewer that are left, as a shift of a 64-bit number
 pub rest : (r k d : ℕ) {x : ℕ} → r < 2 ^ 53 → k < 11 → r * 2 ^ k % d ≡ x → r * 2 ^ k % 2 ^ 64 % d ≡ x
 rest r k d h l e = ap (λ (y : ℕ). y % d) (shl-exact 53 k 64 h (omega arith)) ∙ e

@@ -105,6 +105,7 @@ bits-lt m e f =
     (lt-of-lt-of-le (mul-lt-mul-of-pos-right (fits-below binary64 false m e f) (pow-pos 1074))
     (le-of-eq (mul-right-comm (2 ^ 1024) (down e) (2 ^ 1074)))) in
     omega (arith, size-le n 2098 n-lt, kept-lt 53 n)
+
 -- an x of A units that is TAU or more has as many units
 at-least : (u d A : ℕ) → 0 < d → core * 1 * d ≤ u * 2 ^ 47 → u * 2 ^ 1074 ≡ A * d → digits * 2 ^ 1024 ≤ A
 at-least u d A D h e =
@@ -152,6 +153,7 @@ module _ (x : Float) (t : ℕ) (s : t < 2 ^ 52) (least : (A : ℕ) → HasValue 
       ∙ sym (mul-assoc q (2 ^ n) (2 ^ 1024))
       ∙ ap (λ (z : ℕ). z * 2 ^ n * 2 ^ 1024) (add-comm 4503599627370496 t) in
       (omega arith, subst (λ (A : ℕ). HasValue x false A (2 ^ 1074)) same v)
+
   by-field : (g : ℕ) → x ≡ ofFields binary64 false g t → g < 2047
       → (1025 ≤ g) × HasValue x false (doublings g t * 2 ^ 1024) (2 ^ 1074)
   by-field zero is l = absurd (none (subst (λ (z : Float). HasValue z false (t * 2 ^ 0) (2 ^ 1074)) (sym is) (low-value t)))

@@ -106,6 +106,7 @@ zero-plus m e f =
     round-same binary64 false (0 * 1 * d + m * up e * 1) (1 * d) (m * up e) d (mul-pos (zero-lt-suc 0) (down-pos e)) (down-pos e)
     (omega arith)
     ∙ round-self binary64 false m e f
+
 zero-less : (a b c : ℕ) → a ≡ 0 → b ≡ 0 → Ieee.sum binary64 false a true b c ≡ round binary64 false 0 c
 unfolding Ieee.sum
 zero-less a b c p q = ap (λ (a : ℕ). Ieee.sum binary64 false a true b c) p ∙ ap (λ (b : ℕ). Ieee.sum binary64 false 0 true b c) q
@@ -117,6 +118,7 @@ zero-minus e f =
     zero-less (0 * 1 * d) (0 * up e * 1) (1 * d) (zero-mul d) (ap (λ (x : ℕ). x * 1) (zero-mul (up e)))
     ∙ round-same binary64 false 0 (1 * d) (0 * up e) d (mul-pos (zero-lt-suc 0) (down-pos e)) (down-pos e) (omega arith)
     ∙ round-self binary64 false 0 e f
+
 sign-fits : (m : ℕ) (e : ℤ) → T (fits binary64 (fin true m e)) → T (fits binary64 (fin false m e))
 unfolding fits
 sign-fits zero e t = t

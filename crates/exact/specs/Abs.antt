@@ -131,6 +131,7 @@ T-not false f = tt
 pub positive : (y : ℚ) (l : ℕ) → 0 < l → iv l ≤q y → T (not (leq y (qn 0)))
 unfolding iv
 positive y l p h = T-not (leq y (qn 0)) (λ t. omega (arith, mk-≤ (ivF l) (whole 0 0) (≤q-trans (iv l) y (qn 0) h t)))
+
 abbrev pub divUp : ℕ → ℕ → ℕ
 divUp a l = a * U / l + 1
 

@@ -144,7 +144,8 @@ unfolding rounded limit same
 finish z v x m e f o h k t r =
     let s = split o (limit f) t in
     let w = r (leb→le f (U * huge) (s .1)) in (
-      w .0, h,
+      w .0,
+      h,
       abs-eq ((v -q x) +q (val z -q v)) (val z -q x) (e + rnd f)
           (ring (val z ∷ v ∷ x ∷ []) ((var 1 :- var 2) :+ (var 0 :- var 1)) (var 0 :- var 2) tt) (abs-add (v -q x) (val z -q v) e (rnd f) k (w .1)),
     )
@@ -273,7 +274,8 @@ valF-ok (fin s m e) = refl
 
 con-rel : (c : Float) (q : Fr) → T (finite c) → Rel c (mk q) (bd (absUp q) (absUp (addF (valF c) (negF q))) (finite c))
 con-rel c q t = (
-  t, absUp-ok q,
+  t,
+  absUp-ok q,
   abs-eq (mk (addF (valF c) (negF q))) (val c -q mk q) (absUp (addF (valF c) (negF q))) (sym (ap (λ z. z -q mk q) (sym (valF-ok c))
       ∙ ap (λ z. mk (valF c) +q z) (negq-mk q) ∙ +q-mk (valF c) (negF q))) (absUp-ok (addF (valF c) (negF q))),
 )

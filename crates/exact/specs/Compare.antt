@@ -19,6 +19,7 @@ lt-is a b x y f g = iff→≡ (ltb a b) (not (leb y x)) (λ t. lt→nleb y x (f 
 
 never : (x y : ℕ) → y ≤ x → false ≡ not (leb y x)
 never x y h = iff→≡ false (not (leb y x)) (λ t. absurd t) (λ t. omega (arith, nleb→lt y x t))
+
 pub lt-val : (x y : Float) → T (finite x) → T (finite y) → lt x y ≡ not (leq (val y) (val x))
 unfolding lt leq
 lt-val nan y p q = absurd p

@@ -17,7 +17,8 @@ Input x m = T (finite x) × Abs (val x) m
 pub given : (x : Float) (m : ℕ) → Input x m → T (finite x) × Abs (val x) m × Abs (val x -q val x) 0
 unfolding same
 given x m h = (
-  h .0, h .1,
+  h .0,
+  h .1,
   (
     subst 0≤ (ring (iv 0 ∷ val x ∷ []) (var 0) (var 0 :- (var 1 :- var 1)) tt) (iv-nn 0),
     subst 0≤ (ring (iv 0 ∷ val x ∷ []) (var 0) (var 0 :+ (var 1 :- var 1)) tt) (iv-nn 0),

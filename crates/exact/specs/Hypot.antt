@@ -131,7 +131,9 @@ scaled a b fa fb pa nb l =
     let D = div-err b a (2 ^ 256) fb fa pa Q (leb→le (2 ^ 256) (U * huge) tt) in
     let S = sound (t ∷ []) (q ∷ []) sumβ ((D .0, Q, D .1), tt) sumE (tt, (tt, tt)) tt in
     record {
-      quotient = q; back = back-again (val a) (val b) pa; x-finite = S .0;
+      quotient = q;
+      back = back-again (val a) (val b) pa;
+      x-finite = S .0;
       x-top = abs-mono (val x) (mag (chk sumβ sumE) + err (chk sumβ sumE)) (513 * 2 ^ 248)
           (leb→le (mag (chk sumβ sumE) + err (chk sumβ sumE)) (513 * 2 ^ 248) tt)
           (own (val x) (qn 1 +q q *q q) (mag (chk sumβ sumE)) (err (chk sumβ sumE)) (S .1) (S .2));
@@ -202,6 +204,7 @@ pub hyp-intro : (A N : ℕ) → T (hyp-fits A N) → (a b r p q : Float) → T (
 hyp-intro A N t a b r p q fa fb pa nb l ha R e =
     let k = hypot-ok A N t a b r fa fb pa nb l ha R in
     record {
-      fine = k .0; not-neg = mul-nn a r fa (R .is-finite) (≤q-total (val a) (qn 0) pa) (R .not-neg);
+      fine = k .0;
+      not-neg = mul-nn a r fa (R .is-finite) (≤q-total (val a) (qn 0) pa) (R .not-neg);
       near = subst (λ z. Abs (val (mul binary64 a r) *q val (mul binary64 a r) -q z) N) e (k .1);
     }

@@ -236,6 +236,7 @@ inv-ok x t = go (leq x (qn 0)) (recip x) t
 
 cancel-ℕ : (n k p m : ℕ) → (n + suc k) * m + n * p ≤ n * m + (n + suc k) * p → m ≤ p
 cancel-ℕ n k p m h = le-of-mul-le-mul-right (omega arith) (zero-lt-suc k)
+
 cancelF : (a b : Fr) → T (not (leq (mk a) (qn 0))) → qn 0 ≤q mk a *q mk b → qn 0 ≤q mk b
 unfolding leq _*q_
 cancelF a b t u =
@@ -247,6 +248,7 @@ cancelF a b t u =
     let w : a .p * b .n + a .n * b .p ≤ a .n * b .n + a .p * b .p = omega arith in
     ≤-mk (whole 0 0) b
     (omega (arith, cancel-ℕ (a .n) (k .0) (b .p) (b .n) (subst (λ (x : ℕ). x * b .n + a .n * b .p ≤ a .n * b .n + x * b .p) (sym e) w)))
+
 -- what a positive factor times gives a number that is not negative is not negative
 pub cancel-nn : (x y : ℚ) → T (not (leq x (qn 0))) → qn 0 ≤q x *q y → qn 0 ≤q y
 cancel-nn x y h k = imp₂ (λ x y. not (leq x (qn 0)) && leq (qn 0) (x *q y)) (λ x y. leq (qn 0) y) can x y (and-i (not (leq x (qn 0))) (leq (qn 0) (x *q y)) h k)

@@ -88,6 +88,7 @@ along c d x y u v h k =
 
 exactly : (D E : ℕ) → E % D ≡ 0 → E / D * D ≡ E
 exactly D E h = omega (arith, div-add-mod' E D)
+
 addO-ok : (ρ : List ℚ) (x y : ℚ) (a b : Ov ρ) → Is ρ x a → Is ρ y b → Is ρ (x +q y) (addO ρ a b)
 unfolding addO
 addO-ok ρ x y (ov D p) (ov E q) h k = go (eqb (E % D) 0) (eqb→eq (E % D) 0)

@@ -44,6 +44,7 @@ grid-zero den D = go (2 ^ 52) (grid binary64 0 den) (kept-near 53 (0 * 2 ^ 1074)
     go : (h g : ℕ) → Near h 0 den g → 0 < h → g ≡ 0
     go h zero x H = refl
     go h (suc g) x H = absurd (omega (arith, x .0, mul-pos H D))
+
 round-zero : (s : Bool) (den : ℕ) → 0 < den → val (round binary64 s 0 den) ≡ qn 0
 round-zero s den D =
     has→val (round binary64 s 0 den) s 0 (2 ^ 1074) (pow-pos 1074) (subst (λ (g : ℕ). HasValue (round binary64 s 0 den) s g (2 ^ 1074))

@@ -36,6 +36,7 @@ small h n den g P O x a D H Pp o =
     let x0 = x .0 in
     lt-of-mul-lt-mul-right (den * (h * 2))
     (omega arith)
+
 -- the error in units of 1 / u, for num / den ≤ M / u
 abbrev pub rnd : ℕ → ℕ
 rnd M = M / 2 ^ 53 + 2
@@ -209,8 +210,12 @@ mul-rounds (inf s) y p q = absurd p
 mul-rounds (fin s m e) nan p q = absurd q
 mul-rounds (fin s m e) (inf t) p q = absurd q
 mul-rounds (fin s m e) (fin t n d) p q = record {
-  sign = unlike s t; num = m * up e * (n * up d); den = down e * down d; den-pos = mul-pos (down-pos e) (down-pos d);
-  is = refl; value = times s t (m * up e) (n * up d) (down e) (down d) (down-pos e) (down-pos d);
+  sign = unlike s t;
+  num = m * up e * (n * up d);
+  den = down e * down d;
+  den-pos = mul-pos (down-pos e) (down-pos d);
+  is = refl;
+  value = times s t (m * up e) (n * up d) (down e) (down d) (down-pos e) (down-pos d);
 }
 
 pub mul-err : (x y : Float) (M : ℕ) → T (finite x) → T (finite y) → Abs (val x *q val y) M → M ≤ U * huge
@@ -240,6 +245,7 @@ unlike-false false = refl
 
 first-pos : (n u : ℕ) → 0 < n * u → n ≡ 0 → ⊥
 first-pos n u h e = omega (arith, subst (λ (k : ℕ). 0 < k * u) e h)
+
 div-rounds : (x y : Float) → T (finite x) → T (finite y) → T (not (leq (val y) (qn 0))) → Rounds (div binary64 x y) (val x *q inv (val y))
 unfolding div
 div-rounds nan y p q o = absurd p

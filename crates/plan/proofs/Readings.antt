@@ -72,7 +72,11 @@ module _ (file places : List ℕ) where
 pub filled-is : (file : List ℕ) (tables : Plan) (t : Notes) {bodies : List Float} {joints : List Joint}
     → bodies ≡ bodiesFrom file (t .bodies) (t .«body_count») (tables .bodies) → joints ≡ jointsFrom file (t .joints) (t .«joint_count») (tables .joints)
     → record {
-      dt = t .dt; «has_dt» = t .«has_dt»; bodies = bodies; «body_count» = t .«body_count»; joints = joints;
+      dt = t .dt;
+      «has_dt» = t .«has_dt»;
+      bodies = bodies;
+      «body_count» = t .«body_count»;
+      joints = joints;
       «joint_count» = t .«joint_count»;
     } ≡ filledOf file tables t
 filled-is file tables t h g = cc
@@ -104,8 +108,12 @@ module _ (s file : List ℕ) (t : Notes) (from : s ≡ drop (t .at) file) (old :
   noted-time-step : (x : Float) → There file (withTimeStep x t)
   noted-time-step x =
       record {
-        body-space = old .body-space; joint-space = old .joint-space; few-bodies = old .few-bodies;
-        few-joints = old .few-joints; bodies = old .bodies; joints = old .joints;
+        body-space = old .body-space;
+        joint-space = old .joint-space;
+        few-bodies = old .few-bodies;
+        few-joints = old .few-joints;
+        bodies = old .bodies;
+        joints = old .joints;
       }
 
   noted-body : BODY ≤ length s → t .«body_count» < 16 → There file (withBody t)
@@ -113,8 +121,10 @@ module _ (s file : List ℕ) (t : Notes) (from : s ≡ drop (t .at) file) (old :
       let n : ℕ = t .«body_count» in
       let within : n < length (t .bodies) = omega (arith, old .body-space) in
       record {
-        body-space = length-set (t .bodies) n (t .at) ∙ old .body-space; joint-space = old .joint-space;
-        few-bodies = omega arith; few-joints = old .few-joints;
+        body-space = length-set (t .bodies) n (t .at) ∙ old .body-space;
+        joint-space = old .joint-space;
+        few-bodies = omega arith;
+        few-joints = old .few-joints;
         bodies = all-more (t .bodies) n (t .at) within (BodyAt file) (old .bodies) (subst (λ (x : List ℕ). BODY ≤ length x) from long);
         joints = old .joints;
       }
@@ -124,8 +134,11 @@ module _ (s file : List ℕ) (t : Notes) (from : s ≡ drop (t .at) file) (old :
       let n : ℕ = t .«joint_count» in
       let within : n < length (t .joints) = omega (arith, old .joint-space) in
       record {
-        body-space = old .body-space; joint-space = length-set (t .joints) n (t .at) ∙ old .joint-space;
-        few-bodies = old .few-bodies; few-joints = omega arith; bodies = old .bodies;
+        body-space = old .body-space;
+        joint-space = length-set (t .joints) n (t .at) ∙ old .joint-space;
+        few-bodies = old .few-bodies;
+        few-joints = omega arith;
+        bodies = old .bodies;
         joints = all-more (t .joints) n (t .at) within (JointAt file) (old .joints) (subst JointThere from long);
       }
 
@@ -231,8 +244,11 @@ module _ (file : List ℕ) (tables : Plan) {r : Noted} (reads : Reads file (star
   there-none : There file (start (tables .dt))
   there-none =
       record {
-        body-space = length-replicate {A = ℕ} 16 0; joint-space = length-replicate {A = ℕ} 16 0;
-        few-bodies = omega arith; few-joints = omega arith; bodies = λ k h. absurd (omega arith);
+        body-space = length-replicate {A = ℕ} 16 0;
+        joint-space = length-replicate {A = ℕ} 16 0;
+        few-bodies = omega arith;
+        few-joints = omega arith;
+        bodies = λ k h. absurd (omega arith);
         joints = λ k h. absurd (omega arith);
       }
 

@@ -32,54 +32,69 @@ numberOf NoTimeStep = 18
 -- ---- the layout: the marks, in ASCII, how many bytes a record has, its mark among them, and from which byte on it has what
 abbrev pub DT : List ℕ
 DT = 68 ∷ 84 ∷ []
+
 abbrev pub BD : List ℕ
 BD = 66 ∷ 68 ∷ []
+
 abbrev pub JT : List ℕ
 JT = 74 ∷ 84 ∷ []
 
 -- the first double of a time step or a body
 abbrev pub NUMBERS : ℕ
 NUMBERS = 2
+
 abbrev pub TIME-STEP : ℕ
 TIME-STEP = 10
+
 abbrev pub BODY : ℕ
 BODY = 210
 
 -- a joint's bodies, its kind and its frames
 abbrev pub SIDE-A : ℕ
 SIDE-A = 2
+
 abbrev pub SIDE-B : ℕ
 SIDE-B = 3
+
 abbrev pub KIND : ℕ
 KIND = 4
+
 abbrev pub FRAME-A : ℕ
 FRAME-A = 5
+
 abbrev pub FRAME-B : ℕ
 FRAME-B = 61
 
 -- behind them the one number of a distance, or the four of a cone with a twist
 abbrev pub LENGTH : ℕ
 LENGTH = 117
+
 abbrev pub SWING-X : ℕ
 SWING-X = 117
+
 abbrev pub SWING-Y : ℕ
 SWING-Y = 125
+
 abbrev pub TWIST-LOWER : ℕ
 TWIST-LOWER = 133
+
 abbrev pub TWIST-UPPER : ℕ
 TWIST-UPPER = 141
 
 -- a joint of one of these, kinds 4 and 5, and of any other kind
 abbrev pub DISTANCE : ℕ
 DISTANCE = 125
+
 abbrev pub CONE-TWIST : ℕ
 CONE-TWIST = 149
+
 abbrev pub JOINT : ℕ
 JOINT = 117
 
 -- the doubles of a body, and of the table of sixteen
 abbrev pub DOUBLES : ℕ
 DOUBLES = 26
+
 abbrev pub TABLE : ℕ
 TABLE = 16 * DOUBLES
 
@@ -125,8 +140,11 @@ kindOf s =
 unfoldable pub jointOf : List ℕ → Joint
 jointOf s =
     record {
-      «body_a» = byte s SIDE-A; «body_b» = byte s SIDE-B; «frame_a» = frameAt s FRAME-A;
-      «frame_b» = frameAt s FRAME-B; kind = kindOf s;
+      «body_a» = byte s SIDE-A;
+      «body_b» = byte s SIDE-B;
+      «frame_a» = frameAt s FRAME-A;
+      «frame_b» = frameAt s FRAME-B;
+      kind = kindOf s;
     }
 
 -- a joint stands at the head of s, to its end
@@ -170,22 +188,34 @@ headOf s seen bodies joints =
 unfoldable pub withTimeStep : List ℕ → Plan → Plan
 withTimeStep s t =
     record {
-      dt = double s NUMBERS; «has_dt» = true; bodies = t .bodies; «body_count» = t .«body_count»; joints = t .joints;
+      dt = double s NUMBERS;
+      «has_dt» = true;
+      bodies = t .bodies;
+      «body_count» = t .«body_count»;
+      joints = t .joints;
       «joint_count» = t .«joint_count»;
     }
 
 unfoldable pub withBody : List ℕ → Plan → Plan
 withBody s t =
     record {
-      dt = t .dt; «has_dt» = t .«has_dt»; bodies = paste (t .bodies) (DOUBLES * t .«body_count») (bodyOf s) DOUBLES;
-      «body_count» = t .«body_count» + 1; joints = t .joints; «joint_count» = t .«joint_count»;
+      dt = t .dt;
+      «has_dt» = t .«has_dt»;
+      bodies = paste (t .bodies) (DOUBLES * t .«body_count») (bodyOf s) DOUBLES;
+      «body_count» = t .«body_count» + 1;
+      joints = t .joints;
+      «joint_count» = t .«joint_count»;
     }
 
 unfoldable pub withJoint : List ℕ → Plan → Plan
 withJoint s t =
     record {
-      dt = t .dt; «has_dt» = t .«has_dt»; bodies = t .bodies; «body_count» = t .«body_count»;
-      joints = set (t .joints) (t .«joint_count») (jointOf s); «joint_count» = t .«joint_count» + 1;
+      dt = t .dt;
+      «has_dt» = t .«has_dt»;
+      bodies = t .bodies;
+      «body_count» = t .«body_count»;
+      joints = set (t .joints) (t .«joint_count») (jointOf s);
+      «joint_count» = t .«joint_count» + 1;
     }
 
 -- ---- the whole file
@@ -226,7 +256,10 @@ blank =
 unfoldable pub emptyOf : Plan
 emptyOf =
     record {
-      dt = ofBits binary64 0; «has_dt» = false; bodies = replicate TABLE (ofBits binary64 0); «body_count» = 0;
+      dt = ofBits binary64 0;
+      «has_dt» = false;
+      bodies = replicate TABLE (ofBits binary64 0);
+      «body_count» = 0;
       joints = replicate 16 (record { «body_a» = 0; «body_b» = 0; «frame_a» = blank; «frame_b» = blank; kind = Ball });
       «joint_count» = 0;
     }

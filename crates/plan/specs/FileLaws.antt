@@ -142,8 +142,12 @@ module _ (tables : Plan) where
   unfolding withTimeStep
   kept-time-step s t k =
       record {
-        body-room = k .body-room; joint-room = k .joint-room; body-length = k .body-length;
-        joint-length = k .joint-length; bodies-after = k .bodies-after; joints-after = k .joints-after;
+        body-room = k .body-room;
+        joint-room = k .joint-room;
+        body-length = k .body-length;
+        joint-length = k .joint-length;
+        bodies-after = k .bodies-after;
+        joints-after = k .joints-after;
       }
 
   kept-body : (s : List ℕ) (t : Plan) → t .«body_count» < 16 → Kept tables t → Kept tables (withBody s t)
@@ -154,7 +158,8 @@ module _ (tables : Plan) where
       let long : 26 * n + 26 ≤ length (t .bodies) = omega (arith, k .body-length) in
       let most : 26 ≤ length (bodyOf s) = omega (arith, body-of-length s) in
       record {
-        body-room = omega arith; joint-room = k .joint-room;
+        body-room = omega arith;
+        joint-room = k .joint-room;
         body-length = length-paste (t .bodies) (26 * n) (bodyOf s) 26 long most ∙ k .body-length;
         joint-length = k .joint-length;
         bodies-after =
@@ -168,8 +173,11 @@ module _ (tables : Plan) where
   kept-joint s t h k =
       let n : ℕ = t .«joint_count» in
       record {
-        body-room = k .body-room; joint-room = omega arith; body-length = k .body-length;
-        joint-length = length-set (t .joints) n (jointOf s) ∙ k .joint-length; bodies-after = k .bodies-after;
+        body-room = k .body-room;
+        joint-room = omega arith;
+        body-length = k .body-length;
+        joint-length = length-set (t .joints) n (jointOf s) ∙ k .joint-length;
+        bodies-after = k .bodies-after;
         joints-after = rw (add-one n) (drop-set (t .joints) n (jointOf s)) ∙ drop-on n 1 (t .joints) (tables .joints) (k .joints-after);
       }
 

@@ -47,8 +47,16 @@ module _ (m : ℕ) (s : List ℕ) where
   double-cut : (i : ℕ) → i + 8 ≤ m → double (take m s) i ≡ double s i
   unfolding double
   double-cut i h =
-      cc (byte-cut i (omega arith), byte-cut (i + 1) (omega arith), byte-cut (i + 2) (omega arith), byte-cut (i + 3) (omega arith),
-      byte-cut (i + 4) (omega arith), byte-cut (i + 5) (omega arith), byte-cut (i + 6) (omega arith), byte-cut (i + 7) (omega arith))
+      cc (
+        byte-cut i (omega arith),
+        byte-cut (i + 1) (omega arith),
+        byte-cut (i + 2) (omega arith),
+        byte-cut (i + 3) (omega arith),
+        byte-cut (i + 4) (omega arith),
+        byte-cut (i + 5) (omega arith),
+        byte-cut (i + 6) (omega arith),
+        byte-cut (i + 7) (omega arith),
+      )
 
   body-cut : BODY ≤ m → bodyOf (take m s) ≡ bodyOf s
   unfolding bodyOf
@@ -56,15 +64,30 @@ module _ (m : ℕ) (s : List ℕ) where
 
   frame-cut : (i : ℕ) → i + 56 ≤ m → frameAt (take m s) i ≡ frameAt s i
   frame-cut i h =
-      cc (double-cut i (omega arith), double-cut (i + 8) (omega arith), double-cut (i + 16) (omega arith), double-cut (i + 24) (omega arith),
-      double-cut (i + 32) (omega arith), double-cut (i + 40) (omega arith), double-cut (i + 48) (omega arith))
+      cc (
+        double-cut i (omega arith),
+        double-cut (i + 8) (omega arith),
+        double-cut (i + 16) (omega arith),
+        double-cut (i + 24) (omega arith),
+        double-cut (i + 32) (omega arith),
+        double-cut (i + 40) (omega arith),
+        double-cut (i + 48) (omega arith),
+      )
 
   joint-cut : CONE-TWIST ≤ m → jointOf (take m s) ≡ jointOf s
   unfolding jointOf kindOf
   joint-cut h =
-      cc (byte-cut SIDE-A (omega arith), byte-cut SIDE-B (omega arith), byte-cut KIND (omega arith), frame-cut FRAME-A (omega arith),
-      frame-cut FRAME-B (omega arith), double-cut SWING-X (omega arith), double-cut SWING-Y (omega arith),
-      double-cut TWIST-LOWER (omega arith), double-cut TWIST-UPPER (omega arith))
+      cc (
+        byte-cut SIDE-A (omega arith),
+        byte-cut SIDE-B (omega arith),
+        byte-cut KIND (omega arith),
+        frame-cut FRAME-A (omega arith),
+        frame-cut FRAME-B (omega arith),
+        double-cut SWING-X (omega arith),
+        double-cut SWING-Y (omega arith),
+        double-cut TWIST-LOWER (omega arith),
+        double-cut TWIST-UPPER (omega arith),
+      )
 
 -- ---- the tests, where the cut leaves something out
 same-if : {A : Type 0} (b : Bool) (x : A) {y z : A} → (b ≡ false → y ≡ z) → cond b x y ≡ cond b x z

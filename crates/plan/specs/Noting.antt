@@ -26,22 +26,37 @@ endedOf seen = cond seen Read NoTimeStep
 abbrev pub withTimeStep : Float → Notes → Notes
 withTimeStep x t =
     record {
-      at = t .at + TIME-STEP; dt = x; «has_dt» = true; bodies = t .bodies; «body_count» = t .«body_count»;
-      joints = t .joints; «joint_count» = t .«joint_count»;
+      at = t .at + TIME-STEP;
+      dt = x;
+      «has_dt» = true;
+      bodies = t .bodies;
+      «body_count» = t .«body_count»;
+      joints = t .joints;
+      «joint_count» = t .«joint_count»;
     }
 
 abbrev pub withBody : Notes → Notes
 withBody t =
     record {
-      at = t .at + BODY; dt = t .dt; «has_dt» = t .«has_dt»; bodies = set (t .bodies) (t .«body_count») (t .at);
-      «body_count» = t .«body_count» + 1; joints = t .joints; «joint_count» = t .«joint_count»;
+      at = t .at + BODY;
+      dt = t .dt;
+      «has_dt» = t .«has_dt»;
+      bodies = set (t .bodies) (t .«body_count») (t .at);
+      «body_count» = t .«body_count» + 1;
+      joints = t .joints;
+      «joint_count» = t .«joint_count»;
     }
 
 abbrev pub withJoint : ℕ → Notes → Notes
 withJoint n t =
     record {
-      at = t .at + n; dt = t .dt; «has_dt» = t .«has_dt»; bodies = t .bodies; «body_count» = t .«body_count»;
-      joints = set (t .joints) (t .«joint_count») (t .at); «joint_count» = t .«joint_count» + 1;
+      at = t .at + n;
+      dt = t .dt;
+      «has_dt» = t .«has_dt»;
+      bodies = t .bodies;
+      «body_count» = t .«body_count»;
+      joints = set (t .joints) (t .«joint_count») (t .at);
+      «joint_count» = t .«joint_count» + 1;
     }
 
 -- ---- the tables with the records that are noted
@@ -62,8 +77,11 @@ jointsFrom file places n table = turns (λ k. jointTurn file k (getD places k 0)
 abbrev pub filledOf : List ℕ → Plan → Notes → Plan
 filledOf file tables t =
     record {
-      dt = t .dt; «has_dt» = t .«has_dt»; bodies = bodiesFrom file (t .bodies) (t .«body_count») (tables .bodies);
-      «body_count» = t .«body_count»; joints = jointsFrom file (t .joints) (t .«joint_count») (tables .joints);
+      dt = t .dt;
+      «has_dt» = t .«has_dt»;
+      bodies = bodiesFrom file (t .bodies) (t .«body_count») (tables .bodies);
+      «body_count» = t .«body_count»;
+      joints = jointsFrom file (t .joints) (t .«joint_count») (tables .joints);
       «joint_count» = t .«joint_count»;
     }
 

@@ -58,7 +58,8 @@ module _ (out : List ℕ) (at : ℕ) (text : List ℕ) where
   copy-end i fit h g e =
       let all : i ≡ length text = omega arith in
       record {
-        ends = refl; within = fit;
+        ends = refl;
+        within = fit;
         holds =
             e ∙ ap (paste out at text) all
             ∙ ap (λ (l : List ℕ). take at out ++ l ++ drop (at + length text) out) (take-all (length text) text (omega arith));
@@ -102,7 +103,8 @@ module _ {out : List ℕ} {at : ℕ} {s now : List ℕ} {a : ℕ} (p : Puts out 
   pub puts-then : {t after : List ℕ} {r : ℕ} → Puts now a t after r → Puts out at (s ++ t) after r
   puts-then {t} {after} {r} q =
       record {
-        ends = omega (arith, p .ends, q .ends, length-append s t); within = omega (arith, q .within, same-length);
+        ends = omega (arith, p .ends, q .ends, length-append s t);
+        within = omega (arith, q .within, same-length);
         holds =
             q .holds ∙ ap (λ (k : ℕ). written now k t) (p .ends) ∙ ap (λ (l : List ℕ). written l (at + length s) t) (p .holds)
             ∙ written-more out at s fits t;
@@ -131,7 +133,8 @@ one-place n k g l = by (split 1 k)
 -- without the last digit there is one place fewer
 fewer : (n j : ℕ) → Fewest 10 1 n (suc (suc j)) → Fewest 10 1 (n / 10) (suc j)
 fewer n j g = (
-  omega arith, div-lt-iff-lt-mul {k = 10} {x = n} {y = 10 ^ suc j} (omega arith) .1 (rw pow-suc at (g .1)),
+  omega arith,
+  div-lt-iff-lt-mul {k = 10} {x = n} {y = 10 ^ suc j} (omega arith) .1 (rw pow-suc at (g .1)),
   λ l. le-div-iff-mul-le {k = 10} {x = 10 ^ (suc j - 1)} {y = n} (omega arith) .1
       (let e : suc j - 1 ≡ j = omega arith in
       rw e (rw (← pow-suc 10 j) (large 10 1 n (suc (suc j)) (omega arith) g (suc j) (omega arith) (omega arith)))),
@@ -321,6 +324,7 @@ module _ (number n m : ℕ) (bodies : List Float) (out : List ℕ) where
       let text : List ℕ = reportOf number n m bodies in
       let whole : r ≡ length text = p .1 .0 ∙ simp (le-leb (roomOf bodies) (length out) room) in
       record {
-        ends = whole ∙ sym (zero-add (length text)); within = omega (arith, report-fits number n m bodies);
+        ends = whole ∙ sym (zero-add (length text));
+        within = omega (arith, report-fits number n m bodies);
         holds = p .1 .1 ∙ simp (le-leb (roomOf bodies) (length out) room) (ap (λ (k : ℕ). text ++ drop k out) (sym (zero-add (length text))));
       }

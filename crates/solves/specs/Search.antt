@@ -10,6 +10,7 @@ use Rattle.solves.specs.Path.{Factor, Refined, pathOrder, pathFactored, 
 -- the most passes over n rows, of least squares and of the gradients
 abbrev pub leastMost : ℕ → ℕ
 leastMost n = 4 * n + 64
+
 abbrev pub gradientMost : ℕ → ℕ
 gradientMost n = 2 * n + 32
 

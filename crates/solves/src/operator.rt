@@ -80,7 +80,14 @@ fn pushed(body: Generalized, linear: Vec3, angular: Vec3, value: f64) -> General
     }
 }
 
-fn push_into(s: &mut [f64], index: usize, linear: Vec3, angular: Vec3, value: f64, body_count: usize)
+fn push_into(
+    s: &mut [f64],
+    index: usize,
+    linear: Vec3,
+    angular: Vec3,
+    value: f64,
+    body_count: usize,
+)
     requires { ⌜ (END ≤ length (now s)) × (index < «body_count») × («body_count» ≤ BODIES-MOST) ⌝ }
     ensures { λ _. ⌜ Does Shares (came s) (left s) (checked (sharesIn (left s) «body_count»))
         (checkedThen (pushInto index linear angular value) (sharesIn (came s) «body_count»)) ⌝ }
@@ -264,8 +271,28 @@ fn cross_end(
     requires { ⌜ (END ≤ length (now s)) × (ai < «body_count») × («body_count» ≤ BODIES-MOST) ⌝ }
     ensures { λ r. ⌜ r ≡ crossEnd (massesAt (came s) MASSES «body_count») ai al aa b value ⌝ }
 {
-    let half = add_through(s, body_count, value, ai, al, aa, b.a, b.linear_a, b.angular_a);
-    add_through(s, body_count, half, ai, al, aa, b.b, b.linear_b, b.angular_b)
+    let half = add_through(
+        s,
+        body_count,
+        value,
+        ai,
+        al,
+        aa,
+        b.a,
+        b.linear_a,
+        b.angular_a,
+    );
+    add_through(
+        s,
+        body_count,
+        half,
+        ai,
+        al,
+        aa,
+        b.b,
+        b.linear_b,
+        b.angular_b,
+    )
 }
 
 // The entry of the rows' Schur matrix.

@@ -34,7 +34,8 @@ reads {before} {after} {at} {n} chunk told b fits there e =
     let same : drop (at + n) after ≡ drop (at + n) before =
     ap (drop (at + n)) e ∙ drop-paste before at chunk n (omega arith) there in
     record {
-      told = told; within = subst (λ (k : ℕ). at + k ≤ length before) b fits;
+      told = told;
+      within = subst (λ (k : ℕ). at + k ≤ length before) b fits;
       rest = subst (λ (k : ℕ). drop (at + k) after ≡ drop (at + k) before) b same;
     }
 
@@ -76,7 +77,8 @@ module _
     reading-more any =
         record {
           rest = subst (λ (k : ℕ). drop (at + k) after ≡ drop (at + k) first) (sym b) on;
-          more = some ∙ lt-ltb 0 (bytesIn (r .got)) (omega arith); told = λ _. h .told ∙ ap gotOf (sym same);
+          more = some ∙ lt-ltb 0 (bytesIn (r .got)) (omega arith);
+          told = λ _. h .told ∙ ap gotOf (sym same);
         }
 
     -- none came
@@ -85,7 +87,9 @@ module _
     reading-stops none size long room =
         let zero-more : at + bytesIn (r .got) ≡ at = omega arith in
         record {
-          size = size; told = λ _. h .told ∙ ap gotOf (sym same); within = omega arith;
+          size = size;
+          told = λ _. h .told ∙ ap gotOf (sym same);
+          within = omega arith;
           rest = subst (λ (k : ℕ). drop k after ≡ drop k first) zero-more on;
           full = some ∙ le-ltb 0 (bytesIn (r .got)) (omega arith) ∙ sym (lt-leb (length first) at (omega arith));
         }
@@ -97,5 +101,9 @@ pub reading-full : (first before : List ℕ) {at : ℕ} {last : Got} {answer : �
 reading-full first before {at} r same none within =
     let full : true ≡ leb (length first) at = sym (le-leb (length first) at (omega arith)) in
     record {
-      size = same; told = λ h. r .told (omega arith); within = omega arith; rest = r .rest; full = r .more ∙ full;
+      size = same;
+      told = λ h. r .told (omega arith);
+      within = omega arith;
+      rest = r .rest;
+      full = r .more ∙ full;
     }

@@ -59,11 +59,19 @@ pub fn read_all(fd: i32, buffer: &mut [u8]) -> Received
         answer = read.answer;
         let n = bytes(last);
         if n == 0 {
-            return Received { count, last, answer };
+            return Received {
+                count,
+                last,
+                answer,
+            };
         }
         count += n;
     }
-    Received { count, last, answer }
+    Received {
+        count,
+        last,
+        answer,
+    }
 }
 
 // One read into the buffer from `at` on. It goes by way of `chunk`, so that no byte of the buffer changes but those that

@@ -138,8 +138,11 @@ straight = quat 𝟘 𝟘 𝟘 𝟙
 -- a joint of the origins of bodies 0 and 1, whose second frame is turned so
 abbrev joint : Kind → Quat → Joint
 joint kind turned = record {
-  «body_a» = 0; «body_b» = 1; «frame_a» = record { «local_anchor» = zeroVec; «local_rotation» = straight };
-  «frame_b» = record { «local_anchor» = zeroVec; «local_rotation» = turned }; kind = kind;
+  «body_a» = 0;
+  «body_b» = 1;
+  «frame_a» = record { «local_anchor» = zeroVec; «local_rotation» = straight };
+  «frame_b» = record { «local_anchor» = zeroVec; «local_rotation» = turned };
+  kind = kind;
 }
 
 abbrev rod : Float → Joint
@@ -165,7 +168,8 @@ turning : Plan
 turning =
     record {
       bodies = standing (triple 𝟙 (whole 2) (whole 3)) (triple 𝟘 (neg (whole 4)) 𝟘) (triple 𝟘 𝟘 half) (fixed 𝟙 (whole 4) (whole 4) 𝟙);
-      joints = []; dt = half;
+      joints = [];
+      dt = half;
     }
 
 turning-works : Works turning Accepted 1 0
@@ -221,7 +225,8 @@ twice = record {
   bodies = standing zeros zeros zeros (ball half)
       ++ standing (triple 𝟙 𝟘 𝟘) (triple 𝟙 𝟘 𝟘) zeros (ball half)
       ++ standing zeros zeros zeros (ball 𝟙);
-  joints = rod 𝟙 ∷ rod 𝟙 ∷ []; dt = 𝟙;
+  joints = rod 𝟙 ∷ rod 𝟙 ∷ [];
+  dt = 𝟙;
 }
 
 twice-works : Works twice NonConvergent 1 0 (twice .bodies)

@@ -64,8 +64,15 @@ module _ (a b : Float) (fa : T (finite a)) (fb : T (finite b)) (p : T (not (leq 
   aimed-flat =
       let t = val b *q inv (val a) in let v = octant (div binary64 b a) in
       record {
-        m = val a; X = qn 1; Y = t; m-pos = p; m-less = more (val a) (val b); x-is = times-one (val a);
-        y-is = back (val a) (val b) p; X-unit = one-unit; Y-unit = share (val a) (val b) p n l;
+        m = val a;
+        X = qn 1;
+        Y = t;
+        m-pos = p;
+        m-less = more (val a) (val b);
+        x-is = times-one (val a);
+        y-is = back (val a) (val b) p;
+        X-unit = one-unit;
+        Y-unit = share (val a) (val b) p n l;
         seen = seen-less (2 ^ 211) (2 ^ 254) vTop (2 ^ 212) (2 ^ 253) wTop (qn 1) t v (lit≤ tt) (lit≤ tt) (lit≤ tt) (octant-near a b fa fb p n l);
       }
 
@@ -74,8 +81,15 @@ module _ (a b : Float) (fa : T (finite a)) (fb : T (finite b)) (p : T (not (leq 
   aimed-steep =
       let t = val b *q inv (val a) in
       record {
-        m = val a; X = t; Y = qn 1; m-pos = p; m-less = more-second (val a) (val b); x-is = back (val a) (val b) p;
-        y-is = times-one (val a); X-unit = share (val a) (val b) p n l; Y-unit = one-unit;
+        m = val a;
+        X = t;
+        Y = qn 1;
+        m-pos = p;
+        m-less = more-second (val a) (val b);
+        x-is = back (val a) (val b) p;
+        y-is = times-one (val a);
+        X-unit = share (val a) (val b) p n l;
+        Y-unit = one-unit;
         seen = seen-quarter (qn 1) t (octant (div binary64 b a)) one-unit (share (val a) (val b) p n l) (octant-near a b fa fb p n l);
       }
 
@@ -138,19 +152,31 @@ aimed-left : (x y : ℚ) (v : Float) → Aimed (2 ^ 212) (2 ^ 253) wTop x y v �
 unfolding same
 aimed-left x y v a =
     record {
-      m = a .m; X = negq (a .X); Y = a .Y; m-pos = a .m-pos;
+      m = a .m;
+      X = negq (a .X);
+      Y = a .Y;
+      m-pos = a .m-pos;
       m-less = subst (λ z. 0≤ (z -q a .m *q a .m))
-      (ring (x ∷ (y *q y) ∷ []) (var 0 :* var 0 :+ var 1) (ng (var 0) :* ng (var 0) :+ var 1) tt) (a .m-less);
-      x-is = ap negq (a .x-is) ∙ minus-times (a .m) (a .X); y-is = a .y-is;
-      X-unit = abs-neg (a .X) (2 ^ 256) (a .X-unit); Y-unit = a .Y-unit;
+          (ring (x ∷ (y *q y) ∷ []) (var 0 :* var 0 :+ var 1) (ng (var 0) :* ng (var 0) :+ var 1) tt) (a .m-less);
+      x-is = ap negq (a .x-is) ∙ minus-times (a .m) (a .X);
+      y-is = a .y-is;
+      X-unit = abs-neg (a .X) (2 ^ 256) (a .X-unit);
+      Y-unit = a .Y-unit;
       seen = seen-half (a .X) (a .Y) v (a .X-unit) (a .Y-unit) (a .seen);
     }
 
 aimed-right : (x y : ℚ) (v : Float) → Aimed (2 ^ 212) (2 ^ 253) wTop x y v → Aimed (2 ^ 215) (2 ^ 252) uTop x y v
 aimed-right x y v a =
     record {
-      m = a .m; X = a .X; Y = a .Y; m-pos = a .m-pos; m-less = a .m-less; x-is = a .x-is; y-is = a .y-is;
-      X-unit = a .X-unit; Y-unit = a .Y-unit;
+      m = a .m;
+      X = a .X;
+      Y = a .Y;
+      m-pos = a .m-pos;
+      m-less = a .m-less;
+      x-is = a .x-is;
+      y-is = a .y-is;
+      X-unit = a .X-unit;
+      Y-unit = a .Y-unit;
       seen = seen-less (2 ^ 212) (2 ^ 253) wTop (2 ^ 215) (2 ^ 252) uTop (a .X) (a .Y) v (lit≤ tt) (lit≤ tt) (lit≤ tt) (a .seen);
     }
 
@@ -159,10 +185,15 @@ aimed-down : (x y : ℚ) (v : Float) → Aimed (2 ^ 215) (2 ^ 252) uTop x y v �
 unfolding same
 aimed-down x y v a =
     record {
-      m = a .m; X = a .X; Y = negq (a .Y); m-pos = a .m-pos;
+      m = a .m;
+      X = a .X;
+      Y = negq (a .Y);
+      m-pos = a .m-pos;
       m-less = subst (λ z. 0≤ (z -q a .m *q a .m))
-      (ring (y ∷ (x *q x) ∷ []) (var 1 :+ var 0 :* var 0) (var 1 :+ ng (var 0) :* ng (var 0)) tt) (a .m-less); x-is = a .x-is;
-      y-is = ap negq (a .y-is) ∙ minus-times (a .m) (a .Y); X-unit = a .X-unit;
+          (ring (y ∷ (x *q x) ∷ []) (var 1 :+ var 0 :* var 0) (var 1 :+ ng (var 0) :* ng (var 0)) tt) (a .m-less);
+      x-is = a .x-is;
+      y-is = ap negq (a .y-is) ∙ minus-times (a .m) (a .Y);
+      X-unit = a .X-unit;
       Y-unit = abs-neg (a .Y) (2 ^ 256) (a .Y-unit);
       seen = seen-minus (2 ^ 215) (2 ^ 252) uTop (a .X) (a .Y) v (a .seen);
     }

@@ -177,7 +177,8 @@ arc-tangent q f h =
     let ρ : List ℚ = (S -q A *q poly σ z) ∷ x ∷ (C -q poly γ z) ∷ A ∷ (poly σ z -q poly short z)
     ∷ (poly γ z -q poly shortC z) ∷ (a *q poly short z -q poly shortC z) ∷ [] in
     record {
-      fine = r .fine; size = r .size;
+      fine = r .fine;
+      size = r .size;
       near = abs-eq (evR ρ wholeE) (S -q x *q C) (2 ^ 205) (whole-parts S C x a (poly σ z) (poly short z) (poly γ z) (poly shortC z))
           (bound ρ wholeβ (dS, (h, (dC, (r .exact-size, (sine-short z Z, (cosine-short z Z, (composed x h, tt))))))) wholeE (2 ^ 205) whole-test);
     }

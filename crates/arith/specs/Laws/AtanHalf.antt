@@ -179,7 +179,8 @@ half Q P t q fq hq =
     let v : List ℚ =
     val q ∷ i ∷ (val w -q (qn 1 +q val r)) ∷ val r ∷ (val r *q val r -q val x) ∷ (val x -q (qn 1 +q val q *q val q)) ∷ (val p -q val q *q i) ∷ [] in
     record {
-      fine = D .0; size = D .2;
+      fine = D .0;
+      size = D .2;
       near = abs-eq (evR v residualE) (qn 2 *q val p +q val q *q (val p *q val p) -q val q) (2 ^ 207)
           (sym (residual-parts (val p) (val q) i (val w) (val r) (val x) (inv-ok (val w) (positive (val w) wLow (lit< tt) wl))))
           (bound v residualβ (top, (inverse (val w) wl, (W .near, (Q² .r-abs, (Q² .r-near, (X .near, (D .1, tt))))))) residualE (2 ^ 207) residual-test);

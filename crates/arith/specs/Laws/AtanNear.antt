@@ -77,7 +77,8 @@ pub atan2-near : (y x : Float) → T (isFinite y) → T (isFinite x) → T (not 
     → (v : Float) × (atan2Of y x ≡ Angles.Value v) × Atan2Near y x v
 unfolding atan2Of
 atan2-near y x fy fx t = (
-  angleOf y x, answer (isFinite y) (isFinite x) (eq x (ratio 0 1) && eq y (ratio 0 1)) fy fx t,
+  angleOf y x,
+  answer (isFinite y) (isFinite x) (eq x (ratio 0 1) && eq y (ratio 0 1)) fy fx t,
   near-of y x (angleOf y x) (aimed-angle y x (subst T (finite-same y) fy) (subst T (finite-same x) fx) t),
 )
   where

@@ -54,7 +54,8 @@ unfolding U
 quotient a b fa fb p h =
     let q = div binary64 b a in let t = val b *q inv (val a) in let e = rnd (2 ^ 256) in
     let d = div-err b a (2 ^ 256) fb fa p h (leb→le (2 ^ 256) (U * huge) tt) in (
-      d .0, abs-mono (val q) (2 ^ 256 + e) qTop (leb→le (2 ^ 256 + e) qTop tt) (own (val q) t (2 ^ 256) e h (d .1)),
+      d .0,
+      abs-mono (val q) (2 ^ 256 + e) qTop (leb→le (2 ^ 256 + e) qTop tt) (own (val q) t (2 ^ 256) e h (d .1)),
       abs-mono (val q -q t) e (2 ^ 204) (leb→le e (2 ^ 204) tt) (d .1),
     )
 
@@ -174,15 +175,22 @@ octant-near a b fa fb p n l =
     let g = both (sineGrows (2 ^ 204) vTop (2 ^ 205)) (cosineGrows (2 ^ 204) vTop (2 ^ 205)) grows in
     let ρ : List ℚ = (S -q S₄) ∷ val q ∷ (C -q C₄) ∷ (S₄ -q val q *q C₄) ∷ (val q -q t) ∷ C ∷ [] in
     let e : Abs (S -q t *q C) (2 ^ 211) = abs-eq (evR ρ wholeE) (S -q t *q C) (2 ^ 211) (whole-parts S C S₄ C₄ (val q) t)
-    (bound ρ wholeβ
-    (sine-grows (2 ^ 204) vTop (2 ^ 205) (g .0) (val v) (fourfold (val k)) (M .size) (M .exact-size) (M .near), (Q .1,
-    (cosine-grows (2 ^ 204) vTop (2 ^ 205) (g .1) (val v) (fourfold (val k)) (M .size) (M .exact-size) (M .near),
-    (F .2, (Q .2, (cosine-top vTop (2 ^ 257) top-test (val v) (M .size), tt))))))
+    (bound ρ wholeβ (
+      sine-grows (2 ^ 204) vTop (2 ^ 205) (g .0) (val v) (fourfold (val k)) (M .size) (M .exact-size) (M .near),
+      (
+        Q .1,
+        (
+          cosine-grows (2 ^ 204) vTop (2 ^ 205) (g .1) (val v) (fourfold (val k)) (M .size) (M .exact-size) (M .near),
+          (F .2, (Q .2, (cosine-top vTop (2 ^ 257) top-test (val v) (M .size), tt))),
+        ),
+      ),
+    )
     wholeE (2 ^ 211) whole-test) in
     record {
-      fine = M .fine; size = M .size;
+      fine = M .fine;
+      size = M .size;
       off = abs-eq (negq (S -q t *q C)) (t *q C -q qn 1 *q S) (2 ^ 211)
-      (ring (S ∷ C ∷ t ∷ []) (ng (var 0 :- var 2 :* var 1)) (var 2 :* var 1 :- con 1 :* var 0) tt) (abs-neg (S -q t *q C) (2 ^ 211) e);
+          (ring (S ∷ C ∷ t ∷ []) (ng (var 0 :- var 2 :* var 1)) (var 2 :* var 1 :- con 1 :* var 0) tt) (abs-neg (S -q t *q C) (2 ^ 211) e);
       ahead = subst (λ z. 0≤ (z -q iv (2 ^ 254)))
-      (ring (C ∷ (t *q S) ∷ []) (var 0 :+ var 1) (con 1 :* var 0 :+ var 1) tt) (ahead-of S C t t0 t1 e (cosine-low (val v) (M .size)));
+          (ring (C ∷ (t *q S) ∷ []) (var 0 :+ var 1) (con 1 :* var 0 :+ var 1) tt) (ahead-of S C t t0 t1 e (cosine-low (val v) (M .size)));
     }

@@ -28,7 +28,9 @@ pub seen-less : (E G B E' G' B' : ℕ) (X Y : ℚ) (v : Float) → E ≤ E' → 
 seen-less E G B E' G' B' X Y v e g b s =
     let S = sineSum41 (val v) in let C = cosineSum42 (val v) in
     record {
-      fine = s .fine; size = abs-mono (val v) B B' b (s .size); off = abs-mono (Y *q C -q X *q S) E E' e (s .off);
+      fine = s .fine;
+      size = abs-mono (val v) B B' b (s .size);
+      off = abs-mono (Y *q C -q X *q S) E E' e (s .off);
       ahead = ahead-less (X *q C +q Y *q S) G G' g (s .ahead);
     }
 
@@ -65,7 +67,8 @@ seen-turned D E E' G B t P Q c s w fine size hP hQ hc hs off ahead =
     let C = cosineSum42 (val w) in let S = sineSum41 (val w) in
     let ρ = P ∷ Q ∷ c ∷ s ∷ C ∷ S ∷ [] in let dc = var 4 :- var 2 in let ds = var 5 :- var 3 in
     record {
-      fine = fine; size = size;
+      fine = fine;
+      size = size;
       off = abs-eq _ (Q *q C -q P *q S) E'
           (ring ρ (var 1 :* dc :- var 0 :* ds :+ (var 1 :* var 2 :- var 0 :* var 3)) (var 1 :* var 4 :- var 0 :* var 5) tt)
           (bound (Q ∷ (C -q c) ∷ P ∷ (S -q s) ∷ (Q *q c -q P *q s) ∷ []) (turnβ D E) (hQ, (hc, (hP, (hs, (off, tt))))) turnE E' (u .0));

@@ -151,7 +151,8 @@ quarter-turn v f h =
     let c = quarter-float v f h in let N = 15 * 2 ^ 204 in
     let g = both (sineGrows (2 ^ 205) wTop N) (cosineGrows (2 ^ 205) wTop N) quarter-grows in
     record {
-      fine = c .fine; size = c .size;
+      fine = c .fine;
+      size = c .size;
       sine = through (sineSum41 (val w)) (sineSum41 d) (cosineSum42 (val v)) N (2 ^ 203) (2 ^ 208) tt
           (sine-grows (2 ^ 205) wTop N (g .0) (val w) d (c .size) (c .exact-size) (c .near)) (quarter-sine (val v) h);
       cosine = through (cosineSum42 (val w)) (cosineSum42 d) (sineSum41 (val v)) N (2 ^ 203) (2 ^ 208) tt
@@ -164,7 +165,8 @@ half-turn v f h =
     let D = 3 * 2 ^ 204 in let N = 504 * 2 ^ 204 in
     let g = both (sineGrows D uTop N) (cosineGrows D uTop N) half-grows in
     record {
-      fine = c .fine; size = c .size;
+      fine = c .fine;
+      size = c .size;
       sine = through (sineSum41 (val w)) (sineSum41 d) (sineSum41 (val v)) N (2 ^ 207) (2 ^ 213) tt
           (sine-grows D uTop N (g .0) (val w) d (c .size) (c .exact-size) (c .near)) (half-sine (val v) h);
       cosine = through-sum (cosineSum42 (val w)) (cosineSum42 d) (cosineSum42 (val v)) N (2 ^ 207) (2 ^ 213) tt

@@ -68,10 +68,37 @@ module _ (a b q x r h y : ℚ) (e : a *q q ≡ b) (a-low : 0≤ (a -q qn 2 *q y)
 
   known : Nns ρ H
   unfolding iv
-  known =
-      (a-low, (y-nn, (r-nn, (r-top, (r-near .0, (r-near .1, (x-near .0, (x-near .1, (h-nn,
-      (≤q-sub h (a *q r +q (a *q r *q mk part +q y)) (h-near .0),
-      (≤q-sub (a *q r) (h +q (a *q r *q mk part +q y)) (h-near .1), tt)))))))))))
+  known = (
+    a-low,
+    (
+      y-nn,
+      (
+        r-nn,
+        (
+          r-top,
+          (
+            r-near .0,
+            (
+              r-near .1,
+              (
+                x-near .0,
+                (
+                  x-near .1,
+                  (
+                    h-nn,
+                    (
+                      ≤q-sub h (a *q r +q (a *q r *q mk part +q y)) (h-near .0),
+                      (≤q-sub (a *q r) (h +q (a *q r *q mk part +q y)) (h-near .1), tt),
+                    ),
+                  ),
+                ),
+              ),
+            ),
+          ),
+        ),
+      ),
+    ),
+  )
 
   core-high : h *q h ≤q a *q a +q b *q b +q evR ρ err
   unfolding sameQ den comb rest U

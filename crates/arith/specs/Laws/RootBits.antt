@@ -34,6 +34,7 @@ size-of : (q k : ℕ) → 2 ^ 52 ≤ q → q < 2 ^ 53 → size (q * 2 ^ k) - 53 
 size-of q k a b =
     ap (λ (x : ℕ). x - 53) (size-is (q * 2 ^ k) (52 + k) (le-trans (le-of-eq (pow-add 2 52 k)) (mul-le-mul-right (2 ^ k) a))
     (subst (λ (x : ℕ). q * 2 ^ k < 2 ^ x) (omega arith) (shl-lt 53 k b))) ∙ (omega arith)
+
 -- below the overflow
 pub fine : (q k : ℕ) → q < 2 ^ 53 → k < 2046 → q * 2 ^ k < 2 ^ 2098
 fine q k a b = lt-of-lt-of-le (shl-lt 53 k a) (pow-mono (room k b))
@@ -82,6 +83,7 @@ even-at h e l = omega arith
 
 pub odd-at : (h : ℕ) → (h % 2 ≡ 0 → ⊥) → 52 ≤ h → suc (52 + (h / 2 - 26 + (h / 2 - 26))) ≡ h
 odd-at h e l = omega arith
+
 pub drop-lt : (h : ℕ) → h < 4000 → h / 2 - 26 < 2046
 drop-lt h l = omega arith
 
@@ -129,6 +131,7 @@ exponent-lt b h = omega arith
 
 not-ones : (x : ℕ) → suc x < 2047 → eqb (suc x) 2047 ≡ false
 not-ones x h = is-false (eqb (suc x) 2047) (not-T (eqb (suc x) 2047) (λ t. omega (arith, eqb→eq (suc x) 2047 t)))
+
 pub low-value : (t : ℕ) → HasValue (ofFields binary64 false 0 t) false (t * 2 ^ 0) (2 ^ 1074)
 unfolding ofFields
 low-value t = odd-sign 53 false t 0 1074
@@ -148,6 +151,7 @@ sqrt-low b p h e =
     ap (λ (x : Float). sqrt binary64 x) (fields b h ∙ ap (λ (x : ℕ). ofFields binary64 false x t) e)
     ∙ sqrt-at binary64 (ofFields binary64 false 0 t) (t * 2 ^ 0) (subst (λ (x : ℕ). 0 < x) (sym (mul-one t)) (omega arith)) (low-value t)
     ∙ ap (λ (x : ℕ). roundRoot binary64 (x * 2 ^ 1074)) (mul-one t)
+
 pub sqrt-high : (b : ℕ) → b < 9218868437227405312 → (b / 4503599627370496 ≡ 0 → ⊥)
     → sqrt binary64 (ofBits binary64 b) ≡ roundRoot binary64 ((b % 4503599627370496 + 4503599627370496) * 2 ^ (b / 4503599627370496 + 1073))
 sqrt-high b h f = ap (λ (x : Float). sqrt binary64 x) (fields b h) ∙ go (b / 4503599627370496) (exponent-lt b h) f
@@ -161,6 +165,7 @@ sqrt-high b h f = ap (λ (x : Float). sqrt binary64 x) (fields b h) ∙ go (b / 
         ∙ ap (λ (y : ℕ). roundRoot binary64 y)
         (mul-assoc (4503599627370496 + t) (2 ^ x) (2 ^ 1074) ∙ ap (λ (y : ℕ). (4503599627370496 + t) * y) (sym (pow-add 2 x 1074))
         ∙ ap (λ (y : ℕ). (4503599627370496 + t) * 2 ^ y) (omega arith) ∙ ap (λ (y : ℕ). y * 2 ^ (suc x + 1073)) (add-comm 4503599627370496 t))
+
 -- a subnormal's digits shifted up
 pub record Shifted (t z : ℕ) : Type 0 where
   pub z-lo : 11 ≤ z
@@ -187,8 +192,11 @@ shifted t p h =
         let same' : t * 2 ^ (z - 11) * 2 ^ (1085 - z) ≡ t * 2 ^ 1074 = mul-assoc t (2 ^ (z - 11)) (2 ^ (1085 - z))
         ∙ ap (λ (x : ℕ). t * x) (sym (pow-add 2 (z - 11) (1085 - z))) ∙ ap (λ (x : ℕ). t * 2 ^ x) (whole j z s l) in
         record {
-          z-lo = omega arith; z-hi = omega arith; lo = subst (λ (x : ℕ). 2 ^ 52 ≤ x) (sym exact) lo';
-          hi = subst (λ (x : ℕ). x < 2 ^ 53) (sym exact) hi'; same = ap (λ (x : ℕ). x * 2 ^ (1085 - z)) exact ∙ same';
+          z-lo = omega arith;
+          z-hi = omega arith;
+          lo = subst (λ (x : ℕ). 2 ^ 52 ≤ x) (sym exact) lo';
+          hi = subst (λ (x : ℕ). x < 2 ^ 53) (sym exact) hi';
+          same = ap (λ (x : ℕ). x * 2 ^ (1085 - z)) exact ∙ same';
         }
       where
         up-to : (j z : ℕ) → z + suc j ≡ 64 → j < 52 → 52 ≡ j + (z - 11)

@@ -94,6 +94,7 @@ place-out W L P h = ≤-mk (sgF false W (2 * L) P) u (omega arith)
 -- what is at least 1/4 is above 0
 pub above-quarter : (z : ℚ) → mk quarter ≤q z → qn 0 <q z
 above-quarter z h = T-not (leq z (qn 0)) (λ t. omega (arith, mk-≤ quarter (whole 0 0) (≤q-trans (mk quarter) z (qn 0) h t)))
+
 -- ---- half a last place, h, is at most u: the bounds with h give those with u
 widen-low : (x r h : ℚ) → (r -q h) *q (r -q h) ≤q x → h ≤q mk u → mk quarter ≤q r → (r -q mk u) *q (r -q mk u) ≤q x
 unfolding sameQ den comb
@@ -124,7 +125,8 @@ root-ok x f p a b =
     let big : mk quarter ≤q r = quarter-out B L P (large-whole (R .n) (R .q) W (R .near) (R .A) L (R .square)
     (le-trans (lit≤ tt) (R .q-low)) (quarter-in (R .A) L P (subst (λ z. mk quarter ≤q z) v a))) in
     record {
-      is-finite = w .0; not-neg = subst 0≤ (sym (w .1)) (sg-nn B L P);
+      is-finite = w .0;
+      not-neg = subst 0≤ (sym (w .1)) (sg-nn B L P);
       low = subst₂ (λ r x. (r -q mk u) *q (r -q mk u) ≤q x) (sym (w .1)) (sym v)
           (widen-low (sg false (R .A) L P) r h (low-frac (R .A) B W L P P2 (low-whole (R .n) (R .q) W (R .near) (R .A) L (R .square))) small big);
       high = subst₂ (λ r x. x ≤q (r +q mk u) *q (r +q mk u)) (sym (w .1)) (sym v) (widen-high (sg false (R .A) L P) r h

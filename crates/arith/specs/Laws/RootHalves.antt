@@ -47,8 +47,13 @@ halves m s a b lo hi =
     let d-hi : d ≤ s * 67108864 = omega arith in
     let t-hi : d / s ≤ 67108864 = quotient-le s (d / s) d (d % s) (omega arith) e d-hi in
     record {
-      s-lo = s-lo; s-hi = root-hi m s b lo; d-hi = d-hi; t-hi = t-hi; tt-hi = mul-le-mul t-hi t-hi;
-      p-hi = mod-lt d (omega arith); total = total-at m s (m - s * s) (d / s) (d % s) (omega arith) e;
+      s-lo = s-lo;
+      s-hi = root-hi m s b lo;
+      d-hi = d-hi;
+      t-hi = t-hi;
+      tt-hi = mul-le-mul t-hi t-hi;
+      p-hi = mod-lt d (omega arith);
+      total = total-at m s (m - s * s) (d / s) (d % s) (omega arith) e;
     }
 
 pub up : (n q a b : ℕ) → n + b ≡ q * q + a → a ≤ 2 * q → b + q < a → NearRoot n (q + 1)

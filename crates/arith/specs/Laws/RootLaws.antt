@@ -33,6 +33,7 @@ raise-is n r a b = go (leb ((2 * r + 1) * (2 * r + 1)) n) (leb→le ((2 * r + 1)
 
 fewer : (d n : ℕ) → n < 2 ^ (suc d + suc d) → n / 4 < 2 ^ (d + d)
 fewer d n h = omega (arith, subst (λ (x : ℕ). n < x) (ap (λ (x : ℕ). 2 ^ x) (omega arith) ∙ pow-add 2 (d + d) 2) h)
+
 rootIn-is : (d n : ℕ) → n < 2 ^ (d + d) → (rootIn d n * rootIn d n ≤ n) × (n < suc (rootIn d n) * suc (rootIn d n))
 unfolding rootIn
 rootIn-is zero n h = (omega arith, omega arith)

@@ -38,7 +38,10 @@ part-exponent k h =
 
 units-of : (s : Bool) (m : ℕ) (e : ℤ) → 0 < m → m < 2 ^ 53 → down e ≤ 2 ^ 1074 → m * up e < 2 ^ 1024 * down e → Units (fin s m e) s
 units-of s m (pos k) p d l h = record {
-  m = m; j = k + 1074; digits = d; scale = let g = whole-exponent m k p h in omega arith;
+  m = m;
+  j = k + 1074;
+  digits = d;
+  scale = let g = whole-exponent m k p h in omega arith;
   value = (refl, mul-assoc m (2 ^ k) (2 ^ 1074) ∙ ap (λ (x : ℕ). m * x) (sym (pow-add 2 k 1074)) ∙ sym (mul-one (m * 2 ^ (k + 1074))));
 }
 units-of s m (negsuc k) p d l h =
@@ -61,7 +64,10 @@ units-of s m (negsuc k) p d l h =
 pub in-units : (s : Bool) (m : ℕ) (e : ℤ) → T (fits binary64 (fin s m e)) → Units (fin s m e) s
 unfolding fits
 in-units s zero e f = record {
-  m = 0; j = 0; digits = pow-pos 53; scale = lit≤ tt;
+  m = 0;
+  j = 0;
+  digits = pow-pos 53;
+  scale = lit≤ tt;
   value = (refl, ap (λ (x : ℕ). x * 2 ^ 1074) (zero-mul (up e)) ∙ sym (zero-mul (down e)));
 }
 in-units s (suc m) e f =
@@ -96,7 +102,15 @@ rooted-at x A M k v s e a b c =
     let q-hi = near-hi n q hi h in
     let is : sqrt binary64 x ≡ units binary64 false q k = s ∙ ap (λ (z : ℕ). roundRoot binary64 z) e ∙ round-at n k q lo (under-room n hi) h in
     record {
-      A = A; n = n; k = k; q = q; value = v; square = e; n-low = lo; near = h; q-low = near-lo n q lo h;
+      A = A;
+      n = n;
+      k = k;
+      q = q;
+      value = v;
+      square = e;
+      n-low = lo;
+      near = h;
+      q-low = near-lo n q lo h;
       q-high = q-hi;
       root = subst (λ (z : Float). HasValue z false (q * 2 ^ k) (2 ^ 1074)) (sym is) (units-val binary64 false q k (fine q k q-hi c));
       root-fits = subst (λ (z : Float). T (fits binary64 z)) (sym is) (units-fit q k q-hi (fine q k q-hi c));
@@ -111,8 +125,11 @@ scaled m s l a b = (low-part, subst (λ (z : ℕ). m * 2 ^ (53 - s) < 2 ^ z) (fi
 
     low-part : 2 ^ 52 ≤ m * 2 ^ (53 - s)
     low-part =
-        omega (arith, le-trans (le-of-eq (ap (λ (z : ℕ). 2 ^ z) (sym (fill s l)) ∙ pow-add 2 s (53 - s)))
-        (le-trans (mul-le-mul-right (2 ^ (53 - s)) a) (le-of-eq (mul-assoc 2 m (2 ^ (53 - s))))))
+        omega (
+          arith,
+          le-trans (le-of-eq (ap (λ (z : ℕ). 2 ^ z) (sym (fill s l)) ∙ pow-add 2 s (53 - s)))
+              (le-trans (mul-le-mul-right (2 ^ (53 - s)) a) (le-of-eq (mul-assoc 2 m (2 ^ (53 - s))))),
+        )
 
 rooted-even : (x : Float) (A M h : ℕ) → HasValue x false A (2 ^ 1074) → sqrt binary64 x ≡ roundRoot binary64 (A * 2 ^ 1074)
     → A * 2 ^ 1074 ≡ M * 2 ^ h → 2 ^ 52 ≤ M → M < 2 ^ 53 → 52 ≤ h → h < 4000 → h % 2 ≡ 0 → RootUnits x

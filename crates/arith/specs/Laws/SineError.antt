@@ -136,6 +136,7 @@ all3 P a b c d (suc zero) h = b
 all3 P a b c d (suc (suc zero)) h = c
 all3 P a b c d (suc (suc (suc zero))) h = d
 all3 P a b c d (suc (suc (suc (suc k)))) h = absurd (omega arith)
+
 bx-ok : (k : ℕ) → k ≤ 3 → T (ok (bx k))
 unfolding bx
 bx-ok = all3 (λ k. ok (bx k)) tt tt tt tt
@@ -264,9 +265,14 @@ stops-here h x k l m r = record { K = k; i = 0; sum = zero-add k; few = l; angle
 
 stops-later : (h : ℚ) (t : Turn) (k : ℕ) → Stops h (suc k) t → Stops h k (doubled t)
 stops-later h t k s = record {
-  K = s .K; i = suc (s .i); sum = omega (arith, s .sum); few = s .few; angle = s .angle;
+  K = s .K;
+  i = suc (s .i);
+  sum = omega (arith, s .sum);
+  few = s .few;
+  angle = s .angle;
   turned = again h t (s .K) (s .i) (s .few) (omega (arith, s .sum, s .few)) (s .turned);
 }
+
 stops : (h : ℚ) → 0≤ h → 0≤ (qn 4 -q h) → (j k : ℕ) → j + k ≡ 3 → (x : Float) → Rel x (X h k) (bx k) → Stops h k (turnOf j x)
 unfolding turnOf
 stops h a b zero k e x r = stops-here h x k (omega arith) (subst (λ n. Abs (X h n) xmax) (sym e ∙ zero-add k) (X-third h a b)) r
@@ -343,7 +349,8 @@ turn-near h f a b =
     let es = leb→le (err (db k k .0)) N (and-l (leb (err (db k k .0)) N) (leb (err (db k k .1)) N) u) in
     let ec = leb→le (err (db k k .1)) N (and-r (leb (err (db k k .0)) N) (leb (err (db k k .1)) N) u) in
     record {
-      sine-finite = r .0 .0; cosine-finite = r .1 .0;
+      sine-finite = r .0 .0;
+      cosine-finite = r .1 .0;
       sine = subst (Near (mk (tiny 40)) (val (t .s))) (sine-poly x) (near-of (val (t .s)) (evR (x ∷ []) sineR)
           (done x k (fs k k .0) sineR (and-l P Q o) (st .angle) (val (t .s)) (abs-mono (val (t .s) -q S x k k) (err (db k k .0)) N es (r .0 .2))));
       cosine = subst (Near (mk (tiny 40)) (val (t .c))) (cosine-poly x) (near-of (val (t .c)) (evR (x ∷ []) cosineR)
@@ -401,7 +408,8 @@ sin-cos-accepted h t e = go (lt h (ratio 0 1)) (le h (ratio 4 1)) refl refl e
     go false true p q e =
         let f = accepted-finite h p q in
         record {
-          is-finite = f; low = subst (λ z. z ≤q val h) zero-val (lt-no h (ratio 0 1) f (small-finite 0 (inl refl)) p);
+          is-finite = f;
+          low = subst (λ z. z ≤q val h) zero-val (lt-no h (ratio 0 1) f (small-finite 0 (inl refl)) p);
           high = subst (λ z. val h ≤q z) four-val (subst T (sym q ∙ le-val h (ratio 4 1) f (small-finite 4 (inr refl))) tt);
           is = cc;
         }

@@ -36,6 +36,7 @@ gap-fine m j k q a b h = le-of-suc-le-suc (lt-of-not-le (λ (g : suc j ≤ k). c
         let l' = lt-of-mul-lt-mul-right (2 ^ j) l in
         let t : 2 ^ 52 * 2 ^ suc d ≤ q * 2 ^ suc d = mul-le-mul-right (2 ^ suc d) b in
         omega (arith, two d)
+
 pub above-next : (m j k q : ℕ) → m < 2 ^ 53 → 2 ^ 52 ≤ q → q * 2 ^ k < m * 2 ^ j → (q + 1) * 2 ^ k ≤ m * 2 ^ j
 above-next m j k q a b h = whole (gap-fine m j k q a b h)
   where
@@ -45,6 +46,7 @@ above-next m j k q a b h = whole (gap-fine m j k q a b h)
         ∙ ap (λ (x : ℕ). m * x) (pow-add 2 (j - k) k) ∙ sym (mul-assoc m (2 ^ (j - k)) (2 ^ k)) in
         let l = lt-of-mul-lt-mul-right (2 ^ k) (lt-of-lt-of-le h (le-of-eq e)) in
         le-trans (mul-le-mul-right (2 ^ k) (omega arith)) (le-of-eq (sym e))
+
 -- below it: z is at most (q - 1) * 2 ^ k, unless q is the least of its binade
 pub below-next : (m j k q : ℕ) → m < 2 ^ 53 → 2 ^ 52 < q → m * 2 ^ j < q * 2 ^ k → m * 2 ^ j ≤ (q - 1) * 2 ^ k
 below-next m j k q a b h = go (decLe (m * 2 ^ j) ((q - 1) * 2 ^ k))
@@ -89,6 +91,8 @@ grid (fin false m e) f p h =
     let u = in-units false m e f in
     record { m = u .m; j = u .j; digits = u .digits; is = has→val (fin false m e) false (u .m * 2 ^ u .j) (2 ^ 1074) (pow-pos 1074) (u .value) .1 }
 grid (fin true m e) f p h = record {
-  m = 0; j = 0; digits = pow-pos 53;
+  m = 0;
+  j = 0;
+  digits = pow-pos 53;
   is = zero-both true (m * up e) (down e) (2 ^ 1074) (down-pos e) (pow-pos 1074) (no-less (m * up e) (down e) (down-pos e) h);
 }

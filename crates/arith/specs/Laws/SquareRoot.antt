@@ -80,7 +80,8 @@ module _ (x : Float) (f : T (fits binary64 x)) (p : T (finite x)) (a : qn 0 <q v
 
   nearest : Nearest (val x) r
   nearest = record {
-    double = (root-finite x f p a, root-fits x f p a); above-zero = r-positive;
+    double = (root-finite x f p a, root-fits x f p a);
+    above-zero = r-positive;
     below = λ d D l h.
         either (leq (qn 0) (val d)) (λ t. below-nearer x f p a d (D .1) (D .0) t l)
         (λ t. below-zero-nearer d (≤q-total (qn 0) (val d) t) h);
@@ -119,9 +120,11 @@ root-of-infinity = refl
 
 pub square-root : (x : Float) → T (fits binary64 x) → IsSquareRoot x (sqrt binary64 x)
 square-root x f = record {
-  of-nan = λ e. ap (sqrt binary64) e ∙ root-of-nan; of-below = λ h. root-of-below x (ap (lt x) (sym zero-is) ∙ h);
+  of-nan = λ e. ap (sqrt binary64) e ∙ root-of-nan;
+  of-below = λ h. root-of-below x (ap (lt x) (sym zero-is) ∙ h);
   of-zero = λ h. sym (root-of-zero x (ap (eq x) (sym zero-is) ∙ h));
-  of-infinity = λ e. ap (sqrt binary64) e ∙ root-of-infinity ∙ sym e; of-above = λ p a. nearest x f p a;
+  of-infinity = λ e. ap (sqrt binary64) e ∙ root-of-infinity ∙ sym e;
+  of-above = λ p a. nearest x f p a;
 }
 
 pub rooted : (x : Float) {r : Float} → T (fits binary64 x) → r ≡ sqrt binary64 x → Rooted x r
@@ -158,6 +161,7 @@ same-double (fin false m i) (fin false n j) p q f g e =
     let le = mk-≤ x-is y-is (subst (λ z. val x ≤q z) e (≤q-refl (val x))) in
     let ge = mk-≤ y-is x-is (subst (λ z. z ≤q val x) e (≤q-refl (val x))) in
     value-unique binary64 x (fin false n j) false a (down i) (down-pos i) f g (refl, refl) (refl, omega arith)
+
 nearest-unique : (x : ℚ) (r s : Float) → Nearest x r → Nearest x s → r ≡ s
 nearest-unique x r s R S =
     same-double r s (positive-of r (R .double .0) (R .above-zero)) (positive-of s (S .double .0) (S .above-zero))

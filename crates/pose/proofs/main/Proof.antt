@@ -10,5 +10,5 @@ send-requires c κs = let at-reply = c .before .before in reply-text _ (at-reply
 pub main-spec : {M : Type 1} → statement M
 main-spec =
     tie.close (tie.spec
-      (λ c κs. search needs) (λ c κs. received-counts (c .receive .result) (c .receive .ensures))
-      (λ c. search needs) (λ c. search needs) send-requires (λ c. search needs))
+    (λ c κs. search needs) (λ c κs. received-counts (c .receive .result) (c .receive .ensures))
+    (λ c. search needs) (λ c. search needs) send-requires (λ c. search needs))

@@ -17,5 +17,5 @@ returns-2 c =
 pub reply-to-spec : {M : Type 1} → statement M
 reply-to-spec =
     tie.close (tie.spec
-      (λ c κs. search needs) returns (λ c. search needs) (λ c. search needs) (λ c. search needs)
-      (λ c. search needs) (λ c κs. search needs) returns-2)
+    (λ c κs. search needs) returns (λ c. search needs) (λ c. search needs) (λ c. search needs)
+    (λ c. search needs) (λ c κs. search needs) returns-2)

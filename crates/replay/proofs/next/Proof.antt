@@ -9,6 +9,6 @@ use Rattle.replay.proofs.next.Tie as tie
 pub next-spec : {M : Type 1} → statement M
 next-spec =
     tie.close (tie.spec
-      (λ c. search needs) (λ c κs. search needs) (λ c κs. search needs) (λ c. search needs) (λ c. search needs)
-      (λ c. search needs) (λ c κs. search needs) (λ c κs. search needs) (λ c. search needs)
-      (λ c. sym (length-take-le _ _ (omega arith))) (λ c κs. search needs) (λ c. search needs))
+    (λ c. search needs) (λ c κs. search needs) (λ c κs. search needs) (λ c. search needs) (λ c. search needs)
+    (λ c. search needs) (λ c κs. search needs) (λ c κs. search needs) (λ c. search needs)
+    (λ c. sym (length-take-le _ _ (omega arith))) (λ c κs. search needs) (λ c. search needs))

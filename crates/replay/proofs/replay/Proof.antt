@@ -13,5 +13,5 @@ abbrev μ-loop : tie.MeasureT-loop
 pub replay-spec : {M : Type 1} → statement M
 replay-spec =
     tie.close (tie.spec
-      Inv-loop μ-loop (λ c. tt) (λ c κs. tt) (λ c. search needs) (λ c. omega arith) (λ c. omega arith) (λ c. tt)
-      (λ c. tt) (λ c. tt))
+    Inv-loop μ-loop (λ c. tt) (λ c κs. tt) (λ c. search needs) (λ c. omega arith) (λ c. omega arith) (λ c. tt)
+    (λ c. tt) (λ c. tt))

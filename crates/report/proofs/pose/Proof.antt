@@ -53,6 +53,6 @@ returns-3 c =
 pub pose-spec : {M : Type 1} → statement M
 pose-spec =
     tie.close (tie.spec
-      returns (λ c κs. search needs) (λ c κs. search needs) (λ c κs. search needs) step-and-report-requires
-      (λ c. search needs) (λ c. search needs) returns-2 (λ c. search needs) (λ c κs. search needs)
-      (λ c. search needs) returns-3)
+    returns (λ c κs. search needs) (λ c κs. search needs) (λ c κs. search needs) step-and-report-requires
+    (λ c. search needs) (λ c. search needs) returns-2 (λ c. search needs) (λ c κs. search needs)
+    (λ c. search needs) returns-3)

@@ -55,6 +55,6 @@ returns c =
 pub step-and-report-spec : {M : Type 1} → statement M
 step-and-report-spec =
     tie.close (tie.spec
-      (λ c. search needs) array-borrow-prefix-bodies slice-aggregate-solve (λ c κs. search needs)
-      (λ c κs. search needs) array-share-prefix-bodies slice-aggregate-report (λ c κs. search needs)
-      (λ c. search needs) (λ c. search needs) returns)
+    (λ c. search needs) array-borrow-prefix-bodies slice-aggregate-solve (λ c κs. search needs)
+    (λ c κs. search needs) array-share-prefix-bodies slice-aggregate-report (λ c κs. search needs)
+    (λ c. search needs) (λ c. search needs) returns)

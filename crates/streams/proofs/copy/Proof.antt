@@ -22,7 +22,8 @@ loop-again : tie.Need-loop-again Inv-loop μ-loop
 loop-again c =
     let l = c .before .before .loop in
     let a = c .before .before .before .args in (
-      simp length-set (l .inv .0), omega arith,
+      simp length-set (l .inv .0),
+      omega arith,
       ap (λ (d : List ℕ). set d (a .at + l .i) (getD (a .from .now) (l .i) 0)) (l .inv .2)
           ∙ paste-suc (a .to .now) (a .at) (a .from .now) (l .i) 0 (omega arith) (omega arith)
           ∙ ap (paste (a .to .now) (a .at) (a .from .now)) (sym (add-one (l .i))),
@@ -38,5 +39,5 @@ returns c =
 pub copy-spec : {M : Type 1} → statement M
 copy-spec =
     tie.close (tie.spec
-      Inv-loop μ-loop loop-holds (λ c. omega arith) (λ c. omega arith) (λ c. omega arith) (λ c. omega arith)
-      (λ c. omega arith) loop-again (λ c. omega arith) returns)
+    Inv-loop μ-loop loop-holds (λ c. omega arith) (λ c. omega arith) (λ c. omega arith) (λ c. omega arith)
+    (λ c. omega arith) loop-again (λ c. omega arith) returns)

@@ -49,7 +49,9 @@ loop-again c =
     let at-bytes = c .before in
     let at-read = at-bytes .before .before .before .before .before .before in
     let at-loop = at-read .before .before .before .before in (
-      omega arith, omega arith, omega (arith, at-read .read-to .ensures .within, at-bytes .bytes .ensures),
+      omega arith,
+      omega arith,
+      omega (arith, at-read .read-to .ensures .within, at-bytes .bytes .ensures),
       omega arith,
       reading-more _ _ (at-loop .loop .inv .4) (at-read .read-to .ensures) (at-bytes .bytes .ensures) (back at-read)
           (c .if1 .left),
@@ -64,6 +66,6 @@ returns-2 c =
 pub read-all-spec : {M : Type 1} → statement M
 read-all-spec =
     tie.close (tie.spec
-      Inv-loop μ-loop (λ c κs. search needs) (λ c. omega arith)
-      (λ c. (refl, refl, omega arith, omega arith, reading-none _)) (λ c κs. omega arith) (λ c κs. search needs)
-      (λ c. omega arith) returns add-count loop-less loop-again (λ c. omega arith) returns-2)
+    Inv-loop μ-loop (λ c κs. search needs) (λ c. omega arith)
+    (λ c. (refl, refl, omega arith, omega arith, reading-none _)) (λ c κs. omega arith) (λ c κs. search needs)
+    (λ c. omega arith) returns add-count loop-less loop-again (λ c. omega arith) returns-2)

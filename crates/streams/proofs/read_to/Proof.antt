@@ -76,5 +76,5 @@ returns c =
 pub read-to-spec : {M : Type 1} → statement M
 read-to-spec =
     tie.close (tie.spec
-      (λ c. search needs) (λ c κs. search needs) (λ c. search needs) slice-aggregate-read (λ c κs. search needs)
-      (λ c κs. search needs) (λ c κs. search needs) copy-requires (λ c. search needs) same-length-2 returns)
+    (λ c. search needs) (λ c κs. search needs) (λ c. search needs) slice-aggregate-read (λ c κs. search needs)
+    (λ c κs. search needs) (λ c κs. search needs) copy-requires (λ c. search needs) same-length-2 returns)

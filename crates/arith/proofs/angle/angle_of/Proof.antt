@@ -19,5 +19,5 @@ returns-2 c =
 pub angle-of-spec : {M : Type 1} → statement M
 angle-of-spec =
     tie.close (tie.spec
-      (λ c κs. search needs) (λ c κs. search needs) (λ c κs. search needs) (λ c κs. search needs) returns
-      returns-2)
+    (λ c κs. search needs) (λ c κs. search needs) (λ c κs. search needs) (λ c κs. search needs) returns
+    returns-2)

@@ -43,5 +43,5 @@ returns-5 c =
 pub atan2-spec : {M : Type 1} → statement M
 atan2-spec =
     tie.close (tie.spec
-      (λ c κs. search needs) returns (λ c κs. search needs) returns-2 returns-3 (λ c κs. search needs) returns-4
-      (λ c κs. search needs) returns-5)
+    (λ c κs. search needs) returns (λ c κs. search needs) returns-2 returns-3 (λ c κs. search needs) returns-4
+    (λ c κs. search needs) returns-5)

@@ -13,4 +13,4 @@ returns-3 c = sines-answered _ (sines-high _ (c .before .if1 .left) (c .if2 .lef
 pub sin-cos-spec : {M : Type 1} → statement M
 sin-cos-spec =
     tie.close (tie.spec
-      (λ c. sines-answered _ (sines-low _ (c .if1 .taken))) (λ c κs. search needs) returns-2 returns-3)
+    (λ c. sines-answered _ (sines-low _ (c .if1 .taken))) (λ c κs. search needs) returns-2 returns-3)

@@ -27,6 +27,6 @@ returns-5 c = λ e.
 pub is-nearest-spec : {M : Type 1} → statement M
 is-nearest-spec =
     tie.close (tie.spec
-      (λ c. omega (arith, high-square (c .args .q) (c .pre))) (λ c e. no e) (λ c e. no e)
-      (λ c. search needs) (λ c. search needs) mul-c (λ c e. no e) (λ c e. no e) (λ c. search needs) mul-z
-      add-z (λ c. search needs) (λ c. search needs) returns-5 (λ c e. no e))
+    (λ c. omega (arith, high-square (c .args .q) (c .pre))) (λ c e. no e) (λ c e. no e)
+    (λ c. search needs) (λ c. search needs) mul-c (λ c e. no e) (λ c e. no e) (λ c. search needs) mul-z
+    add-z (λ c. search needs) (λ c. search needs) returns-5 (λ c e. no e))

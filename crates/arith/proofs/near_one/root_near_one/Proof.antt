@@ -20,6 +20,6 @@ returns c =
 pub root-near-one-spec : {M : Type 1} → statement M
 root-near-one-spec =
     tie.close (tie.spec
-      (λ c κs. search needs) (λ c. at-least-one _ (c .before .before .if1 .taken))
-      (λ c. at-least-one _ (c .before .if2 .taken)) (λ c. search needs) (λ c. search needs)
-      (λ c κs. search needs) returns (λ c κs. search needs) (λ c. c .sqrt .ensures .is))
+    (λ c κs. search needs) (λ c. at-least-one _ (c .before .before .if1 .taken))
+    (λ c. at-least-one _ (c .before .if2 .taken)) (λ c. search needs) (λ c. search needs)
+    (λ c κs. search needs) returns (λ c κs. search needs) (λ c. c .sqrt .ensures .is))

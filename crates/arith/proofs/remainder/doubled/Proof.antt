@@ -33,4 +33,4 @@ returns c =
 pub doubled-spec : {M : Type 1} → statement M
 doubled-spec =
     tie.close (tie.spec
-      Inv-loop μ-loop loop-holds (λ c. omega arith) (λ c. omega arith) loop-again (λ c. omega arith) returns)
+    Inv-loop μ-loop loop-holds (λ c. omega arith) (λ c. omega arith) loop-again (λ c. omega arith) returns)

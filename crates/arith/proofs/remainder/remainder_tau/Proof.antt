@@ -10,4 +10,4 @@ returns c = minus-remainder (c .before .before .args .x) (c .unsigned-remainder 
 pub remainder-tau-spec : {M : Type 1} → statement M
 remainder-tau-spec =
     tie.close (tie.spec
-      (λ c κs. turned (c .before .args .x) (c .if1 .taken)) returns (λ c κs. search needs) (λ c. search needs))
+    (λ c κs. turned (c .before .args .x) (c .if1 .taken)) returns (λ c κs. search needs) (λ c. search needs))

@@ -53,5 +53,5 @@ returns-3 c = no-finite (c .before .before .before .args .x) (c .before .infinit
 pub unsigned-remainder-spec : {M : Type 1} → statement M
 unsigned-remainder-spec =
     tie.close (tie.spec
-      returns (λ c κs. search needs) float-to-bits-b (λ c. search needs) sub-n (λ c κs. search needs)
-      int-to-float-result returns-2 returns-3)
+    returns (λ c κs. search needs) float-to-bits-b (λ c. search needs) sub-n (λ c κs. search needs)
+    int-to-float-result returns-2 returns-3)

@@ -33,6 +33,6 @@ returns-4 c =
 pub hypot-spec : {M : Type 1} → statement M
 hypot-spec =
     tie.close (tie.spec
-      (λ c κs. search needs) (λ c κs. search needs) returns (λ c κs. search needs) (λ c κs. search needs)
-      returns-2 (λ c κs. search needs) (λ c κs. search needs) (λ c κs. search needs) (λ c κs. search needs)
-      returns-3 returns-4)
+    (λ c κs. search needs) (λ c κs. search needs) returns (λ c κs. search needs) (λ c κs. search needs)
+    returns-2 (λ c κs. search needs) (λ c κs. search needs) (λ c κs. search needs) (λ c κs. search needs)
+    returns-3 returns-4)

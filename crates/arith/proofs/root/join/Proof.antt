@@ -24,7 +24,7 @@ odd c =
 pub join-spec : {M : Type 1} → statement M
 join-spec =
     tie.close (tie.spec
-      (λ c. search needs) (λ c. search needs) (λ c κs. search needs)
-      (λ c. record { fits = lt-of-lt-of-le (even c .0) (lit≤ tt) }) (λ c. search needs) (λ c. search needs)
-      (λ c. search needs) (λ c κs. search needs) (λ c. record { fits = lt-of-lt-of-le (odd c .0) (lit≤ tt) })
-      even odd)
+    (λ c. search needs) (λ c. search needs) (λ c κs. search needs)
+    (λ c. record { fits = lt-of-lt-of-le (even c .0) (lit≤ tt) }) (λ c. search needs) (λ c. search needs)
+    (λ c. search needs) (λ c κs. search needs) (λ c. record { fits = lt-of-lt-of-le (odd c .0) (lit≤ tt) })
+    even odd)

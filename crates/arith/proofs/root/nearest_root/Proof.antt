@@ -52,7 +52,7 @@ returns-2 c = near-stay (c .before .before .args .m) (c .before .whole-root .res
 pub nearest-root-spec : {M : Type 1} → statement M
 nearest-root-spec =
     tie.close (tie.spec
-      (λ c κs. search needs) (λ c. search needs) (λ c. search needs) mul-d-2
-      (λ c. positive (c .whole-root .result) (known c .s-lo))
-      (λ c. positive (c .whole-root .result) (known c .s-lo)) mul-p mul-q add-q
-      (λ c. record { fits = square-fits _ (known c .tt-hi) }) add-if1 add-result returns returns-2)
+    (λ c κs. search needs) (λ c. search needs) (λ c. search needs) mul-d-2
+    (λ c. positive (c .whole-root .result) (known c .s-lo))
+    (λ c. positive (c .whole-root .result) (known c .s-lo)) mul-p mul-q add-q
+    (λ c. record { fits = square-fits _ (known c .tt-hi) }) add-if1 add-result returns returns-2)

@@ -49,6 +49,6 @@ returns-2 c =
 pub root-bits-spec : {M : Type 1} → statement M
 root-bits-spec =
     tie.close (tie.spec
-      (λ c. up c .z-lo) cast-join (λ c. small _ (up c .z-hi)) (λ c. le-trans (up c .z-hi) (lit≤ tt))
-      (λ c. search needs) join-requires (λ c. search needs) (λ c. search needs) (λ c κs. search needs) returns
-      returns-2)
+    (λ c. up c .z-lo) cast-join (λ c. small _ (up c .z-hi)) (λ c. le-trans (up c .z-hi) (lit≤ tt))
+    (λ c. search needs) join-requires (λ c. search needs) (λ c. search needs) (λ c κs. search needs) returns
+    returns-2)

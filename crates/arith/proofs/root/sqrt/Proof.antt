@@ -44,5 +44,5 @@ returns-4 c =
 pub sqrt-spec : {M : Type 1} → statement M
 sqrt-spec =
     tie.close (tie.spec
-      (λ c. above-no-nan (c .before .args .x) (c .if1 .taken)) root-bits-requires float-from-bits-result returns
-      returns-2 returns-3 returns-4)
+    (λ c. above-no-nan (c .before .args .x) (c .if1 .taken)) root-bits-requires float-from-bits-result returns
+    returns-2 returns-3 returns-4)

@@ -36,5 +36,5 @@ loop-again c =
 pub whole-root-spec : {M : Type 1} → statement M
 whole-root-spec =
     tie.close (tie.spec
-      Inv-loop μ-loop (λ c. omega arith) loop-holds mul-loop div-r add-r-2 loop-less loop-again
-      (λ c. (c .loop-test .left, c .before .loop .inv .0)))
+    Inv-loop μ-loop (λ c. omega arith) loop-holds mul-loop div-r add-r-2 loop-less loop-again
+    (λ c. (c .loop-test .left, c .before .loop .inv .0)))

@@ -33,9 +33,20 @@ read-on-below t = and 1 read-on-kinds.ps (falls 1 read-on-kinds.ps _<_ μ-read-o
 -- what is asked and learnt at the calls, where t bytes are left
 abbrev calls : ℕ → read-on-lts.Claims
 calls t = (
-  head-reads.Asked, head-reads.Learnt, ended-reads.Asked, ended-reads.Learnt, double-at-reads.Asked,
-  double-at-reads.Learnt, with-time-step-reads.Asked, with-time-step-reads.Learnt, read-on-below t, read-on.Post,
-  with-body-reads.Asked, with-body-reads.Learnt, with-joint-reads.Asked, with-joint-reads.Learnt,
+  head-reads.Asked,
+  head-reads.Learnt,
+  ended-reads.Asked,
+  ended-reads.Learnt,
+  double-at-reads.Asked,
+  double-at-reads.Learnt,
+  with-time-step-reads.Asked,
+  with-time-step-reads.Learnt,
+  read-on-below t,
+  read-on.Post,
+  with-body-reads.Asked,
+  with-body-reads.Learnt,
+  with-joint-reads.Asked,
+  with-joint-reads.Learnt,
 )
 
 head-requires : (t : ℕ) → read-on-lts.Need-head-requires (calls t) (read-on-at t) read-on.Post

@@ -39,6 +39,6 @@ returns-6 c =
 pub head-spec : {M : Type 1} → statement M
 head-spec =
     tie.close (tie.spec
-      (λ c. head-end _ _ _ _ (c .if1 .taken)) (λ c. head-lone _ _ _ _ (c .before .if1 .left) (c .if2 .taken))
-      (λ c κs. search needs) (λ c κs. search needs) returns-3 (λ c κs. search needs) (λ c κs. search needs)
-      returns-4 (λ c κs. search needs) (λ c κs. search needs) returns-5 returns-6)
+    (λ c. head-end _ _ _ _ (c .if1 .taken)) (λ c. head-lone _ _ _ _ (c .before .if1 .left) (c .if2 .taken))
+    (λ c κs. search needs) (λ c κs. search needs) returns-3 (λ c κs. search needs) (λ c κs. search needs)
+    returns-4 (λ c κs. search needs) (λ c κs. search needs) returns-5 returns-6)

@@ -26,5 +26,5 @@ returns-5 c =
 pub joint-head-spec : {M : Type 1} → statement M
 joint-head-spec =
     tie.close (tie.spec
-      (λ c. joint-full _ _ (c .if1 .taken)) (λ c. joint-lone _ _ (c .before .if1 .left) (c .if2 .taken))
-      (λ c. search needs) returns-3 (λ c κs. search needs) returns-4 returns-5)
+    (λ c. joint-full _ _ (c .if1 .taken)) (λ c. joint-lone _ _ (c .before .if1 .left) (c .if2 .taken))
+    (λ c. search needs) returns-3 (λ c κs. search needs) returns-4 returns-5)

@@ -53,6 +53,6 @@ returns c =
 pub joints-from-spec : {M : Type 1} → statement M
 joints-from-spec =
     tie.close (tie.spec
-      Inv-loop μ-loop (λ c. (omega arith, turns-none _ _)) (λ c. omega arith) (λ c. omega arith) sub-joint-at
-      part-joint-at-start (λ c. omega arith) joint-at-requires (λ c. omega arith) (λ c. omega arith)
-      (λ c. omega arith) (λ c. omega arith) loop-again returns)
+    Inv-loop μ-loop (λ c. (omega arith, turns-none _ _)) (λ c. omega arith) (λ c. omega arith) sub-joint-at
+    part-joint-at-start (λ c. omega arith) joint-at-requires (λ c. omega arith) (λ c. omega arith)
+    (λ c. omega arith) (λ c. omega arith) loop-again returns)

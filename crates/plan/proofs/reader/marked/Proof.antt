@@ -14,4 +14,4 @@ returns-2 c = marked-not (now (c .before .before .args .file)) (c .before .befor
 pub marked-spec : {M : Type 1} → statement M
 marked-spec =
     tie.close (tie.spec
-      (λ c. search needs) (λ c. search needs) (λ c. search needs) (λ c. search needs) returns returns-2)
+    (λ c. search needs) (λ c. search needs) (λ c. search needs) (λ c. search needs) returns returns-2)

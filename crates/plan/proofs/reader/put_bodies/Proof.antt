@@ -46,7 +46,8 @@ loop-again c =
     let at-loop = at-test .before in
     let start = at-loop .before .before .before in
     let inv = at-loop .loop .inv in (
-      omega (arith, at-test .loop-test .taken), at-put .put-body .kept .0 ∙ inv .1,
+      omega (arith, at-test .loop-test .taken),
+      at-put .put-body .kept .0 ∙ inv .1,
       bodies-more (now (start .args .file)) (start .args .t3) (at-loop .loop .k) (now (start .args .table)) (inv .2) (at-put .put-body .ensures),
     )
 
@@ -58,6 +59,6 @@ returns c =
 pub put-bodies-spec : {M : Type 1} → statement M
 put-bodies-spec =
     tie.close (tie.spec
-      Inv-loop μ-loop (λ c. (omega arith, c .before .before .pre .0 .1, turns-none _ _)) (λ c. omega arith)
-      (λ c. omega arith) (λ c. omega arith) sub-put-body part-put-body-start (λ c. omega arith)
-      put-body-requires (λ c. omega arith) (λ c. omega arith) loop-again (λ c. omega arith) returns)
+    Inv-loop μ-loop (λ c. (omega arith, c .before .before .pre .0 .1, turns-none _ _)) (λ c. omega arith)
+    (λ c. omega arith) (λ c. omega arith) sub-put-body part-put-body-start (λ c. omega arith)
+    put-body-requires (λ c. omega arith) (λ c. omega arith) loop-again (λ c. omega arith) returns)

@@ -18,7 +18,7 @@ returns c =
 pub frame-at-spec : {M : Type 1} → statement M
 frame-at-spec =
     tie.close (tie.spec
-      (λ c κs. search needs) (λ c. search needs) (λ c κs. search needs) (λ c. search needs)
-      (λ c κs. search needs) (λ c. search needs) (λ c κs. search needs) (λ c. search needs)
-      (λ c κs. search needs) (λ c. search needs) (λ c κs. search needs) (λ c. search needs)
-      (λ c κs. search needs) returns)
+    (λ c κs. search needs) (λ c. search needs) (λ c κs. search needs) (λ c. search needs)
+    (λ c κs. search needs) (λ c. search needs) (λ c κs. search needs) (λ c. search needs)
+    (λ c κs. search needs) (λ c. search needs) (λ c κs. search needs) (λ c. search needs)
+    (λ c κs. search needs) returns)

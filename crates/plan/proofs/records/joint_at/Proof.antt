@@ -27,6 +27,6 @@ returns c = joint-is _ (c .before .before .frame-at .ensures) (c .before .frame-
 pub joint-at-spec : {M : Type 1} → statement M
 joint-at-spec =
     tie.close (tie.spec
-      shared-slice-read-t3 (λ c. omega (arith, c .shared-slice-known2 .given 2)) shared-slice-read-t6
-      (λ c. omega (arith, c .shared-slice-known3 .given 3)) frame-at-requires frame-at-requires-2
-      (λ c κs. search needs) returns)
+    shared-slice-read-t3 (λ c. omega (arith, c .shared-slice-known2 .given 2)) shared-slice-read-t6
+    (λ c. omega (arith, c .shared-slice-known3 .given 3)) frame-at-requires frame-at-requires-2
+    (λ c κs. search needs) returns)

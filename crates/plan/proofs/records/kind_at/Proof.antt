@@ -32,6 +32,6 @@ returns-6 c =
 pub kind-at-spec : {M : Type 1} → statement M
 kind-at-spec =
     tie.close (tie.spec
-      shared-slice-read-match double-at-requires cone-twist-at-requires (λ c. kind-ball _ (c .match .keys1))
-      (λ c. kind-hinge _ (c .match .keys2)) (λ c. kind-cylindrical _ (c .match .keys3))
-      (λ c. kind-planar _ (c .match .keys4)) returns-5 returns-6)
+    shared-slice-read-match double-at-requires cone-twist-at-requires (λ c. kind-ball _ (c .match .keys1))
+    (λ c. kind-hinge _ (c .match .keys2)) (λ c. kind-cylindrical _ (c .match .keys3))
+    (λ c. kind-planar _ (c .match .keys4)) returns-5 returns-6)

@@ -25,7 +25,8 @@ loop-again c =
     let at-loop = at-loop-test .before in
     let start = at-loop .before .before .before in
     let inv = at-loop .loop .inv in (
-      omega arith, simp length-set (inv .1),
+      omega arith,
+      simp length-set (inv .1),
       put-more (now (start .args .bodies)) (start .args .at) (now (start .args .file)) (at-loop .loop .i) (omega arith)
           (at-loop-test .loop-test .taken) (inv .2) (c .double-at .ensures),
     )
@@ -40,6 +41,6 @@ returns c =
 pub put-body-spec : {M : Type 1} → statement M
 put-body-spec =
     tie.close (tie.spec
-      Inv-loop μ-loop loop-holds (λ c. omega arith) (λ c. omega arith) (λ c κs. omega arith) (λ c. omega arith)
-      (λ c. omega arith) (λ c. omega arith) (λ c. omega arith) (λ c. omega arith) loop-again (λ c. omega arith)
-      returns)
+    Inv-loop μ-loop loop-holds (λ c. omega arith) (λ c. omega arith) (λ c κs. omega arith) (λ c. omega arith)
+    (λ c. omega arith) (λ c. omega arith) (λ c. omega arith) (λ c. omega arith) loop-again (λ c. omega arith)
+    returns)

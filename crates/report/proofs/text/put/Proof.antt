@@ -24,7 +24,8 @@ loop-again c =
     let at-loop = at-loop-test .before in
     let start = at-loop .before in
     let inv = at-loop .loop .inv in (
-      omega arith, simp length-set (inv .1),
+      omega arith,
+      simp length-set (inv .1),
       copy-more (now (start .args .out)) (start .args .at) (now (start .args .text)) (at-loop .loop .i) (start .pre)
           (at-loop-test .loop-test .taken) (inv .2),
     )
@@ -39,5 +40,5 @@ returns c =
 pub put-spec : {M : Type 1} → statement M
 put-spec =
     tie.close (tie.spec
-      Inv-loop μ-loop loop-holds (λ c. omega arith) (λ c. omega arith) (λ c. omega arith) (λ c. omega arith)
-      (λ c. omega arith) loop-again (λ c. omega arith) (λ c. omega arith) returns)
+    Inv-loop μ-loop loop-holds (λ c. omega arith) (λ c. omega arith) (λ c. omega arith) (λ c. omega arith)
+    (λ c. omega arith) loop-again (λ c. omega arith) (λ c. omega arith) returns)

@@ -47,5 +47,5 @@ returns c =
 pub put-bodies-spec : {M : Type 1} → statement M
 put-bodies-spec =
     tie.close (tie.spec
-      Inv-loop μ-loop loop-holds put-body-requires (λ c. omega arith) (λ c. omega arith) loop-again same-length
-      returns)
+    Inv-loop μ-loop loop-holds put-body-requires (λ c. omega arith) (λ c. omega arith) loop-again same-length
+    returns)

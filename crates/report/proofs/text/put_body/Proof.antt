@@ -31,5 +31,5 @@ returns c =
 pub put-body-spec : {M : Type 1} → statement M
 put-body-spec =
     tie.close (tie.spec
-      (λ c κs. search needs) (λ c. search needs) put-state-requires (λ c. search needs) put-requires
-      (λ c. search needs) returns)
+    (λ c κs. search needs) (λ c. search needs) put-state-requires (λ c. search needs) put-requires
+    (λ c. search needs) returns)

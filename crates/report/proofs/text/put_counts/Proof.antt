@@ -39,5 +39,5 @@ returns c =
 pub put-counts-spec : {M : Type 1} → statement M
 put-counts-spec =
     tie.close (tie.spec
-      (λ c κs. search needs) (λ c. search needs) put-requires put-decimal-requires-2 (λ c. search needs)
-      put-requires-2 (λ c. search needs) returns)
+    (λ c κs. search needs) (λ c. search needs) put-requires put-decimal-requires-2 (λ c. search needs)
+    put-requires-2 (λ c. search needs) returns)

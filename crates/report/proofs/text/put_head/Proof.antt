@@ -19,4 +19,4 @@ returns-2 c =
 pub put-head-spec : {M : Type 1} → statement M
 put-head-spec =
     tie.close (tie.spec
-      (λ c κs. search needs) (λ c. search needs) returns (λ c κs. search needs) (λ c. search needs) returns-2)
+    (λ c κs. search needs) (λ c. search needs) returns (λ c κs. search needs) (λ c. search needs) returns-2)

@@ -39,5 +39,5 @@ returns c =
 pub put-no-spec : {M : Type 1} → statement M
 put-no-spec =
     tie.close (tie.spec
-      (λ c. search needs) (λ c κs. search needs) put-decimal-requires (λ c. search needs) put-requires-2
-      put-counts-requires (λ c. search needs) returns)
+    (λ c. search needs) (λ c κs. search needs) put-decimal-requires (λ c. search needs) put-requires-2
+    put-counts-requires (λ c. search needs) returns)

@@ -30,5 +30,5 @@ returns c =
 pub put-number-spec : {M : Type 1} → statement M
 put-number-spec =
     tie.close (tie.spec
-      (λ c κs. search needs) (λ c κs. search needs) (λ c. search needs) (λ c κs. search needs)
-      (λ c. search needs) (λ c. search needs) put-requires-2 (λ c. search needs) returns)
+    (λ c κs. search needs) (λ c κs. search needs) (λ c. search needs) (λ c κs. search needs)
+    (λ c. search needs) (λ c. search needs) put-requires-2 (λ c. search needs) returns)

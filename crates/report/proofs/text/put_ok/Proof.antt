@@ -14,4 +14,4 @@ returns c =
 pub put-ok-spec : {M : Type 1} → statement M
 put-ok-spec =
     tie.close (tie.spec
-      (λ c. search needs) (λ c κs. search needs) (λ c κs. search needs) (λ c. search needs) returns)
+    (λ c. search needs) (λ c κs. search needs) (λ c κs. search needs) (λ c. search needs) returns)

@@ -45,5 +45,5 @@ returns c =
 pub put-state-spec : {M : Type 1} → statement M
 put-state-spec =
     tie.close (tie.spec
-      Inv-loop μ-loop loop-holds (λ c. omega arith) (λ c. omega arith) (λ c. omega arith) put-number-requires
-      (λ c. omega arith) (λ c. omega arith) loop-again same-length returns)
+    Inv-loop μ-loop loop-holds (λ c. omega arith) (λ c. omega arith) (λ c. omega arith) put-number-requires
+    (λ c. omega arith) (λ c. omega arith) loop-again same-length returns)

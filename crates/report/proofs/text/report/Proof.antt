@@ -47,5 +47,5 @@ returns-4 c =
 pub report-spec : {M : Type 1} → statement M
 report-spec =
     tie.close (tie.spec
-      returns (λ c. search needs) returns-2 (λ c κs. search needs) put-bodies-requires (λ c. search needs)
-      returns-3 (λ c. search needs) returns-4)
+    returns (λ c. search needs) returns-2 (λ c κs. search needs) put-bodies-requires (λ c. search needs)
+    returns-3 (λ c. search needs) returns-4)

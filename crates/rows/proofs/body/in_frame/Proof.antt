@@ -8,6 +8,6 @@ use Rattle.rows.proofs.body.in_frame.Tie as tie
 pub in-frame-spec : {M : Type 1} → statement M
 in-frame-spec =
     tie.close (tie.spec
-      (λ c κs. search needs) (λ c κs. search needs) (λ c. search needs) (λ c κs. search needs)
-      (λ c κs. search needs) (λ c. search needs) (λ c. search (framed, some-go))
-      (λ c. search (frame-lost, none-stop)))
+    (λ c κs. search needs) (λ c κs. search needs) (λ c. search needs) (λ c κs. search needs)
+    (λ c κs. search needs) (λ c. search needs) (λ c. search (framed, some-go))
+    (λ c. search (frame-lost, none-stop)))

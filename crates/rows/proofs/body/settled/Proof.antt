@@ -7,4 +7,4 @@ use Rattle.rows.proofs.body.settled.Tie as tie
 pub settled-spec : {M : Type 1} → statement M
 settled-spec =
     tie.close (tie.spec
-      (λ c κs. search needs) (λ c. search needs) (λ c. search needs) (λ c. search answers) (λ c. search answers))
+    (λ c κs. search needs) (λ c. search needs) (λ c. search needs) (λ c. search answers) (λ c. search answers))

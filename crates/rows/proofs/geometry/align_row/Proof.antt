@@ -25,6 +25,6 @@ returns-3 c =
 pub align-row-spec : {M : Type 1} → statement M
 align-row-spec =
     tie.close (tie.spec
-      (λ c κs. search needs) (λ c. search needs) (λ c. search needs) returns (λ c κs. search needs)
-      (λ c κs. search needs) (λ c. search needs) (λ c. search needs) returns-2 (λ c κs. search needs)
-      (λ c κs. search needs) (λ c κs. search needs) returns-3)
+    (λ c κs. search needs) (λ c. search needs) (λ c. search needs) returns (λ c κs. search needs)
+    (λ c κs. search needs) (λ c. search needs) (λ c. search needs) returns-2 (λ c κs. search needs)
+    (λ c κs. search needs) (λ c κs. search needs) returns-3)

@@ -23,6 +23,6 @@ returns-4 c = search (aligned-is, axis-turned, turned-go, some-go)
 pub aligned-spec : {M : Type 1} → statement M
 aligned-spec =
     tie.close (tie.spec
-      (λ c κs. search needs) (λ c. search needs) (λ c. search needs)
-      (λ c. search (answers, aligned-no-b, axis-turned)) (λ c κs. search needs) (λ c. search needs)
-      (λ c. search needs) returns-2 (λ c κs. search needs) returns-3 returns-4)
+    (λ c κs. search needs) (λ c. search needs) (λ c. search needs)
+    (λ c. search (answers, aligned-no-b, axis-turned)) (λ c κs. search needs) (λ c. search needs)
+    (λ c. search needs) returns-2 (λ c κs. search needs) returns-3 returns-4)

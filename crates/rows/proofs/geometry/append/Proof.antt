@@ -13,6 +13,6 @@ append-row-requires c κs =
 pub append-spec : {M : Type 1} → statement M
 append-spec =
     tie.close (tie.spec
-      (λ c. search needs) append-row-requires (λ c. search needs) (λ c. search needs) (λ c. search needs)
-      (λ c. search append-rows) (λ c. append-nonconvergent (c .enum-told .given .1))
-      (λ c. append-overflow (c .enum-told2 .given .1)))
+    (λ c. search needs) append-row-requires (λ c. search needs) (λ c. search needs) (λ c. search needs)
+    (λ c. search append-rows) (λ c. append-nonconvergent (c .enum-told .given .1))
+    (λ c. append-overflow (c .enum-told2 .given .1)))

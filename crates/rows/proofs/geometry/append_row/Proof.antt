@@ -22,6 +22,6 @@ returns-4 c = append-none Row.ArithmeticOverflow tt (c .enum-told3 .given .1) re
 pub append-row-spec : {M : Type 1} → statement M
 append-row-spec =
     tie.close (tie.spec
-      (λ c. search needs) (λ c. search needs) (λ c. search needs) (λ c κs. search needs) (λ c. search needs)
-      (λ c. search needs) (λ c. search needs) (λ c. search needs) (λ c. search needs) (λ c. search append-value)
-      returns-2 returns-3 returns-4)
+    (λ c. search needs) (λ c. search needs) (λ c. search needs) (λ c κs. search needs) (λ c. search needs)
+    (λ c. search needs) (λ c. search needs) (λ c. search needs) (λ c. search needs) (λ c. search append-value)
+    returns-2 returns-3 returns-4)

@@ -25,5 +25,5 @@ returns c = filled-all (omega arith) (omega arith) (c .before .loop .inv .2)
 pub clear-spec : {M : Type 1} → statement M
 clear-spec =
     tie.close (tie.spec
-      Inv-loop μ-loop (λ c. (omega arith, refl, filled-none _ _ _)) (λ c. omega arith) (λ c. omega arith)
-      (λ c. omega arith) (λ c. omega arith) (λ c. omega arith) loop-again (λ c. omega arith) returns)
+    Inv-loop μ-loop (λ c. (omega arith, refl, filled-none _ _ _)) (λ c. omega arith) (λ c. omega arith)
+    (λ c. omega arith) (λ c. omega arith) (λ c. omega arith) loop-again (λ c. omega arith) returns)

@@ -18,7 +18,7 @@ returns-3 c = search (distance-no-tolerance, single-stop, tolerance-stop)
 pub distance-row-spec : {M : Type 1} → statement M
 distance-row-spec =
     tie.close (tie.spec
-      (λ c κs. search needs) (λ c. search needs) (λ c. search needs) returns (λ c κs. search needs)
-      (λ c. search needs) (λ c. search needs) returns-2 (λ c κs. search needs) (λ c. search needs)
-      (λ c. search needs) returns-3 (λ c κs. search needs) (λ c κs. search needs) (λ c κs. search needs)
-      (λ c κs. search needs) (λ c. search (distance-is, single, tolerance-go)))
+    (λ c κs. search needs) (λ c. search needs) (λ c. search needs) returns (λ c κs. search needs)
+    (λ c. search needs) (λ c. search needs) returns-2 (λ c κs. search needs) (λ c. search needs)
+    (λ c. search needs) returns-3 (λ c κs. search needs) (λ c κs. search needs) (λ c κs. search needs)
+    (λ c κs. search needs) (λ c. search (distance-is, single, tolerance-go)))

@@ -18,8 +18,8 @@ returns-4 c =
 pub ends-of-spec : {M : Type 1} → statement M
 ends-of-spec =
     tie.close (tie.spec
-      (λ c κs. search needs) (λ c. search needs) (λ c. search needs) (λ c. search (answers, ends-no-a))
-      (λ c κs. search needs) (λ c. search needs) (λ c. search needs) (λ c. search (ends-no-b, vector-stop))
-      (λ c κs. search needs) (λ c κs. search needs) (λ c. search needs) (λ c. search needs)
-      (λ c. search (answers, ends-no-delta)) (λ c κs. search needs) (λ c κs. search needs)
-      (λ c κs. search needs) (λ c κs. search needs) returns-4)
+    (λ c κs. search needs) (λ c. search needs) (λ c. search needs) (λ c. search (answers, ends-no-a))
+    (λ c κs. search needs) (λ c. search needs) (λ c. search needs) (λ c. search (ends-no-b, vector-stop))
+    (λ c κs. search needs) (λ c κs. search needs) (λ c. search needs) (λ c. search needs)
+    (λ c. search (answers, ends-no-delta)) (λ c κs. search needs) (λ c κs. search needs)
+    (λ c κs. search needs) (λ c κs. search needs) returns-4)

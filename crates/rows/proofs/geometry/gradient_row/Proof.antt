@@ -10,5 +10,5 @@ returns-2 c = search (gradient-no-turn, single-stop, turned-stop)
 pub gradient-row-spec : {M : Type 1} → statement M
 gradient-row-spec =
     tie.close (tie.spec
-      (λ c κs. search needs) (λ c κs. search needs) (λ c. search needs) (λ c κs. search needs)
-      (λ c κs. search needs) (λ c. search needs) (λ c. search (gradient-is, single, turned-go)) returns-2)
+    (λ c κs. search needs) (λ c κs. search needs) (λ c. search needs) (λ c κs. search needs)
+    (λ c κs. search needs) (λ c. search needs) (λ c. search (gradient-is, single, turned-go)) returns-2)

@@ -29,7 +29,7 @@ returns-4 c =
 pub linear-row-spec : {M : Type 1} → statement M
 linear-row-spec =
     tie.close (tie.spec
-      (λ c κs. search needs) (λ c. search needs) (λ c. search needs) returns (λ c κs. search needs)
-      (λ c κs. search needs) (λ c κs. search needs) (λ c κs. search needs) (λ c. search needs)
-      (λ c. search needs) returns-2 (λ c κs. search needs) (λ c κs. search needs) (λ c. search needs)
-      (λ c. search needs) returns-3 (λ c κs. search needs) (λ c κs. search needs) returns-4)
+    (λ c κs. search needs) (λ c. search needs) (λ c. search needs) returns (λ c κs. search needs)
+    (λ c κs. search needs) (λ c κs. search needs) (λ c κs. search needs) (λ c. search needs)
+    (λ c. search needs) returns-2 (λ c κs. search needs) (λ c κs. search needs) (λ c. search needs)
+    (λ c. search needs) returns-3 (λ c κs. search needs) (λ c κs. search needs) returns-4)

@@ -7,5 +7,5 @@ use Rattle.rows.proofs.geometry.local_gradient.Tie as tie
 pub local-gradient-spec : {M : Type 1} → statement M
 local-gradient-spec =
     tie.close (tie.spec
-      (λ c κs. search needs) (λ c κs. search needs) (λ c κs. search needs) (λ c κs. search needs)
-      (λ c κs. search needs) (λ c κs. search needs) (λ c κs. search needs) (λ c. search local-is))
+    (λ c κs. search needs) (λ c κs. search needs) (λ c κs. search needs) (λ c κs. search needs)
+    (λ c κs. search needs) (λ c κs. search needs) (λ c κs. search needs) (λ c. search local-is))

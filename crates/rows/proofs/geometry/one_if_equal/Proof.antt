@@ -7,4 +7,4 @@ use Rattle.rows.proofs.geometry.one_if_equal.Tie as tie
 pub one-if-equal-spec : {M : Type 1} → statement M
 one-if-equal-spec =
     tie.close (tie.spec
-      (λ c. (one-yes (c .if1 .taken), omega arith)) (λ c. (one-no (c .if1 .left), omega arith)))
+    (λ c. (one-yes (c .if1 .taken), omega arith)) (λ c. (one-no (c .if1 .left), omega arith)))

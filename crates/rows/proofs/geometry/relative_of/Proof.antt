@@ -8,6 +8,6 @@ use Rattle.rows.proofs.geometry.relative_of.Tie as tie
 pub relative-of-spec : {M : Type 1} → statement M
 relative-of-spec =
     tie.close (tie.spec
-      (λ c κs. search needs) (λ c κs. search needs) (λ c κs. search needs) (λ c. search needs)
-      (λ c. search needs) (λ c. search (answers, relative-no-unit)) (λ c κs. search needs)
-      (λ c. search (answers, relative-half-turn)) (λ c κs. search needs) (λ c. search (answers, relative-is)))
+    (λ c κs. search needs) (λ c κs. search needs) (λ c κs. search needs) (λ c. search needs)
+    (λ c. search needs) (λ c. search (answers, relative-no-unit)) (λ c κs. search needs)
+    (λ c. search (answers, relative-half-turn)) (λ c κs. search needs) (λ c. search (answers, relative-is)))

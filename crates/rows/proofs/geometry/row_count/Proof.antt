@@ -7,5 +7,5 @@ use Rattle.rows.proofs.geometry.row_count.Tie as tie
 pub row-count-spec : {M : Type 1} → statement M
 row-count-spec =
     tie.close (tie.spec
-      (λ c κs. search needs) (λ c. search needs) (λ c. search needs) (λ c κs. search needs)
-      (λ c κs. search needs) (λ c. search needs) (λ c. search rod-count) (λ c. search frame-count))
+    (λ c κs. search needs) (λ c. search needs) (λ c. search needs) (λ c κs. search needs)
+    (λ c κs. search needs) (λ c. search needs) (λ c. search rod-count) (λ c. search frame-count))

@@ -9,5 +9,5 @@ use Rattle.rows.proofs.geometry.store2.Tie as tie
 pub store2-spec : {M : Type 1} → statement M
 store2-spec =
     tie.close (tie.spec
-      (λ c. search needs) (λ c. search needs) (λ c. search needs) (λ c. search needs)
-      (λ c. simp length-set (omega arith)) (λ c. search needs) (λ c. stored2 _ _ _ _ (c .pre)))
+    (λ c. search needs) (λ c. search needs) (λ c. search needs) (λ c. search needs)
+    (λ c. simp length-set (omega arith)) (λ c. search needs) (λ c. stored2 _ _ _ _ (c .pre)))

@@ -9,6 +9,6 @@ use Rattle.rows.proofs.geometry.store3.Tie as tie
 pub store3-spec : {M : Type 1} → statement M
 store3-spec =
     tie.close (tie.spec
-      (λ c. search needs) (λ c. search needs) (λ c. search needs) (λ c. search needs)
-      (λ c. simp length-set (omega arith)) (λ c. search needs) (λ c. search needs)
-      (λ c. simp length-set (omega arith)) (λ c. search needs) (λ c. stored3 _ _ _ (c .pre)))
+    (λ c. search needs) (λ c. search needs) (λ c. search needs) (λ c. search needs)
+    (λ c. simp length-set (omega arith)) (λ c. search needs) (λ c. search needs)
+    (λ c. simp length-set (omega arith)) (λ c. search needs) (λ c. stored3 _ _ _ (c .pre)))

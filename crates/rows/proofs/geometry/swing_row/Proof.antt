@@ -14,4 +14,4 @@ returns c =
 pub swing-row-spec : {M : Type 1} → statement M
 swing-row-spec =
     tie.close (tie.spec
-      (λ c κs. search needs) (λ c κs. search needs) (λ c κs. search needs) (λ c κs. search needs) returns)
+    (λ c κs. search needs) (λ c κs. search needs) (λ c κs. search needs) (λ c κs. search needs) returns)

@@ -8,6 +8,6 @@ use Rattle.rows.proofs.geometry.tolerance.Tie as tie
 pub tolerance-spec : {M : Type 1} → statement M
 tolerance-spec =
     tie.close (tie.spec
-      (λ c κs. search needs) (λ c. search needs) (λ c. search needs) (λ c. search (answers, tolerance-no-a))
-      (λ c κs. search needs) (λ c. search needs) (λ c. search needs) (λ c. search (tolerance-no-b, number-stop))
-      (λ c κs. search needs) (λ c. search (tolerance-is, number-go)))
+    (λ c κs. search needs) (λ c. search needs) (λ c. search needs) (λ c. search (answers, tolerance-no-a))
+    (λ c κs. search needs) (λ c. search needs) (λ c. search needs) (λ c. search (tolerance-no-b, number-stop))
+    (λ c κs. search needs) (λ c. search (tolerance-is, number-go)))

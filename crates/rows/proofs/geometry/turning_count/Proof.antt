@@ -8,6 +8,6 @@ use Rattle.rows.proofs.geometry.turning_count.Tie as tie
 pub turning-count-spec : {M : Type 1} → statement M
 turning-count-spec =
     tie.close (tie.spec
-      (λ c. search needs) (λ c. search needs) (λ c. search needs) (λ c κs. search needs) (λ c κs. search needs)
-      (λ c. search needs) (λ c κs. search needs) (λ c. search needs) (λ c. search needs) (λ c. search needs)
-      (λ c. search (cone-count, arith)))
+    (λ c. search needs) (λ c. search needs) (λ c. search needs) (λ c κs. search needs) (λ c κs. search needs)
+    (λ c. search needs) (λ c κs. search needs) (λ c. search needs) (λ c. search needs) (λ c. search needs)
+    (λ c. search (cone-count, arith)))

@@ -15,6 +15,6 @@ returns-3 c =
 pub twist-row-spec : {M : Type 1} → statement M
 twist-row-spec =
     tie.close (tie.spec
-      (λ c κs. search needs) (λ c. search needs) (λ c. search needs) (λ c. search (single-stop, twist-refused))
-      (λ c κs. search needs) (λ c κs. search needs) (λ c. search (single-stop, twist-half-turn))
-      (λ c κs. search needs) (λ c κs. search needs) returns-3)
+    (λ c κs. search needs) (λ c. search needs) (λ c. search needs) (λ c. search (single-stop, twist-refused))
+    (λ c κs. search needs) (λ c κs. search needs) (λ c. search (single-stop, twist-half-turn))
+    (λ c κs. search needs) (λ c κs. search needs) returns-3)

@@ -18,6 +18,6 @@ abbrev μ-loop : tie.MeasureT-loop
 pub values-finite-spec : {M : Type 1} → statement M
 values-finite-spec =
     tie.close (tie.spec
-      Inv-loop μ-loop (λ c. search (finite-none, arith)) (λ c. omega arith) (λ c. omega arith)
-      (λ c. omega arith) (λ c. omega arith) (λ c. omega arith) (λ c κs. omega arith) (λ c. search finite-stop)
-      (λ c. omega arith) (λ c. omega arith) (λ c. search (finite-more, arith)) (λ c. search finite-all))
+    Inv-loop μ-loop (λ c. search (finite-none, arith)) (λ c. omega arith) (λ c. omega arith)
+    (λ c. omega arith) (λ c. omega arith) (λ c. omega arith) (λ c κs. omega arith) (λ c. search finite-stop)
+    (λ c. omega arith) (λ c. omega arith) (λ c. search (finite-more, arith)) (λ c. search finite-all))

@@ -38,7 +38,7 @@ returns-3 c =
 pub write-align-spec : {M : Type 1} → statement M
 write-align-spec =
     tie.close (tie.spec
-      (λ c κs. search needs) (λ c. search needs) (λ c κs. search needs) (λ c κs. search (room-here, arith))
-      (λ c κs. search needs) append-requires-2 (λ c. search needs) (λ c κs. search (room-here, arith))
-      (λ c. search needs) (λ c κs. search (room-here, arith)) (λ c. search needs) returns (λ c. search needs)
-      returns-2 (λ c. search needs) returns-3)
+    (λ c κs. search needs) (λ c. search needs) (λ c κs. search needs) (λ c κs. search (room-here, arith))
+    (λ c κs. search needs) append-requires-2 (λ c. search needs) (λ c κs. search (room-here, arith))
+    (λ c. search needs) (λ c κs. search (room-here, arith)) (λ c. search needs) returns (λ c. search needs)
+    returns-2 (λ c. search needs) returns-3)

@@ -46,8 +46,8 @@ returns-3 c =
 pub write-cone-spec : {M : Type 1} → statement M
 write-cone-spec =
     tie.close (tie.spec
-      (λ c κs. search needs) (λ c. search needs) (λ c κs. search needs) (λ c κs. search needs)
-      (λ c κs. search (room-here, arith)) (λ c κs. search needs) (λ c κs. search needs) append-requires-2
-      (λ c κs. search needs) append-requires-3 (λ c. search needs) (λ c κs. search (room-here, arith))
-      (λ c. search needs) (λ c κs. search (room-here, arith)) (λ c. search needs) returns (λ c. search needs)
-      returns-2 (λ c. search needs) returns-3)
+    (λ c κs. search needs) (λ c. search needs) (λ c κs. search needs) (λ c κs. search needs)
+    (λ c κs. search (room-here, arith)) (λ c κs. search needs) (λ c κs. search needs) append-requires-2
+    (λ c κs. search needs) append-requires-3 (λ c. search needs) (λ c κs. search (room-here, arith))
+    (λ c. search needs) (λ c κs. search (room-here, arith)) (λ c. search needs) returns (λ c. search needs)
+    returns-2 (λ c. search needs) returns-3)

@@ -61,8 +61,8 @@ returns-6 c =
 pub write-frames-spec : {M : Type 1} → statement M
 write-frames-spec =
     tie.close (tie.spec
-      (λ c κs. search needs) (λ c. search needs) (λ c. search needs) returns (λ c κs. search needs)
-      (λ c. search needs) (λ c. search needs) (λ c. search (frames-early, unturned-row, no-unit))
-      (λ c κs. search (unit-of, tolerance-go)) (λ c κs. search (unit-of, arith)) (λ c. search needs)
-      values-finite-requires (λ c. search needs) returns-3 (λ c. search needs) (λ c. search needs)
-      (λ c. search needs) returns-4 (λ c. search needs) returns-5 (λ c. search needs) returns-6)
+    (λ c κs. search needs) (λ c. search needs) (λ c. search needs) returns (λ c κs. search needs)
+    (λ c. search needs) (λ c. search needs) (λ c. search (frames-early, unturned-row, no-unit))
+    (λ c κs. search (unit-of, tolerance-go)) (λ c κs. search (unit-of, arith)) (λ c. search needs)
+    values-finite-requires (λ c. search needs) returns-3 (λ c. search needs) (λ c. search needs)
+    (λ c. search needs) returns-4 (λ c. search needs) returns-5 (λ c. search needs) returns-6)

@@ -33,6 +33,6 @@ returns-3 c =
 pub write-kind-spec : {M : Type 1} → statement M
 write-kind-spec =
     tie.close (tie.spec
-      (λ c κs. search needs) (λ c. search needs) (λ c. search needs) (λ c. search (ends-stop, kind-lost))
-      (λ c κs. search needs) (λ c. search needs) (λ c κs. search needs) (λ c κs. search arith)
-      (λ c. search needs) write-frames-requires (λ c. search needs) returns-2 (λ c. search needs) returns-3)
+    (λ c κs. search needs) (λ c. search needs) (λ c. search needs) (λ c. search (ends-stop, kind-lost))
+    (λ c κs. search needs) (λ c. search needs) (λ c κs. search needs) (λ c κs. search arith)
+    (λ c. search needs) write-frames-requires (λ c. search needs) returns-2 (λ c. search needs) returns-3)

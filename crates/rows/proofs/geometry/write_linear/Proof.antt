@@ -39,5 +39,5 @@ append-requires-3 c κs =
 pub write-linear-spec : {M : Type 1} → statement M
 write-linear-spec =
     tie.close (tie.spec
-      (λ c κs. search needs) linear-row-if-requires append-requires linear-row-if-requires-2 append-requires-2
-      linear-row-if-requires-3 append-requires-3 (λ c. search needs) (λ c. search linear-adds))
+    (λ c κs. search needs) linear-row-if-requires append-requires linear-row-if-requires-2 append-requires-2
+    linear-row-if-requires-3 append-requires-3 (λ c. search needs) (λ c. search linear-adds))

@@ -59,5 +59,5 @@ returns-2 c =
 pub refine-spec : {M : Type 1} → statement M
 refine-spec =
     tie.close (tie.spec
-      forward-requires backward-requires operator-requires (λ c κs. search needs) (λ c. omega arith) returns
-      (λ c κs. omega arith) (λ c. omega arith) returns-2)
+    forward-requires backward-requires operator-requires (λ c κs. search needs) (λ c. omega arith) returns
+    (λ c κs. omega arith) (λ c. omega arith) returns-2)

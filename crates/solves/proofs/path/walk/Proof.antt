@@ -90,10 +90,10 @@ returns-3 c =
 pub walk-spec : {M : Type 1} → statement M
 walk-spec =
     tie.close (tie.spec
-      Inv-loop μ-loop (λ c. (omega arith, walk-none (c .pre .0) (c .pre .1) (c .pre .2))) (λ c. omega arith)
-      (λ c κs. search needs) returns (λ c. omega arith) (λ c. omega arith) (λ c. omega arith) (λ c. omega arith)
-      (λ c. omega arith) (λ c. omega arith) append-requires (λ c. omega (arith, there c))
-      (λ c. omega (arith, there c)) neighbor-requires (λ c. omega (arith, there (c .before .before)))
-      (λ c. omega (arith, there (c .before .before))) neighbor-requires-2 (λ c κs. search needs)
-      (λ c κs. search needs) returns-2 (λ c. omega arith) (λ c. omega arith) loop-again (λ c κs. search needs)
-      returns-3)
+    Inv-loop μ-loop (λ c. (omega arith, walk-none (c .pre .0) (c .pre .1) (c .pre .2))) (λ c. omega arith)
+    (λ c κs. search needs) returns (λ c. omega arith) (λ c. omega arith) (λ c. omega arith) (λ c. omega arith)
+    (λ c. omega arith) (λ c. omega arith) append-requires (λ c. omega (arith, there c))
+    (λ c. omega (arith, there c)) neighbor-requires (λ c. omega (arith, there (c .before .before)))
+    (λ c. omega (arith, there (c .before .before))) neighbor-requires-2 (λ c κs. search needs)
+    (λ c κs. search needs) returns-2 (λ c. omega arith) (λ c. omega arith) loop-again (λ c κs. search needs)
+    returns-3)

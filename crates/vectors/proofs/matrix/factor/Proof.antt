@@ -26,5 +26,5 @@ returns-2 c = search loop-end
 pub factor-spec : {M : Type 1} → statement M
 factor-spec =
     tie.close (tie.spec
-      Inv-loop μ-loop (λ c. (omega arith, loop-none _ _)) (λ c κs. omega arith) returns (λ c. omega arith)
-      (λ c. omega arith) (λ c. search (loop-more, was-yes, arith)) returns-2)
+    Inv-loop μ-loop (λ c. (omega arith, loop-none _ _)) (λ c κs. omega arith) returns (λ c. omega arith)
+    (λ c. omega arith) (λ c. search (loop-more, was-yes, arith)) returns-2)

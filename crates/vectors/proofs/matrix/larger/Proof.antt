@@ -18,5 +18,5 @@ returns c =
 pub larger-spec : {M : Type 1} → statement M
 larger-spec =
     tie.close (tie.spec
-      (λ c κs. search needs) (λ c κs. search needs) (λ c κs. search needs) (λ c κs. search needs)
-      (λ c κs. search needs) (λ c κs. search needs) returns)
+    (λ c κs. search needs) (λ c κs. search needs) (λ c κs. search needs) (λ c κs. search needs)
+    (λ c κs. search needs) (λ c κs. search needs) returns)

@@ -7,7 +7,7 @@ use Rattle.vectors.proofs.matrix.symmetric.Tie as tie
 pub symmetric-spec : {M : Type 1} → statement M
 symmetric-spec =
     tie.close (tie.spec
-      (λ c. search needs) (λ c. search needs) (λ c. search needs) (λ c. search needs) (λ c κs. search needs)
-      (λ c. search uneven-first) (λ c. search needs) (λ c. search needs) (λ c. search needs) (λ c. search needs)
-      (λ c κs. search needs) (λ c. search uneven-second) (λ c. search needs) (λ c. search needs)
-      (λ c. search needs) (λ c. search needs) (λ c κs. search needs) (λ c. search uneven-third))
+    (λ c. search needs) (λ c. search needs) (λ c. search needs) (λ c. search needs) (λ c κs. search needs)
+    (λ c. search uneven-first) (λ c. search needs) (λ c. search needs) (λ c. search needs) (λ c. search needs)
+    (λ c κs. search needs) (λ c. search uneven-second) (λ c. search needs) (λ c. search needs)
+    (λ c. search needs) (λ c. search needs) (λ c κs. search needs) (λ c. search uneven-third))

@@ -7,5 +7,5 @@ use Rattle.vectors.proofs.quaternion.turn_in.Tie as tie
 pub turn-in-spec : {M : Type 1} → statement M
 turn-in-spec =
     tie.close (tie.spec
-      (λ c κs. search needs) (λ c. search turn-wild) (λ c κs. search needs) (λ c. search turn-endless)
-      (λ c κs. search needs) (λ c κs. search needs) (λ c. search turn-for))
+    (λ c κs. search needs) (λ c. search turn-wild) (λ c κs. search needs) (λ c. search turn-endless)
+    (λ c κs. search needs) (λ c κs. search needs) (λ c. search turn-for))

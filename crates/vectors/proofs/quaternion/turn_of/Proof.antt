@@ -7,8 +7,8 @@ use Rattle.vectors.proofs.quaternion.turn_of.Tie as tie
 pub turn-of-spec : {M : Type 1} → statement M
 turn-of-spec =
     tie.close (tie.spec
-      (λ c κs. search needs) (λ c. search delta-wild) (λ c κs. search needs) (λ c κs. search needs)
-      (λ c. search delta-long) (λ c κs. search needs) (λ c. search (tiny-is, delta-small))
-      (λ c κs. search needs) (λ c. search needs) (λ c. search needs)
-      (λ c. search (tiny-is, half-is, delta-refused)) (λ c κs. search needs)
-      (λ c. search (tiny-is, half-is, delta-turn)))
+    (λ c κs. search needs) (λ c. search delta-wild) (λ c κs. search needs) (λ c κs. search needs)
+    (λ c. search delta-long) (λ c κs. search needs) (λ c. search (tiny-is, delta-small))
+    (λ c κs. search needs) (λ c. search needs) (λ c. search needs)
+    (λ c. search (tiny-is, half-is, delta-refused)) (λ c κs. search needs)
+    (λ c. search (tiny-is, half-is, delta-turn)))

@@ -8,6 +8,6 @@ use Rattle.rows.proofs.body.MomentumBody.anchor.Tie as tie
 pub anchor-spec : {M : Type 1} → statement M
 anchor-spec =
     tie.close (tie.spec
-      (λ c κs. search needs) (λ c κs. search needs) (λ c. search needs) (λ c κs. search needs)
-      (λ c κs. search needs) (λ c. search needs) (λ c. search (answers, anchored))
-      (λ c. search (answers, anchor-lost)))
+    (λ c κs. search needs) (λ c κs. search needs) (λ c. search needs) (λ c κs. search needs)
+    (λ c κs. search needs) (λ c. search needs) (λ c. search (answers, anchored))
+    (λ c. search (answers, anchor-lost)))

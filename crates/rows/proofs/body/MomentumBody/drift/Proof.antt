@@ -38,10 +38,10 @@ returns-6 c =
 pub drift-spec : {M : Type 1} → statement M
 drift-spec =
     tie.close (tie.spec
-      (λ c κs. search needs) (λ c κs. search needs) (λ c κs. search needs) (λ c. search needs)
-      (λ c. search needs) (λ c κs. search needs) (λ c. search (lost, drift-center-lost, vector-stop))
-      (λ c κs. search needs) (λ c. search needs) (λ c. search needs) (λ c κs. search needs)
-      (λ c. search (lost, drift-without-unit, no-unit)) (λ c κs. search needs) (λ c. search needs)
-      (λ c. search needs) (λ c κs. search needs) returns-3 (λ c κs. search unit-of) (λ c. search needs)
-      (λ c κs. search needs) (λ c. search needs) (λ c. search needs) (λ c κs. search needs) returns-4
-      (λ c. search (endless, drift-endless)) returns-6)
+    (λ c κs. search needs) (λ c κs. search needs) (λ c κs. search needs) (λ c. search needs)
+    (λ c. search needs) (λ c κs. search needs) (λ c. search (lost, drift-center-lost, vector-stop))
+    (λ c κs. search needs) (λ c. search needs) (λ c. search needs) (λ c κs. search needs)
+    (λ c. search (lost, drift-without-unit, no-unit)) (λ c κs. search needs) (λ c. search needs)
+    (λ c. search needs) (λ c κs. search needs) returns-3 (λ c κs. search unit-of) (λ c. search needs)
+    (λ c κs. search needs) (λ c. search needs) (λ c. search needs) (λ c κs. search needs) returns-4
+    (λ c. search (endless, drift-endless)) returns-6)

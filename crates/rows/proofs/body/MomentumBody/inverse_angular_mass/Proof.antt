@@ -8,5 +8,5 @@ use Rattle.rows.proofs.body.MomentumBody.inverse_angular_mass.Tie as ti
 pub inverse-angular-mass-spec : {M : Type 1} → statement M
 inverse-angular-mass-spec =
     tie.close (tie.spec
-      (λ c κs. search needs) (λ c. search needs) (λ c κs. search needs) (λ c. search needs)
-      (λ c. search (mass-by-unit, unit-of)) (λ c. search (mass-without-unit, no-unit)))
+    (λ c κs. search needs) (λ c. search needs) (λ c κs. search needs) (λ c. search needs)
+    (λ c. search (mass-by-unit, unit-of)) (λ c. search (mass-without-unit, no-unit)))

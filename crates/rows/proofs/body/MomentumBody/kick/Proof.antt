@@ -8,7 +8,7 @@ use Rattle.rows.proofs.body.MomentumBody.kick.Tie as tie
 pub kick-spec : {M : Type 1} → statement M
 kick-spec =
     tie.close (tie.spec
-      (λ c κs. search needs) (λ c κs. search needs) (λ c. search needs) (λ c. search needs)
-      (λ c κs. search needs) (λ c. search (lost, kick-momentum-lost, vector-stop)) (λ c κs. search needs)
-      (λ c κs. search needs) (λ c. search needs) (λ c. search needs) (λ c κs. search needs)
-      (λ c. search (lost, kick-spin-lost, vector-stop)) (λ c. search (found, kicked, vector-go)))
+    (λ c κs. search needs) (λ c κs. search needs) (λ c. search needs) (λ c. search needs)
+    (λ c κs. search needs) (λ c. search (lost, kick-momentum-lost, vector-stop)) (λ c κs. search needs)
+    (λ c κs. search needs) (λ c. search needs) (λ c. search needs) (λ c κs. search needs)
+    (λ c. search (lost, kick-spin-lost, vector-stop)) (λ c. search (found, kicked, vector-go)))

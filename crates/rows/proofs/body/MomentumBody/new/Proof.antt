@@ -28,10 +28,10 @@ returns-4 c =
 pub new-spec : {M : Type 1} → statement M
 new-spec =
     tie.close (tie.spec
-      (λ c κs. search needs) (λ c. search needs) (λ c. search needs) (λ c κs. search needs)
-      (λ c κs. search needs) (λ c. search (lost, new-without-unit, no-unit)) (λ c κs. search needs)
-      (λ c. search needs) (λ c. search needs) (λ c κs. search needs) (λ c κs. search needs)
-      (λ c. search (lost, new-spin-lost, vector-stop)) (λ c κs. search needs) (λ c κs. search needs)
-      (λ c. search needs) (λ c. search needs) (λ c κs. search needs) (λ c κs. search needs) returns-3
-      (λ c κs. search needs) (λ c. search needs) (λ c. search needs) (λ c κs. search needs)
-      (λ c κs. search needs) returns-4 (λ c. search (found, new-made, vector-go)))
+    (λ c κs. search needs) (λ c. search needs) (λ c. search needs) (λ c κs. search needs)
+    (λ c κs. search needs) (λ c. search (lost, new-without-unit, no-unit)) (λ c κs. search needs)
+    (λ c. search needs) (λ c. search needs) (λ c κs. search needs) (λ c κs. search needs)
+    (λ c. search (lost, new-spin-lost, vector-stop)) (λ c κs. search needs) (λ c κs. search needs)
+    (λ c. search needs) (λ c. search needs) (λ c κs. search needs) (λ c κs. search needs) returns-3
+    (λ c κs. search needs) (λ c. search needs) (λ c. search needs) (λ c κs. search needs)
+    (λ c κs. search needs) returns-4 (λ c. search (found, new-made, vector-go)))

@@ -11,8 +11,8 @@ returns-5 c = search (origin-center-lost, some-go, vector-stop)
 pub origin-spec : {M : Type 1} → statement M
 origin-spec =
     tie.close (tie.spec
-      (λ c κs. search needs) (λ c. search needs) (λ c. search needs) (λ c. search (origin-turn-lost, none-stop))
-      (λ c κs. search needs) (λ c κs. search needs) (λ c. search needs) (λ c. search needs)
-      (λ c. search (origin-lost, some-go, vector-stop)) (λ c κs. search needs)
-      (λ c. search (origin-not-normalized, some-go)) (λ c κs. search needs) (λ c κs. search needs)
-      (λ c. search needs) (λ c. search needs) (λ c. search (origin-found, some-go)) returns-5)
+    (λ c κs. search needs) (λ c. search needs) (λ c. search needs) (λ c. search (origin-turn-lost, none-stop))
+    (λ c κs. search needs) (λ c κs. search needs) (λ c. search needs) (λ c. search needs)
+    (λ c. search (origin-lost, some-go, vector-stop)) (λ c κs. search needs)
+    (λ c. search (origin-not-normalized, some-go)) (λ c κs. search needs) (λ c κs. search needs)
+    (λ c. search needs) (λ c. search needs) (λ c. search (origin-found, some-go)) returns-5)

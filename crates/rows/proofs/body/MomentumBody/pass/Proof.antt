@@ -23,8 +23,8 @@ returns-6 c = search (pass-goes-on, half-turn, quat-go, vector-go, number-go)
 pub pass-spec : {M : Type 1} → statement M
 pass-spec =
     tie.close (tie.spec
-      (λ c κs. search needs) (λ c. search needs) (λ c. search needs)
-      (λ c. search (pass-half-lost, half-turn, quat-stop)) (λ c κs. search needs) (λ c κs. search needs)
-      (λ c. search needs) (λ c. search needs) returns-2 (λ c κs. search needs) (λ c κs. search needs)
-      (λ c. search needs) (λ c. search needs) returns-3 (λ c κs. search needs) (λ c. search needs)
-      (λ c. search needs) returns-4 (λ c κs. search needs) returns-5 returns-6)
+    (λ c κs. search needs) (λ c. search needs) (λ c. search needs)
+    (λ c. search (pass-half-lost, half-turn, quat-stop)) (λ c κs. search needs) (λ c κs. search needs)
+    (λ c. search needs) (λ c. search needs) returns-2 (λ c κs. search needs) (λ c κs. search needs)
+    (λ c. search needs) (λ c. search needs) returns-3 (λ c κs. search needs) (λ c. search needs)
+    (λ c. search needs) returns-4 (λ c κs. search needs) returns-5 returns-6)

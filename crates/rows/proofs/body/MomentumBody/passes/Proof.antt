@@ -34,6 +34,6 @@ loop-again c =
 pub passes-spec : {M : Type 1} → statement M
 passes-spec =
     tie.close (tie.spec
-      Inv-loop μ-loop (λ c. (omega arith, loop-none _ _)) (λ c κs. search needs) (λ c. search needs)
-      (λ c. search needs) returns (λ c. search needs) returns-2 (λ c. omega arith) (λ c. omega arith) loop-again
-      (λ c. search loop-end))
+    Inv-loop μ-loop (λ c. (omega arith, loop-none _ _)) (λ c κs. search needs) (λ c. search needs)
+    (λ c. search needs) returns (λ c. search needs) returns-2 (λ c. omega arith) (λ c. omega arith) loop-again
+    (λ c. search loop-end))

@@ -41,7 +41,7 @@ returns-6 c =
 pub state-spec : {M : Type 1} → statement M
 state-spec =
     tie.close (tie.spec
-      (λ c κs. search needs) (λ c. search needs) (λ c. search needs) returns (λ c κs. search unit-of)
-      (λ c. search needs) (λ c. search needs) returns-2 (λ c κs. search needs) (λ c κs. search needs)
-      (λ c. search needs) (λ c. search needs) returns-3 (λ c κs. search needs) (λ c. search needs)
-      (λ c. search needs) returns-4 (λ c κs. search needs) returns-5 returns-6)
+    (λ c κs. search needs) (λ c. search needs) (λ c. search needs) returns (λ c κs. search unit-of)
+    (λ c. search needs) (λ c. search needs) returns-2 (λ c κs. search needs) (λ c κs. search needs)
+    (λ c. search needs) (λ c. search needs) returns-3 (λ c κs. search needs) (λ c. search needs)
+    (λ c. search needs) returns-4 (λ c κs. search needs) returns-5 returns-6)

@@ -7,7 +7,7 @@ use Rattle.vectors.proofs.matrix.Cholesky3.solve.Tie as tie
 pub solve-spec : {M : Type 1} → statement M
 solve-spec =
     tie.close (tie.spec
-      (λ c κs. search needs) (λ c κs. search needs) (λ c. search solve-wild) (λ c κs. search needs)
-      (λ c κs. search needs) (λ c κs. search needs) (λ c. search solve-large) (λ c κs. search needs)
-      (λ c κs. search needs) (λ c κs. search needs) (λ c κs. search needs) (λ c. search solve-done)
-      (λ c κs. search needs) (λ c. search solve-far))
+    (λ c κs. search needs) (λ c κs. search needs) (λ c. search solve-wild) (λ c κs. search needs)
+    (λ c κs. search needs) (λ c κs. search needs) (λ c. search solve-large) (λ c κs. search needs)
+    (λ c κs. search needs) (λ c κs. search needs) (λ c κs. search needs) (λ c. search solve-done)
+    (λ c κs. search needs) (λ c. search solve-far))

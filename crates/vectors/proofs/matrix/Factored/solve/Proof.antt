@@ -7,5 +7,5 @@ use Rattle.vectors.proofs.matrix.Factored.solve.Tie as tie
 pub solve-spec : {M : Type 1} → statement M
 solve-spec =
     tie.close (tie.spec
-      (λ c κs. search needs) (λ c κs. search needs) (λ c. search spd-done) (λ c κs. search needs)
-      (λ c. search spd-not))
+    (λ c κs. search needs) (λ c κs. search needs) (λ c. search spd-done) (λ c κs. search needs)
+    (λ c. search spd-not))

@@ -7,7 +7,7 @@ use Rattle.vectors.proofs.matrix.Mat3.column.Tie as tie
 pub column-spec : {M : Type 1} → statement M
 column-spec =
     tie.close (tie.spec
-      (λ c κs. search needs) (λ c. search needs) (λ c. search needs) (λ c. search needs) (λ c. search needs)
-      (λ c. search needs) (λ c. search needs) (λ c. search needs) (λ c. search needs) (λ c. search needs)
-      (λ c. search column-below) (λ c. search needs) (λ c. search needs) (λ c. search needs) (λ c. search needs)
-      (λ c. search needs) (λ c. search needs) (λ c. search column-last))
+    (λ c κs. search needs) (λ c. search needs) (λ c. search needs) (λ c. search needs) (λ c. search needs)
+    (λ c. search needs) (λ c. search needs) (λ c. search needs) (λ c. search needs) (λ c. search needs)
+    (λ c. search column-below) (λ c. search needs) (λ c. search needs) (λ c. search needs) (λ c. search needs)
+    (λ c. search needs) (λ c. search needs) (λ c. search column-last))

@@ -17,7 +17,7 @@ returns-5 c = search (zero-is, factor-not)
 pub factor-spd-spec : {M : Type 1} → statement M
 factor-spd-spec =
     tie.close (tie.spec
-      (λ c κs. search needs) (λ c κs. search needs) (λ c. search factor-wild) (λ c κs. search needs)
-      (λ c κs. search needs) (λ c. search (zero-is, factor-zero)) (λ c κs. search needs) (λ c κs. search needs)
-      (λ c κs. search needs) (λ c κs. search needs) (λ c. search (zero-is, factor-uneven))
-      (λ c κs. search needs) (λ c κs. search needs) returns-4 (λ c κs. search needs) returns-5)
+    (λ c κs. search needs) (λ c κs. search needs) (λ c. search factor-wild) (λ c κs. search needs)
+    (λ c κs. search needs) (λ c. search (zero-is, factor-zero)) (λ c κs. search needs) (λ c κs. search needs)
+    (λ c κs. search needs) (λ c κs. search needs) (λ c. search (zero-is, factor-uneven))
+    (λ c κs. search needs) (λ c κs. search needs) returns-4 (λ c κs. search needs) returns-5)

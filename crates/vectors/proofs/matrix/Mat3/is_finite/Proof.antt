@@ -30,5 +30,5 @@ returns-3 c = simp (sym (c .before .is-finite .ensures ∙ ap finiteOf (c .befor
 pub is-finite-spec : {M : Type 1} → statement M
 is-finite-spec =
     tie.close (tie.spec
-      (λ c κs. search needs) (λ c κs. search needs) (λ c κs. search needs) (λ c κs. search needs)
-      (λ c κs. search needs) (λ c κs. search needs) returns returns-2 returns-3)
+    (λ c κs. search needs) (λ c κs. search needs) (λ c κs. search needs) (λ c κs. search needs)
+    (λ c κs. search needs) (λ c κs. search needs) returns returns-2 returns-3)

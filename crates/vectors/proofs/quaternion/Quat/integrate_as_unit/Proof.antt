@@ -7,5 +7,5 @@ use Rattle.vectors.proofs.quaternion.Quat.integrate_as_unit.Tie as tie
 pub integrate-as-unit-spec : {M : Type 1} → statement M
 integrate-as-unit-spec =
     tie.close (tie.spec
-      (λ c κs. search needs) (λ c. search needs) (λ c κs. search needs) (λ c κs. search needs)
-      (λ c. search needs) (λ c. search unit-turned) (λ c. search unit-far))
+    (λ c κs. search needs) (λ c. search needs) (λ c κs. search needs) (λ c κs. search needs)
+    (λ c. search needs) (λ c. search unit-turned) (λ c. search unit-far))

@@ -35,5 +35,5 @@ returns-4 c = simp (sym (c .before .is-finite .ensures) ∙ c .if1 .left)
 pub is-finite-spec : {M : Type 1} → statement M
 is-finite-spec =
     tie.close (tie.spec
-      (λ c κs. search needs) (λ c κs. search needs) (λ c κs. search needs) (λ c κs. search needs) returns
-      returns-2 returns-3 returns-4)
+    (λ c κs. search needs) (λ c κs. search needs) (λ c κs. search needs) (λ c κs. search needs) returns
+    returns-2 returns-3 returns-4)

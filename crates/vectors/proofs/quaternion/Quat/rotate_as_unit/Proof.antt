@@ -7,4 +7,4 @@ use Rattle.vectors.proofs.quaternion.Quat.rotate_as_unit.Tie as tie
 pub rotate-as-unit-spec : {M : Type 1} → statement M
 rotate-as-unit-spec =
     tie.close (tie.spec
-      (λ c κs. search needs) (λ c κs. search needs) (λ c. search unit-by) (λ c. search unit-wild))
+    (λ c κs. search needs) (λ c κs. search needs) (λ c. search unit-by) (λ c. search unit-wild))

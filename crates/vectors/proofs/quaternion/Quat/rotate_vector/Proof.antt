@@ -7,5 +7,5 @@ use Rattle.vectors.proofs.quaternion.Quat.rotate_vector.Tie as tie
 pub rotate-vector-spec : {M : Type 1} → statement M
 rotate-vector-spec =
     tie.close (tie.spec
-      (λ c κs. search needs) (λ c. search rotate-wild) (λ c κs. search needs) (λ c. search needs)
-      (λ c κs. search needs) (λ c. search needs) (λ c. search rotate-by) (λ c. search rotate-none))
+    (λ c κs. search needs) (λ c. search rotate-wild) (λ c κs. search needs) (λ c. search needs)
+    (λ c κs. search needs) (λ c. search needs) (λ c. search rotate-by) (λ c. search rotate-none))

@@ -7,4 +7,4 @@ use Rattle.vectors.proofs.quaternion.Quat.rotated.Tie as tie
 pub rotated-spec : {M : Type 1} → statement M
 rotated-spec =
     tie.close (tie.spec
-      (λ c κs. search needs) (λ c κs. search needs) (λ c. search rotated-some) (λ c. search rotated-none))
+    (λ c κs. search needs) (λ c κs. search needs) (λ c. search rotated-some) (λ c. search rotated-none))

@@ -7,5 +7,5 @@ use Rattle.vectors.proofs.quaternion.Quat.to_mat3.Tie as tie
 pub to-mat3-spec : {M : Type 1} → statement M
 to-mat3-spec =
     tie.close (tie.spec
-      (λ c κs. search needs) (λ c. search needs) (λ c. search needs) (λ c κs. search needs)
-      (λ c. search mat-none) (λ c κs. search needs) (λ c. search mat-some))
+    (λ c κs. search needs) (λ c. search needs) (λ c. search needs) (λ c κs. search needs)
+    (λ c. search mat-none) (λ c κs. search needs) (λ c. search mat-some))

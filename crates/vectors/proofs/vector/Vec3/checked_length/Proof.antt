@@ -7,4 +7,4 @@ use Rattle.vectors.proofs.vector.Vec3.checked_length.Tie as tie
 pub checked-length-spec : {M : Type 1} → statement M
 checked-length-spec =
     tie.close (tie.spec
-      (λ c κs. search needs) (λ c κs. search needs) (λ c. search length-some) (λ c. search length-none))
+    (λ c κs. search needs) (λ c κs. search needs) (λ c. search length-some) (λ c. search length-none))

@@ -16,7 +16,7 @@ returns-5 c =
 pub try-normalize-spec : {M : Type 1} → statement M
 try-normalize-spec =
     tie.close (tie.spec
-      (λ c κs. search needs) (λ c. search normalize-wild) (λ c κs. search needs)
-      (λ c. search (zero-is, normalize-zero)) (λ c κs. search needs) (λ c κs. search needs)
-      (λ c κs. search needs) (λ c. search (zero-is, normalize-long)) (λ c. search (zero-is, normalize-flat))
-      (λ c κs. search needs) returns-5)
+    (λ c κs. search needs) (λ c. search normalize-wild) (λ c κs. search needs)
+    (λ c. search (zero-is, normalize-zero)) (λ c κs. search needs) (λ c κs. search needs)
+    (λ c κs. search needs) (λ c. search (zero-is, normalize-long)) (λ c. search (zero-is, normalize-flat))
+    (λ c κs. search needs) returns-5)
