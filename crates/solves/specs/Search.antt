@@ -32,7 +32,8 @@ leastSquares system rhs solution residual = do
   normal ← try (operator system residual)
   norm ← try (dot normal normal)
   tolerance ← try (toleranceFor (ratio 1 (10 ^ 14)) rhs)
-  upTo (leastMost (rowsIn system)) nonConvergent (leastPass system tolerance) (record { solution = solution; residual = residual; direction = normal; rho = norm })
+  upTo (leastMost (rowsIn system)) nonConvergent (leastPass system tolerance)
+      (record { solution = solution; residual = residual; direction = normal; rho = norm })
 
 -- ---- fn linear_solve, the diagonal-scaled conjugate gradients: the second half of a pass, which is done or takes the next direction
 unfoldable pub settle : System → List Float → List Float → Float → Search → Counting (Turn Search (List Float))
