@@ -48,9 +48,10 @@ pub record Reading (first now : List ℕ) (count : ℕ) (last : Got) (answer : �
   pub rest : drop count now ≡ drop count first
   pub more : isMore last ≡ true
   pub told : 0 < count → last ≡ gotOf answer
+  pub none : count ≡ 0 → (last ≡ Bytes 0) × (answer ≡ pos 0)
 
 pub reading-none : (first : List ℕ) → Reading first first 0 (Bytes 0) (pos 0)
-reading-none first = record { rest = refl; more = refl; told = λ h. absurd (omega arith) }
+reading-none first = record { rest = refl; more = refl; told = λ h. absurd (omega arith); none = λ h. (refl, refl) }
 
 -- one more read
 module _
@@ -79,6 +80,7 @@ module _
           rest = subst (λ (k : ℕ). drop (at + k) after ≡ drop (at + k) first) (sym b) on;
           more = some ∙ lt-ltb 0 (bytesIn (r .got)) (omega arith);
           told = λ _. h .told ∙ ap gotOf (sym same);
+          none = λ e. absurd (any (omega arith));
         }
 
     -- none came
@@ -89,6 +91,7 @@ module _
         record {
           size = size;
           told = λ _. h .told ∙ ap gotOf (sym same);
+          none = λ e. absurd (omega arith);
           within = omega arith;
           rest = subst (λ (k : ℕ). drop k after ≡ drop k first) zero-more on;
           full = some ∙ le-ltb 0 (bytesIn (r .got)) (omega arith) ∙ sym (lt-leb (length first) at (omega arith));
@@ -103,6 +106,7 @@ reading-full first before {at} r same none within =
     record {
       size = same;
       told = λ h. r .told (omega arith);
+      none = λ h. r .none (omega arith);
       within = omega arith;
       rest = r .rest;
       full = r .more ∙ full;

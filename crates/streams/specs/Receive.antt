@@ -41,11 +41,12 @@ pub record Reads (before : List ℕ) (at : ℕ) (after : List ℕ) (r : Read) : 
   pub within : at + bytesIn (r .got) ≤ length before
   pub rest : drop (at + bytesIn (r .got)) after ≡ drop (at + bytesIn (r .got)) before
 
--- a reading into a buffer that held `before` and holds `after`: the same of all that came, where there is room for any; and it
--- was neither failure nor the end that stopped it exactly where the buffer is full
+-- a reading into a buffer that held `before` and holds `after`: the same of all that came, where there is room for any, and no
+-- read where there is none; and it was neither failure nor the end that stopped it exactly where the buffer is full
 pub record Receives (before after : List ℕ) (r : Received) : Type 0 where
   pub size : length after ≡ length before
   pub told : 0 < length before → r .last ≡ gotOf (r .answer)
+  pub none : length before ≡ 0 → (r .last ≡ Bytes 0) × (r .answer ≡ pos 0)
   pub within : r .count ≤ length before
   pub rest : drop (r .count) after ≡ drop (r .count) before
   pub full : isMore (r .last) ≡ leb (length before) (r .count)
