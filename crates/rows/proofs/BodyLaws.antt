@@ -26,8 +26,8 @@ use Rattle.rows.specs.declared.body.RigidBody.{RigidBody}
 use Rattle.rows.specs.declared.body.BodyState.{BodyState}
 use Rattle.rows.specs.declared.body.MomentumBody.{MomentumBody}
 use Rattle.rows.specs.declared.body.BodyAnswer.{BodyAnswer}
-use Rattle.rows.specs.declared.body.Pass.{Pass}
-use Rattle.rows.specs.declared.body.Pass.the-variants as Passes
+use Rattle.rows.specs.declared.body.DriftPass.{DriftPass}
+use Rattle.rows.specs.declared.body.DriftPass.the-variants as Passes
 use Rattle.rows.specs.declared.End.the-variants as Ends
 use Rattle.rows.specs.Fault.{nonConvergent, arithmeticOverflow, Result, vectorOr, tryFinite, tryLength, tryRotate, try}
 use Rattle.rows.specs.Body.{worldCenterOfMassOf, newOf, inverseAngularMassOf, omegaOf, withMomenta, placedAt, kickOf, anchorOf, integrate}
@@ -41,7 +41,7 @@ use Rattle.rows.proofs.UnitLaws.{unit-of, rotate-is, integrate-is, in-f
 abbrev over : {A : Type 0} → Result A
 over = stop arithmeticOverflow
 
-pub pass-as : {r x : Pass} {d : Turn Vec3 (Result Quat)} → passAs r ≡ d → r ≡ x → passAs x ≡ d
+pub pass-as : {r x : DriftPass} {d : Turn Vec3 (Result Quat)} → passAs r ≡ d → r ≡ x → passAs x ≡ d
 pass-as e h = sym (ap passAs h) ∙ e
 
 -- a failure: the body that stands beside it
@@ -284,8 +284,8 @@ module _ (self : MomentumBody) (dt : Float) {v p : Vec3} (ev : v ≡ scaleOf (se
       drift-omega-lost h = after-center (then-stop _ (mass-by-unit self _ (unit-of eu su) h))
 
       module _ {q : OptionVec3} {omega : Vec3} (eq : vectorOr arithmeticOverflow q ≡ inFrame unit (self .«inverse_inertia») (self .spin))
-          (sq : q ≡ Vector.Some omega) {r : Pass} (er : passAs r ≡ search omega) where
-        after-search : {d : Result MomentumBody} {x : Pass} → r ≡ x → d ≡ (settled (passAs x) >>= λ rotation. go (placedAt self center rotation))
+          (sq : q ≡ Vector.Some omega) {r : DriftPass} (er : passAs r ≡ search omega) where
+        after-search : {d : Result MomentumBody} {x : DriftPass} → r ≡ x → d ≡ (settled (passAs x) >>= λ rotation. go (placedAt self center rotation))
             → d ≡ driftOf self dt
         after-search {d} {x} hx e =
             e ∙ ap (λ (s : Turn Vec3 (Result Quat)). settled s >>= λ rotation. go (placedAt self center rotation)) (pass-as er hx)

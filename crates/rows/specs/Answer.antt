@@ -8,8 +8,8 @@ use Rattle.arith.specs.Real.{ratio}
 use Rattle.arith.specs.Flow.{Turn, go, stop}
 use Rattle.rows.specs.declared.End.{End}
 use Rattle.rows.specs.declared.End.the-variants as Ends
-use Rattle.rows.specs.declared.body.Pass.{Pass}
-use Rattle.rows.specs.declared.body.Pass.the-variants as Passes
+use Rattle.rows.specs.declared.body.DriftPass.{DriftPass}
+use Rattle.rows.specs.declared.body.DriftPass.the-variants as Passes
 use Rattle.vectors.specs.declared.vector.Vec3.{Vec3}
 use Rattle.vectors.specs.declared.vector.OptionVec3.{OptionVec3}
 use Rattle.vectors.specs.declared.vector.OptionVec3.the-variants as Vector
@@ -97,7 +97,7 @@ pub record VectorAnswered (d : Result Vec3) (r : OptionVec3) : Type 0 where
   pub numbered : vectorNumber r ≡ refusalNumber d
 
 -- a pass of drift: the next omega, or how its loop is left
-abbrev pub passAs : Pass → Turn Vec3 (Result Quat)
+abbrev pub passAs : DriftPass → Turn Vec3 (Result Quat)
 passAs (Passes.Next omega) = go omega
 passAs (Passes.Settled rotation) = stop (go rotation)
 passAs Passes.ArithmeticOverflow = stop (stop arithmeticOverflow)

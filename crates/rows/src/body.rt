@@ -58,7 +58,7 @@ pub struct BodyAnswer {
 }
 
 // What one pass of a drift finds: the next angular velocity, or the rotation at the end of the step.
-enum Pass {
+enum DriftPass {
     Next(Vec3),
     Settled(Quat),
     ArithmeticOverflow,
@@ -211,49 +211,49 @@ impl MomentumBody {
     }
 
     // One pass of the search for the half-step angular velocity, from the rotation at entry.
-    fn pass(self, unit: Quat, omega: Vec3, dt: f64) -> Pass
+    fn pass(self, unit: Quat, omega: Vec3, dt: f64) -> DriftPass
         requires { ⌜ UnitOf (self .rotation) unit ⌝ }
         ensures { λ r. ⌜ passAs r ≡ passOf self dt omega ⌝ }
     {
         let OptionQuat::Some(half) = unit.integrate_as_unit(omega, dt * 0.5) else {
-            return Pass::ArithmeticOverflow;
+            return DriftPass::ArithmeticOverflow;
         };
         let midway = self.turned(half);
         let OptionVec3::Some(next) = midway.omega() else {
-            return Pass::ArithmeticOverflow;
+            return DriftPass::ArithmeticOverflow;
         };
         let OptionF64::Some(residual) = next.sub(omega).checked_length() else {
-            return Pass::ArithmeticOverflow;
+            return DriftPass::ArithmeticOverflow;
         };
         let OptionF64::Some(size) = next.checked_length() else {
-            return Pass::ArithmeticOverflow;
+            return DriftPass::ArithmeticOverflow;
         };
         if residual <= 1.0e-14 * (1.0 + size) {
             return settled(unit, next, dt);
         }
-        Pass::Next(next)
+        DriftPass::Next(next)
     }
 
     // Implicit rotational midpoint with constant world spin momentum: at most 32 passes.
-    fn passes(self, unit: Quat, start: Vec3, dt: f64) -> Pass
+    fn passes(self, unit: Quat, start: Vec3, dt: f64) -> DriftPass
         requires { ⌜ UnitOf (self .rotation) unit ⌝ }
         ensures { λ r. ⌜ passAs r ≡ loop 32 (λ k. passOf self dt) start ⌝ }
     {
         let mut omega = start;
         for k in 0..MAX_ITERATIONS {
             match self.pass(unit, omega, dt) {
-                Pass::Next(next) => {
+                DriftPass::Next(next) => {
                     omega = next;
                 }
-                Pass::Settled(rotation) => {
-                    return Pass::Settled(rotation);
+                DriftPass::Settled(rotation) => {
+                    return DriftPass::Settled(rotation);
                 }
-                Pass::ArithmeticOverflow => {
-                    return Pass::ArithmeticOverflow;
+                DriftPass::ArithmeticOverflow => {
+                    return DriftPass::ArithmeticOverflow;
                 }
             }
         }
-        Pass::Next(omega)
+        DriftPass::Next(omega)
     }
 
     pub fn drift(self, dt: f64) -> BodyAnswer
@@ -270,7 +270,7 @@ impl MomentumBody {
             return self.overflow();
         };
         match self.passes(unit, omega, dt) {
-            Pass::Settled(rotation) => {
+            DriftPass::Settled(rotation) => {
                 let mut body = self.turned(rotation);
                 body.center = center;
                 BodyAnswer {
@@ -278,11 +278,11 @@ impl MomentumBody {
                     body,
                 }
             }
-            Pass::Next(_) => BodyAnswer {
+            DriftPass::Next(_) => BodyAnswer {
                 outcome: End::NonConvergent,
                 body: self,
             },
-            Pass::ArithmeticOverflow => self.overflow(),
+            DriftPass::ArithmeticOverflow => self.overflow(),
         }
     }
 
@@ -343,12 +343,12 @@ impl MomentumBody {
 }
 
 // The end of the search: the rotation after the whole step.
-fn settled(unit: Quat, omega: Vec3, dt: f64) -> Pass
+fn settled(unit: Quat, omega: Vec3, dt: f64) -> DriftPass
     ensures { λ r. ⌜ passAs r ≡ stop (integrateAsUnit unit omega dt) ⌝ }
 {
     match unit.integrate_as_unit(omega, dt) {
-        OptionQuat::Some(rotation) => Pass::Settled(rotation),
-        OptionQuat::None => Pass::ArithmeticOverflow,
+        OptionQuat::Some(rotation) => DriftPass::Settled(rotation),
+        OptionQuat::None => DriftPass::ArithmeticOverflow,
     }
 }
 

@@ -11,7 +11,7 @@ use Rattle.rows.specs.declared.geometry.Joint.{Joint}
 use Rattle.step.specs.declared.Outcome.{Outcome}
 use Rattle.step.specs.declared.Report.{Report}
 use Rattle.step.specs.Checks.{refusalOf, isAccepted}
-use Rattle.step.specs.CheckLaws.{Ready, accepted, is-accepted}
+use Rattle.step.specs.CheckLaws.{Unrefused, accepted, is-accepted}
 use Rattle.step.specs.Step.{Stepped, stepped, runFor, cleared, settled, solveOf}
 use Rattle.step.specs.Answered.{Answered}
 use Rattle.step.specs.MeetLaws.{answered}
@@ -30,8 +30,8 @@ module _ (bodies : List Float) (joints : List Joint) (count : ℕ) (dt : Float) 
   unfolding solveOf
   solve-run h q = q ∙ cond-yes _ _ (sym (ap isAccepted e) ∙ sym f ∙ not-false b h)
 
-  pub run-ready : not b ≡ false → Ready bodies joints count dt (length scratch)
-  run-ready h = accepted bodies joints count dt (length scratch) (sym e ∙ is-accepted f h)
+  pub run-unrefused : not b ≡ false → Unrefused bodies joints count dt (length scratch)
+  run-unrefused h = accepted bodies joints count dt (length scratch) (sym e ∙ is-accepted f h)
 
   pub answered-refused : not b ≡ true → Answered bodies bodies joints count dt scratch scratch (record { outcome = o; nonlinear = 0; linear = 0 })
   answered-refused h = answered bodies bodies joints count dt scratch scratch (record { outcome = o; nonlinear = 0; linear = 0 }) (solve-refused h)

@@ -25,7 +25,7 @@ use Rattle.step.specs.Checks.{sizesOr, bodiesOr, jointsOr, refusalOf, is
 use Rattle.step.specs.Joined.{Joined, Sizes}
 
 -- none of refusals 1 to 9
-pub record Ready (bodies : List Float) (joints : List Joint) (count : ℕ) (dt : Float) (scratch : ℕ) : Type 0 where
+pub record Unrefused (bodies : List Float) (joints : List Joint) (count : ℕ) (dt : Float) (scratch : ℕ) : Type 0 where
   pub forward : Ieee.lt (ratio 0 1) dt ≡ true
   pub whole : length bodies % RECORD ≡ 0
   pub small : bodyCount bodies ≤ BODIES-MOST
@@ -172,7 +172,7 @@ module _ (bodies : List Float) (joints : List Joint) (count : ℕ) (dt : Float) 
       above : (n : ℕ) → (n ≡ 0 → ⊥) → 1 ≤ n
       above n q = omega arith
 
-  pub accepted : refusalOf bodies joints count dt scratch ≡ Accepted → Ready bodies joints count dt scratch
+  pub accepted : refusalOf bodies joints count dt scratch ≡ Accepted → Unrefused bodies joints count dt scratch
   unfolding refusalOf sizesOr bodiesOr jointsOr
   accepted e₀ =
       let p₁ = passed (timeStepOk dt) TimeStep _ (omega arith) e₀ in
@@ -201,6 +201,6 @@ module _ (bodies : List Float) (joints : List Joint) (count : ℕ) (dt : Float) 
       }
 
 -- what a run asks for
-pub ready-joined : {bodies : List Float} {joints : List Joint} {count : ℕ} {dt : Float} {scratch : ℕ} → Ready bodies joints count dt scratch
+pub unrefused-joined : {bodies : List Float} {joints : List Joint} {count : ℕ} {dt : Float} {scratch : ℕ} → Unrefused bodies joints count dt scratch
     → Joined joints count (bodyCount bodies)
-ready-joined r = record { few = r .few; small = r .small; a-there = r .a-there; b-there = r .b-there }
+unrefused-joined r = record { few = r .few; small = r .small; a-there = r .a-there; b-there = r .b-there }

@@ -36,7 +36,7 @@ use Rattle.step.specs.Layout.{RECORD}
 use Rattle.step.specs.Records.{recordAt, bodyCount, recordsOf}
 use Rattle.step.specs.View.{stateAt, noState, noRecord}
 use Rattle.step.specs.Checks.{numberOf, withinOf, massInRange, bodyInRange, frameOk, motionsOk, jointIn, refusalOf, isAccepted}
-use Rattle.step.specs.CheckLaws.{Ready, number-zero, refused-number, accepted}
+use Rattle.step.specs.CheckLaws.{Unrefused, number-zero, refused-number, accepted}
 use Rattle.step.specs.NumberLaws.{motions-finite, within-table}
 use Rattle.step.specs.Bodies.{bodyIn, recordIn, stateIn, jointRows, writeRows, rowsMet, statesOf}
 use Rattle.step.specs.Step.{Stepped, stepped, faultOutcome, grounded, handBack, cleared, settledAs, settled, jobOf, runFor, solveOf}
@@ -60,7 +60,7 @@ local-in body e =
     both o c (both (o && c) (massInRange (body .mass)) (both (o && c && massInRange (body .mass)) (isNormalizedOf (body .rotation)) (yes-T e) .0) .0) .1
 
 -- ---- an accepted run: its joints, and its states
-module _ (bodies : List Float) (joints : List Joint) (count : ℕ) (dt : Float) (scratch : ℕ) (ready : Ready bodies joints count dt scratch)
+module _ (bodies : List Float) (joints : List Joint) (count : ℕ) (dt : Float) (scratch : ℕ) (ready : Unrefused bodies joints count dt scratch)
     (states : List BodyState) (r : Ran (recordsOf bodies) joints count states) (on-ground : grounded states ≡ true) where
   records : length (recordsOf bodies) ≡ bodyCount bodies
   records = tab-length (bodyCount bodies) (recordAt bodies)
@@ -200,7 +200,7 @@ module _ (bodies : List Float) (joints : List Joint) (count : ℕ) (dt : Float) 
     late = λ h. absurd (omega arith);
   }
 
-  module _ (ready : Ready bodies joints count dt (length scratch)) where
+  module _ (ready : Unrefused bodies joints count dt (length scratch)) where
     -- 10 to 12
     abbrev failed : Outcome → ℕ → ℕ → Stepped
     failed o n l = record { outcome = o; nonlinear = n; linear = l; bodies = bodies; scratch = cleared scratch }

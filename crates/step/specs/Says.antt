@@ -34,8 +34,8 @@ abbrev pub Leaves : {A : Type 0} → (ℕ → Type 0) → Lent Float → End →
 Leaves P s r view defined = Does P (came s) (left s) (ranAs r (view (left s))) defined
 
 -- `write_rows`, of the rows of the joints, on whatever bodies two lists say that they are
-abbrev pub Writes : Lent Float → List Joint → ℕ → ℕ → Bool → End → Type 0
-Writes s joints count rows moved r = (size : ℕ) → Joined joints count size → (ia ib : List ℕ) → Sides joints count ia ib
+abbrev pub WritesRows : Lent Float → List Joint → ℕ → ℕ → Bool → End → Type 0
+WritesRows s joints count rows moved r = (size : ℕ) → Joined joints count size → (ia ib : List ℕ) → Sides joints count ia ib
     → Leaves (Out rows ROW-TABLE) s r (λ u. rowsOn ia ib u rows (rowsBefore joints count)) (writeRows joints count (bodiesAt moved (came s) size))
 
 -- `start`, of the rows of the joints, on whatever bodies two lists say that they are

@@ -65,7 +65,7 @@ ghost use Rattle.step.specs.Step.{nonlinearPass, nonlinearLoop, finishOf
 ghost use Rattle.step.specs.View.{startBodyAt, candidateAt, startBodiesAt, candidatesAt, statesAt};
 ghost use Rattle.step.specs.RunView.{bodiesAt, impulsesAt, candidateTable, jobFor, rowsBefore, Sides, Ours, Starting};
 ghost use Rattle.step.specs.RunView.{Joins, massAs, leftAs, impulsesBy};
-ghost use Rattle.step.specs.Says.{Leaves, Writes, Impels, Finds, Tries, Meets, Finishes, Starts};
+ghost use Rattle.step.specs.Says.{Leaves, WritesRows, Impels, Finds, Tries, Meets, Finishes, Starts};
 ghost use Rattle.step.specs.Joined.{Joined, RowBodies, Spread};
 
 // The definition's Job without its joints: how many there are, the time step, and whether there are at least as many as bodies.
@@ -138,7 +138,7 @@ fn load_moved(s: &[f64], k: usize, moved: bool) -> MomentumBody
 // The rows of all joints, of the bodies at the start or of the candidates.
 fn write_rows(s: &mut [f64], joints: [Joint; 16], count: usize, place: usize, moved: bool) -> End
     requires { ⌜ (USED ≤ length (now s)) × (place ≤ ROWS) × (Joined joints count BODIES-MOST) ⌝ }
-    ensures { λ r. ⌜ Writes s joints count place moved r ⌝ }
+    ensures { λ r. ⌜ WritesRows s joints count place moved r ⌝ }
 {
     let mut n = 0;
     for k in 0..count {

@@ -2,8 +2,8 @@
 use Rattle.step.specs.Layout.{SCRATCH}
 use Rattle.step.specs.Step.{runFor}
 use denote.Ref.{now}
-use Rattle.step.specs.CheckLaws.{ready-joined}
-use Rattle.step.proofs.AnsweredLaws.{run-ready, answered-refused, answered-run}
+use Rattle.step.specs.CheckLaws.{unrefused-joined}
+use Rattle.step.proofs.AnsweredLaws.{run-unrefused, answered-refused, answered-run}
 use Rattle.step.proofs.FinishLaws.{solved-scratch}
 use Rattle.step.proofs.StepLaws.{take-long}
 use mathlib.Core.Path.{sym}
@@ -21,7 +21,7 @@ returns c =
 slice-relend-prefix-solve-in : tie.Need-slice-relend-prefix-solve-in
 slice-relend-prefix-solve-in c =
     let at-refusal = c .before .before .before in let at-entry = at-refusal .before .before .before .before in
-    run-ready (now (at-entry .args .bodies)) (at-entry .args .joints) (at-entry .args .count) (at-entry .args .dt) (now (at-entry .args .scratch))
+    run-unrefused (now (at-entry .args .bodies)) (at-entry .args .joints) (at-entry .args .count) (at-entry .args .dt) (now (at-entry .args .scratch))
     (at-refusal .refusal .ensures) (c .before .before .accepted .ensures) (c .before .if1 .left) .room
 
 slice-aggregate-solve-in : tie.Need-slice-aggregate-solve-in
@@ -30,7 +30,7 @@ slice-aggregate-solve-in c =
     let at-entry = at-refusal .before .before .before .before in
     sym
     (take-long SCRATCH (at-entry .args .scratch .now)
-    (run-ready (now (at-entry .args .bodies)) (at-entry .args .joints) (at-entry .args .count) (at-entry .args .dt) (now (at-entry .args .scratch))
+    (run-unrefused (now (at-entry .args .bodies)) (at-entry .args .joints) (at-entry .args .count) (at-entry .args .dt) (now (at-entry .args .scratch))
     (at-refusal .refusal .ensures) (at-accepted .accepted .ensures) (c .before .before .if1 .left) .room))
 
 solve-in-requires : tie.Need-solve-in-requires
@@ -38,9 +38,9 @@ solve-in-requires c κs =
     let at-if1 = c .before .before in let at-accepted = at-if1 .before in let at-refusal = at-accepted .before in
     let at-entry = at-refusal .before .before .before .before in
     let ready =
-    run-ready (now (at-entry .args .bodies)) (at-entry .args .joints) (at-entry .args .count) (at-entry .args .dt) (now (at-entry .args .scratch))
+    run-unrefused (now (at-entry .args .bodies)) (at-entry .args .joints) (at-entry .args .count) (at-entry .args .dt) (now (at-entry .args .scratch))
     (at-refusal .refusal .ensures) (at-accepted .accepted .ensures) (at-if1 .if1 .left) in
-    (take-long SCRATCH (at-entry .args .scratch .now) (ready .room), ready .whole, ready-joined ready)
+    (take-long SCRATCH (at-entry .args .scratch .now) (ready .room), ready .whole, unrefused-joined ready)
 
 returns-2 : tie.Need-returns-2
 returns-2 c =
