@@ -48,21 +48,21 @@ pub loop-most : (job : Job) (start : Started) → AtMost (32 * limit (rowsIn (st
 unfolding nonlinearLoop
 loop-most job start = most-loop (nonlinearPass job start) (nonlinear-most job start) 32 _ _
 
-pub velocity-most : (cyclic : Bool) (system : System) (candidate : List MomentumBody)
-    → AtMost (limit (rowsIn system)) (velocityPass cyclic system candidate)
+pub velocity-most : (job : Job) (system : System) (candidate : List MomentumBody)
+    → AtMost (limit (rowsIn system)) (velocityPass job system candidate)
 unfolding velocityPass
-velocity-most cyclic system candidate =
+velocity-most job system candidate =
     most-try _ _ λ rhs. most-leave _ _ _ (most-call _ _ (linear-most _ _ _) (λ solution. most-try _ _ λ next. most-none {m = 0} _) (omega arith))
 
-pub finish-most : (cyclic : Bool) (bodies : List RigidBody) (found : Found) → AtMost (3 * limit (length (found .rows))) (finishOf cyclic bodies found)
+pub finish-most : (job : Job) (bodies : List RigidBody) (found : Found) → AtMost (3 * limit (length (found .rows))) (finishOf job bodies found)
 unfolding finishOf velocityLoop
-finish-most cyclic bodies found =
+finish-most job bodies found =
     most-try _ _ λ masses. most-call {b = 0} _ _
-    (most-loop (velocityPass cyclic (record {
+    (most-loop (velocityPass job (record {
       rows =
           found .rows;
       masses = masses;
-    })) (velocity-most cyclic _) 3 _ _) (λ candidate. most-none _) (omega arith)
+    })) (velocity-most job _) 3 _ _) (λ candidate. most-none _) (omega arith)
 
 -- ---- of rows in the scratch, which are few
 module _ (ia ib : List ℕ) (s : List Float) (table : Table) (few : table .rows ≤ ROWS-MOST) where
@@ -73,9 +73,9 @@ module _ (ia ib : List ℕ) (s : List Float) (table : Table) (few : table .rows 
       → ran x m l ≡ nonlinearPass job (startedAt ia ib s table) v → l ≤ LIMIT
   nonlinear-few job v e = omega (arith, counted-most e (nonlinear-most job _ v), rows-few (table .place))
 
-  pub velocity-few : (cyclic : Bool) (v : List MomentumBody) {x : Turn (Turn (List MomentumBody) (List MomentumBody)) Fault} {m l : ℕ}
-      → ran x m l ≡ velocityPass cyclic (systemOn ia ib s table) v → l ≤ LIMIT
-  velocity-few cyclic v e = omega (arith, counted-most e (velocity-most cyclic _ v), rows-few (table .place))
+  pub velocity-few : (job : Job) (v : List MomentumBody) {x : Turn (Turn (List MomentumBody) (List MomentumBody)) Fault} {m l : ℕ}
+      → ran x m l ≡ velocityPass job (systemOn ia ib s table) v → l ≤ LIMIT
+  velocity-few job v e = omega (arith, counted-most e (velocity-most job _ v), rows-few (table .place))
 
 -- of the rows of a run
 module _ {joints : List Joint} {count : ℕ} {ia ib : List ℕ} (sides : Sides joints count ia ib) (table : Table) (few : table .rows ≤ ROWS-MOST)
@@ -83,6 +83,6 @@ module _ {joints : List Joint} {count : ℕ} {ia ib : List ℕ} (sides : Sides j
   pub loop-few : (job : Job) {x : Turn Found Fault} → Does P s t (ran x m l) (nonlinearLoop job (startedAt ia ib s table)) → l ≤ 32 * LIMIT
   loop-few job d = omega (arith, counted-most (d .is) (loop-most job _), rows-few ia ib s table few (table .place))
 
-  pub finish-few : (cyclic : Bool) (bodies : List RigidBody) {x : Turn (List BodyState) Fault}
-      → Does P s t (ran x m l) (finishOf cyclic bodies (foundAt ia ib s table)) → l ≤ 3 * LIMIT
-  finish-few cyclic bodies d = omega (arith, counted-most (d .is) (finish-most cyclic bodies _), rows-few ia ib s table few ROWS)
+  pub finish-few : (job : Job) (bodies : List RigidBody) {x : Turn (List BodyState) Fault}
+      → Does P s t (ran x m l) (finishOf job bodies (foundAt ia ib s table)) → l ≤ 3 * LIMIT
+  finish-few job bodies d = omega (arith, counted-most (d .is) (finish-most job bodies _), rows-few ia ib s table few ROWS)

@@ -39,17 +39,17 @@ use Rattle.step.specs.Checks.{withinOf}
 use Rattle.step.specs.View.{candidatesAt, statesAt, Handed, stateAt, noState}
 use Rattle.step.specs.ViewLaws.{kept-candidates}
 use Rattle.step.specs.BackLaws.{handed-back}
-use Rattle.step.specs.Bodies.{Job, Started, startOf, prepareMasses, statesOf, stateIn}
-use Rattle.step.specs.Step.{nonlinearLoop, velocityLoop, finishOf, runOf, Stepped, stepped, grounded, cleared, settledAs, settled}
-use Rattle.step.specs.RunView.{startedAt, foundAt, Sides, candidateTable, Trying, Correcting, leftAs}
+use Rattle.step.specs.Bodies.{Job, Found, Started, startOf, prepareMasses, statesOf, stateIn}
+use Rattle.step.specs.Step.{nonlinearLoop, velocityPass, velocityLoop, finishOf, runOf, Stepped, stepped, grounded, cleared, settledAs, settled}
+use Rattle.step.specs.RunView.{alone, startedAt, foundAt, Sides, candidateTable, Trying, Correcting, leftAs}
 use Rattle.step.proofs.PassLaws.{failed-as}
 
 -- ---- finish_run
-module _ (cyclic : Bool) (bodies : List RigidBody) (ia ib : List ℕ) (t : Table) (l : t .rows ≤ 96) (g : t .bodies ≤ 16) {s s₁ : List Float} (r₁ : End)
+module _ (job : Job) (bodies : List RigidBody) (ia ib : List ℕ) (t : Table) (l : t .rows ≤ 96) (g : t .bodies ≤ 16) {s s₁ : List Float} (r₁ : End)
     (d₁ : Does (Out MASSES MASS-TABLE) s s₁ (ranAs r₁ (massesAt s₁ MASSES (t .bodies))) (prepareMasses (candidatesAt s (t .bodies))))
     {b : Bool} (eb : b ≡ isDone r₁) where
   abbrev Finishes : List Float → Counting (List BodyState) → Type 0
-  Finishes u x = Does (Out MASSES (USED - MASSES)) s u x (finishOf cyclic bodies (foundAt ia ib s t))
+  Finishes u x = Does (Out MASSES (USED - MASSES)) s u x (finishOf job bodies (foundAt ia ib s t))
 
   pub not-weighed : not b ≡ true → Finishes s₁ (ran (ranAs r₁ (statesAt s₁ (t .bodies))) 0 0)
   unfolding finishOf
@@ -60,15 +60,15 @@ module _ (cyclic : Bool) (bodies : List RigidBody) (ia ib : List ℕ) (t : Table
 
   module _ (h : not b ≡ false) {s₂ : List Float} (r₂ : Ended)
       (d₂ : Does Correcting s₁ s₂ (endedAs r₂ (candidatesAt s₂ (t .bodies)))
-      (velocityLoop cyclic (systemOn ia ib s₁ (candidateTable t)) (candidatesAt s₁ (t .bodies)))) {c : Bool} (ec : c ≡ isDone (r₂ .end)) where
+      (velocityLoop job (systemOn ia ib s₁ (candidateTable t)) (candidatesAt s₁ (t .bodies)))) {c : Bool} (ec : c ≡ isDone (r₂ .end)) where
     weighed : go (massesAt s₁ MASSES (t .bodies)) ≡ prepareMasses (candidatesAt s (t .bodies))
     weighed = sym (ran-done (massesAt s₁ MASSES (t .bodies)) r₁ (sym eb ∙ not-no b h)) ∙ d₁ .is
 
     abbrev loop : Counting (List MomentumBody)
-    loop = velocityLoop cyclic (record { rows = rowsOn ia ib s ROWS (t .rows); masses = massesAt s₁ MASSES (t .bodies) }) (candidatesAt s (t .bodies))
+    loop = velocityLoop job (record { rows = rowsOn ia ib s ROWS (t .rows); masses = massesAt s₁ MASSES (t .bodies) }) (candidatesAt s (t .bodies))
 
     loop-is : endedAs r₂ (candidatesAt s₂ (t .bodies)) ≡ loop
-    loop-is = d₂ .is ∙ λ j. velocityLoop cyclic
+    loop-is = d₂ .is ∙ λ j. velocityLoop job
         (record { rows = kept-rows (d₁ .kept) ia ib ROWS (t .rows) (λ i a b. omega arith) j; masses = massesAt s₁ MASSES (t .bodies) })
         (kept-candidates (d₁ .kept) (t .bodies) (λ i a b. omega arith) (λ i a b. omega arith) j)
 
@@ -94,7 +94,7 @@ module _ (cyclic : Bool) (bodies : List RigidBody) (ia ib : List ℕ) (t : Table
       is = run-is refl (let z : r₂ .linear ≡ r₂ .linear + 0 = omega arith in z)
           ∙ ap (λ (t : Result (List BodyState)). after 0 (r₂ .linear) (try t)) (d₃ .is)
           ∙ then-go (λ candidate. try (statesOf bodies candidate)) rested
-          ∙ try-go (λ masses. velocityLoop cyclic (record { rows = rowsOn ia ib s ROWS (t .rows); masses = masses }) (candidatesAt s (t .bodies))
+          ∙ try-go (λ masses. velocityLoop job (record { rows = rowsOn ia ib s ROWS (t .rows); masses = masses }) (candidatesAt s (t .bodies))
           >>= λ candidate. try (statesOf bodies candidate)) weighed;
     }
       where
@@ -104,6 +104,11 @@ module _ (cyclic : Bool) (bodies : List RigidBody) (ia ib : List ℕ) (t : Table
             (sym (ran-done (candidatesAt s₂ (t .bodies)) (r₂ .end) (sym ec ∙ not-no c k))) ∙ loop-is
 
 -- ---- run
+-- no joint is read once they were met
+finish-alone : (job : Job) (bodies : List RigidBody) (found : Found) → finishOf (alone job) bodies found ≡ finishOf job bodies found
+unfolding finishOf velocityLoop velocityPass
+finish-alone job bodies found = refl
+
 -- the rows of the joints, as they were counted
 pub started-as : {joints : List Joint} {count : ℕ} {ia ib : List ℕ} → Sides joints count ia ib → {n m : ℕ} (size : ℕ) {s s₁ : List Float} (r : End)
     {d : Result Started} → n ≡ m
@@ -145,15 +150,15 @@ module _ (job : Job) (bodies : List RigidBody) {joints : List Joint} {count : �
     }
 
     pub all-run : not c ≡ false → {s₃ : List Float} (r₃ : Ended)
-        → Does (Out MASSES (USED - MASSES)) s₂ s₃ (endedAs r₃ (statesAt s₃ (t .bodies))) (finishOf (job .cyclic) bodies (foundAt ia ib s₂ t))
+        → Does (Out MASSES (USED - MASSES)) s₂ s₃ (endedAs r₃ (statesAt s₃ (t .bodies))) (finishOf (alone job) bodies (foundAt ia ib s₂ t))
         → Runs s₃ (ran (ranAs (r₃ .end) (statesAt s₃ (t .bodies))) (r₂ .nonlinear) (r₂ .linear + r₃ .linear))
     unfolding runOf
     all-run k r₃ d₃ = record {
       kept = kept-then kept-run (d₃ .kept) (λ i x. omega arith);
       is = run-is (let z : r₂ .nonlinear ≡ r₂ .nonlinear + 0 = omega arith in z) refl
-          ∙ ap (after (r₂ .nonlinear) (r₂ .linear)) (d₃ .is)
-          ∙ then-go (finishOf (job .cyclic) bodies) (ap counts (sym (ran-done (foundAt ia ib s₂ t) (r₂ .end) (sym ec ∙ not-no c k))) ∙ d₂ .is)
-          ∙ try-go (λ start. nonlinearLoop job start >>= finishOf (job .cyclic) bodies) started;
+          ∙ ap (after (r₂ .nonlinear) (r₂ .linear)) (d₃ .is ∙ finish-alone job bodies (foundAt ia ib s₂ t))
+          ∙ then-go (finishOf job bodies) (ap counts (sym (ran-done (foundAt ia ib s₂ t) (r₂ .end) (sym ec ∙ not-no c k))) ∙ d₂ .is)
+          ∙ try-go (λ start. nonlinearLoop job start >>= finishOf job bodies) started;
     }
 
 -- ---- settle

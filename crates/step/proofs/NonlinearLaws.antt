@@ -28,7 +28,7 @@ use Rattle.step.specs.Layout.{IMPULSES}
 use Rattle.step.specs.Bodies.{Job, Found, rowsMet, rhsOf, addImpulses, candidateOf}
 use Rattle.step.specs.Step.{nonlinearPass, nonlinearLoop}
 use Rattle.solves.specs.Lent.{Slice}
-use Rattle.step.specs.declared.integrator.Task.{Task}
+use Rattle.step.specs.declared.passes.Task.{Task}
 use Rattle.step.specs.declared.passes.Passed.{Passed}
 use Rattle.step.specs.RunView.{impulsesAt, startedAt, foundAt, Starting, Trying, passedAs, passedAfter, correction, impulsesBy}
 use Rattle.step.proofs.LoopLaws.{kept-started}

@@ -36,7 +36,7 @@ use Rattle.solves.specs.View.{RHS, SOLUTION, GENERALIZED, Rows, Shares, Work, B
 use Rattle.solves.specs.ViewLaws.{row-in, share-in, system-kept}
 use Rattle.solves.specs.DoesLaws.{number-yes, number-no, does-stop, does-then, does-eq, does-is, does-more}
 use Rattle.step.specs.Layout.{IMPULSES, CANDIDATE, STATES}
-use Rattle.step.specs.Bodies.{bodyIn, velocityOf, velocityRhs, compatibleOf, kickBodies, reactionOf}
+use Rattle.step.specs.Bodies.{Job, bodyIn, velocityOf, velocityRhs, compatibleOf, kickBodies, reactionOf}
 use Rattle.step.specs.Step.{velocityPass, velocityLoop}
 use Rattle.step.specs.RunView.{MotionOf, MotionAt, Remembers, Correcting, passedAs, passedAfter, correction}
 use Rattle.step.specs.declared.passes.Passed.{Passed}
@@ -277,14 +277,14 @@ module _ {P : ℕ → Type 0} {s t : List Float} (kept : Kept P s t) {ia ib : Li
   same-candidates w = kept-candidates kept (table .bodies) (λ i a b. w i (omega (arith, pre .bodies))) (λ i a b. w i (omega (arith, pre .bodies)))
 
 -- the pass of a table
-abbrev pub passOver : Bool → List ℕ → List ℕ → Table → List Float → List MomentumBody → Counting (Turn (List MomentumBody) (List MomentumBody))
-passOver cyclic ia ib table s = velocityPass cyclic (systemOn ia ib s table)
+abbrev pub passOver : Job → List ℕ → List ℕ → Table → List Float → List MomentumBody → Counting (Turn (List MomentumBody) (List MomentumBody))
+passOver job ia ib table s = velocityPass job (systemOn ia ib s table)
 
-module _ (cyclic : Bool) {s : List Float} {ia ib : List ℕ} (table : Table) (pre : Rows s ia ib (table .place) (table .rows) (table .bodies))
+module _ (job : Job) {s : List Float} {ia ib : List ℕ} (table : Table) (pre : Rows s ia ib (table .place) (table .rows) (table .bodies))
     {t : List Float} (r : End) (d : Does (Beside RHS) s t (ranAs r (vecAt t RHS (table .rows)))
     (velocityRhs (rowsOn ia ib s (table .place) (table .rows)) (candidatesAt s (table .bodies)))) {b : Bool} (eb : b ≡ isDone r) where
   abbrev turn : Counting (Turn (List MomentumBody) (List MomentumBody))
-  turn = passOver cyclic ia ib table s (candidatesAt s (table .bodies))
+  turn = passOver job ia ib table s (candidatesAt s (table .bodies))
 
   within : Does Correcting s t (ranAs r (vecAt t RHS (table .rows)))
       (velocityRhs (rowsOn ia ib s (table .place) (table .rows)) (candidatesAt s (table .bodies)))
@@ -302,35 +302,35 @@ module _ (cyclic : Bool) {s : List Float} {ia ib : List ℕ} (table : Table) (pr
         (pass-met compatibleOf (λ _. candidatesAt s (table .bodies)) _ _ r within eb h ec g)
 
     pub kicked-on : c ≡ false → {u : List Float} {y : Counting (Turn (List MomentumBody) (List MomentumBody))}
-        → Does Correcting t u y (correction (linearSolve cyclic (systemOn ia ib t table) (vecAt t RHS (table .rows)))
+        → Does Correcting t u y (correction (linearSolve (job .cyclic) (systemOn ia ib t table) (vecAt t RHS (table .rows)))
         (reactionOf (systemOn ia ib t table .rows) (candidatesAt t (table .bodies)))) → Does Correcting s u y turn
     unfolding velocityPass
     kicked-on g e = pass-corrects compatibleOf (λ _. candidatesAt s (table .bodies)) _ _ r within eb h ec g
-        (does-is e (λ j. correction (linearSolve cyclic (same-system (d .kept) table pre (λ i x. omega (arith, x .0)) j) (vecAt t RHS (table .rows)))
+        (does-is e (λ j. correction (linearSolve (job .cyclic) (same-system (d .kept) table pre (λ i x. omega (arith, x .0)) j) (vecAt t RHS (table .rows)))
         (reactionOf (same-system (d .kept) table pre (λ i x. omega (arith, x .0)) j .rows)
         (same-candidates (d .kept) table pre (λ i x. omega (arith, x)) j))))
 
 -- velocity_loop: the pass is over the same system, however far the loop has come
-pub same-pass : (cyclic : Bool) {s : List Float} {ia ib : List ℕ} (table : Table) → Rows s ia ib (table .place) (table .rows) (table .bodies)
-    → (t : List Float) → Kept Correcting s t → passOver cyclic ia ib table t ≡ passOver cyclic ia ib table s
-same-pass cyclic table pre t kept = ap (velocityPass cyclic) (same-system kept table pre (λ i x. x))
+pub same-pass : (job : Job) {s : List Float} {ia ib : List ℕ} (table : Table) → Rows s ia ib (table .place) (table .rows) (table .bodies)
+    → (t : List Float) → Kept Correcting s t → passOver job ia ib table t ≡ passOver job ia ib table s
+same-pass job table pre t kept = ap (velocityPass job) (same-system kept table pre (λ i x. x))
 
-pub rests : (cyclic : Bool) (ia ib : List ℕ) (table : Table) {P : ℕ → Type 0} {s t : List Float} {x : Counting (List MomentumBody)}
-    → Does P s t x (upTo 3 nonConvergent (passOver cyclic ia ib table s) (candidatesAt s (table .bodies)))
-    → Does P s t x (velocityLoop cyclic (systemOn ia ib s table) (candidatesAt s (table .bodies)))
+pub rests : (job : Job) (ia ib : List ℕ) (table : Table) {P : ℕ → Type 0} {s t : List Float} {x : Counting (List MomentumBody)}
+    → Does P s t x (upTo 3 nonConvergent (passOver job ia ib table s) (candidatesAt s (table .bodies)))
+    → Does P s t x (velocityLoop job (systemOn ia ib s table) (candidatesAt s (table .bodies)))
 unfolding velocityLoop
-rests cyclic ia ib table d = d
+rests job ia ib table d = d
 
 -- correct_velocities
-module _ (cyclic : Bool) {s s₁ : List Float} {ia ib : List ℕ} (table : Table) (pre : Rows s ia ib (table .place) (table .rows) (table .bodies)) (r : Ended)
-    (d : Does Work s s₁ (endedAs r (vecAt s₁ SOLUTION (table .rows))) (linearSolve cyclic (systemOn ia ib s table) (vecAt s RHS (table .rows))))
+module _ (job : Job) {s s₁ : List Float} {ia ib : List ℕ} (table : Table) (pre : Rows s ia ib (table .place) (table .rows) (table .bodies)) (r : Ended)
+    (d : Does Work s s₁ (endedAs r (vecAt s₁ SOLUTION (table .rows))) (linearSolve (job .cyclic) (systemOn ia ib s table) (vecAt s RHS (table .rows))))
     {b : Bool} (eb : b ≡ isDone (r .end)) where
   abbrev react : List Float → Result (List MomentumBody)
   react = reactionOf (systemOn ia ib s table .rows) (candidatesAt s (table .bodies))
 
   abbrev Corrects : Passed → List Float → Type 0
   Corrects p u = Does Correcting s u (passedAs 0 p (candidatesAt u (table .bodies)) (candidatesAt u (table .bodies)))
-      (correction (linearSolve cyclic (systemOn ia ib s table) (vecAt s RHS (table .rows))) react)
+      (correction (linearSolve (job .cyclic) (systemOn ia ib s table) (vecAt s RHS (table .rows))) react)
 
   pub rest-unsolved : {p : Passed} → not b ≡ true → p ≡ passedAfter (r .end) (r .linear) → Corrects p s₁
   rest-unsolved h = unsolved react r _ (does-more (λ i x. omega (arith, x .0)) d) eb _ _ h

@@ -73,14 +73,14 @@ kicked a generalized b h =
     let E = each-at (length a) _ b h in
     record { size = E .size; same = λ k l. kick-place (bodyIn a k) _ _ (bodyIn b k) (E .at noBody k l) }
 
-module _ (cyclic : Bool) (system : System) where
+module _ (job : Job) (system : System) where
   reacted : (a : List MomentumBody) (solution : List Float) (b : List MomentumBody) → reactionOf (system .rows) a solution ≡ go b → Stay a b
   unfolding reactionOf
   reacted a solution b h =
       let r = step _ _ b h in
       kicked a (r .0) b (r .2)
 
-  pass-stays : (a b : List MomentumBody) → velocityPass cyclic system a .ends ≡ go (go b) → Stay a b
+  pass-stays : (a b : List MomentumBody) → velocityPass job system a .ends ≡ go (go b) → Stay a b
   unfolding velocityPass
   pass-stays a b h =
       let r₁ = ends-then _ _ _ h in
@@ -88,24 +88,24 @@ module _ (cyclic : Bool) (system : System) where
       let r₃ = ends-then _ _ _ (r₂ .2) in
       subst (Stay a) (goes-with _ b (r₃ .2)) (reacted a (r₂ .0) (r₃ .0) (r₃ .1))
 
-  pass-left : (a b : List MomentumBody) → velocityPass cyclic system a .ends ≡ go (stop b) → a ≡ b
+  pass-left : (a b : List MomentumBody) → velocityPass job system a .ends ≡ go (stop b) → a ≡ b
   unfolding velocityPass
   pass-left a b h =
       let r = ends-then _ _ _ h in
       left-if _ _ b _ (never (r .0)) (r .2) .1
     where
       never : (rhs : List Float)
-          → (linearSolve cyclic system rhs >>= λ solution. try (reactionOf (system .rows) a solution) >>= λ next. again next) .ends ≡ go (stop b) → ⊥
+          → (linearSolve (job .cyclic) system rhs >>= λ solution. try (reactionOf (system .rows) a solution) >>= λ next. again next) .ends ≡ go (stop b) → ⊥
       never rhs g =
           let q₁ = ends-then _ _ _ g in
           let q₂ = ends-then _ _ _ (q₁ .2) in
           not-left _ _ (q₂ .2)
 
-  pub loop-stays : (a b : List MomentumBody) → velocityLoop cyclic system a .ends ≡ go b → Stay a b
+  pub loop-stays : (a b : List MomentumBody) → velocityLoop job system a .ends ≡ go b → Stay a b
   unfolding velocityLoop
   loop-stays a b h =
       let here : Stay a a = record { size = refl; same = λ k l. same-place (bodyIn a k) } in
-      let m = left (velocityPass cyclic system) (Stay a) (λ x y s e. stay-then a x y s (pass-stays x y e)) 3 _ a b here h in
+      let m = left (velocityPass job system) (Stay a) (λ x y s e. stay-then a x y s (pass-stays x y e)) 3 _ a b here h in
       subst (Stay a) (pass-left (m .before) b (m .is)) (m .holds)
 
 -- ---- local centres are those of the records
@@ -160,13 +160,13 @@ candidate-of job start impulses found h =
       subst (λ (f : Found). writeRows (job .joints) (job .count) (f .candidate) ≡ go (f .rows)) e (r₃ .1),
     )
 
-finished : (cyclic : Bool) (bodies : List RigidBody) (found : Found) (states : List BodyState) → finishOf cyclic bodies found .ends ≡ go states
+finished : (job : Job) (bodies : List RigidBody) (found : Found) (states : List BodyState) → finishOf job bodies found .ends ≡ go states
     → (last : List MomentumBody) × Stay (found .candidate) last × (statesOf bodies last ≡ go states)
 unfolding finishOf
-finished cyclic bodies found states h =
+finished job bodies found states h =
     let r₁ = ends-then _ _ _ h in
     let r₂ = ends-then _ _ _ (r₁ .2) in
-    (r₂ .0, loop-stays cyclic _ (found .candidate) (r₂ .0) (r₂ .1), r₂ .2)
+    (r₂ .0, loop-stays job _ (found .candidate) (r₂ .0) (r₂ .1), r₂ .2)
 
 pub record Ran (bodies : List RigidBody) (joints : List Joint) (count : ℕ) (states : List BodyState) : Type 0 where
   -- the candidate that met its rows
@@ -190,7 +190,7 @@ ran job bodies states h =
     let found = r₂ .0 in
     let l = loop-found job start found (r₂ .1) in
     let f = candidate-of job start (l .0) found (l .1) in
-    let e = finished (job .cyclic) bodies found states (r₂ .2) in
+    let e = finished job bodies found states (r₂ .2) in
     let begun = start-locals bodies (start .bodies) (start-of job bodies start (r₁ .1)) in
     let moved = move-locals bodies (job .dt) (start .bodies) (f .0) (found .candidate) (f .1) begun in
     record {

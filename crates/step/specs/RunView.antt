@@ -2,7 +2,7 @@
 use Prim.Native.Nat.{ℕ, _+_, _-_, _≤_, _<_}
 use mathlib.Core.Path.{_≡_}
 use mathlib.Core.Bool.{Bool, cond}
-use mathlib.Core.List.{List}
+use mathlib.Core.List.{[], List}
 use lib.ListN.{length, getD}
 use lib.Ieee.{Float}
 use Rattle.arith.specs.Flow.{Turn, go, stop, turns}
@@ -27,7 +27,7 @@ use Rattle.solves.specs.Search.{linearSolve}
 use Rattle.solves.specs.Answer.{ranAs, passAs, isDone}
 use Rattle.solves.specs.View.{ROWS, RHS, rowsOn, systemOn, Ready}
 use Rattle.step.specs.declared.integrator.MassAnswer.{MassAnswer}
-use Rattle.step.specs.declared.integrator.Task.{Task}
+use Rattle.step.specs.declared.passes.Task.{Task}
 use Rattle.step.specs.declared.velocity.Motion.{Motion}
 use Rattle.step.specs.declared.passes.Passed.{Passed}
 use Rattle.step.specs.declared.passes.Ran.{Ran}
@@ -61,6 +61,10 @@ candidateTable t = record { place = ROWS; rows = t .rows; bodies = t .bodies }
 
 abbrev pub jobFor : List Joint → Task → Job
 jobFor joints task = record { joints = joints; count = task .count; dt = task .dt; cyclic = task .cyclic }
+
+-- a job without its joints: all that is read of it once they were met
+abbrev pub alone : Job → Job
+alone job = record { joints = []; count = job .count; dt = job .dt; cyclic = job .cyclic }
 
 -- how many rows the joints before k have
 abbrev pub rowsBefore : List Joint → ℕ → ℕ
@@ -138,5 +142,5 @@ abbrev pub impulsesBy : Task → Started → List Float → List EqualityRow →
 impulsesBy task start impulses rows = correction (linearSolve (task .cyclic) (start .system) (rhsOf (task .dt) rows)) (addImpulses impulses)
 
 -- of a velocity pass: the candidates kicked, along their own rows
-abbrev pub kicksBy : Bool → List Float → System → List MomentumBody → Counting (Turn (List MomentumBody) (List MomentumBody))
-kicksBy cyclic rhs system candidate = correction (linearSolve cyclic system rhs) (reactionOf (system .rows) candidate)
+abbrev pub kicksBy : Job → List Float → System → List MomentumBody → Counting (Turn (List MomentumBody) (List MomentumBody))
+kicksBy job rhs system candidate = correction (linearSolve (job .cyclic) system rhs) (reactionOf (system .rows) candidate)

@@ -20,7 +20,7 @@ use Rattle.solves.specs.Answer.{ranAs, endedAs}
 use Rattle.solves.specs.View.{START-ROWS, ROWS, MASSES, rowsOn, systemIn}
 use Rattle.solves.specs.Layout.{ROW-TABLE}
 use Rattle.step.specs.Joined.{Joined}
-use Rattle.step.specs.declared.integrator.Task.{Task}
+use Rattle.step.specs.declared.passes.Task.{Task}
 use Rattle.step.specs.declared.passes.Passed.{Passed}
 use Rattle.step.specs.declared.passes.Ran.{Ran}
 use Rattle.step.specs.Layout.{USED}

@@ -24,28 +24,28 @@ unfoldable pub nonlinearLoop : Job → Started → Counting Found
 nonlinearLoop job start = upTo 32 nonConvergent (nonlinearPass job start) (replicate (rowsIn (start .system)) (ratio 0 1))
 
 -- for _ in 0..3: tested before it is corrected, so that a third correction is never accepted
-unfoldable pub velocityPass : Bool → System → List MomentumBody → Counting (Turn (List MomentumBody) (List MomentumBody))
-velocityPass cyclic system candidate = do
+unfoldable pub velocityPass : Job → System → List MomentumBody → Counting (Turn (List MomentumBody) (List MomentumBody))
+velocityPass job system candidate = do
   rhs ← try (velocityRhs (system .rows) candidate)
   leaveIf (compatibleOf rhs) candidate do
-    solution ← linearSolve cyclic system rhs
+    solution ← linearSolve (job .cyclic) system rhs
     next ← try (reactionOf (system .rows) candidate solution)
     again next
 
-unfoldable pub velocityLoop : Bool → System → List MomentumBody → Counting (List MomentumBody)
-velocityLoop cyclic system candidate = upTo 3 nonConvergent (velocityPass cyclic system) candidate
+unfoldable pub velocityLoop : Job → System → List MomentumBody → Counting (List MomentumBody)
+velocityLoop job system candidate = upTo 3 nonConvergent (velocityPass job system) candidate
 
-unfoldable pub finishOf : Bool → List RigidBody → Found → Counting (List BodyState)  -- after the rows were met
-finishOf cyclic bodies found = do
+unfoldable pub finishOf : Job → List RigidBody → Found → Counting (List BodyState)  -- after the rows were met
+finishOf job bodies found = do
   masses ← try (prepareMasses (found .candidate))
-  candidate ← velocityLoop cyclic (record { rows = found .rows; masses = masses }) (found .candidate)
+  candidate ← velocityLoop job (record { rows = found .rows; masses = masses }) (found .candidate)
   try (statesOf bodies candidate)
 
 unfoldable pub runOf : Job → List RigidBody → Counting (List BodyState)
 runOf job bodies = do
   start ← try (startOf job bodies)
   found ← nonlinearLoop job start
-  finishOf (job .cyclic) bodies found
+  finishOf job bodies found
 
 abbrev pub jobOf : List Float → List Joint → ℕ → Float → Job  -- of a plan: cyclic where joints.len() >= bodies.len()
 jobOf bodies joints count dt = record { joints = joints; count = count; dt = dt; cyclic = leb (bodyCount bodies) count }

@@ -12,6 +12,7 @@ use crate::layout::MOVING;
 use crate::layout::RECORD;
 use crate::passes::Passed;
 use crate::passes::Ran;
+use crate::passes::Task;
 use crate::passes::pass_after;
 use crate::passes::pass_ended;
 use crate::passes::run_ended;
@@ -49,7 +50,7 @@ ghost use mathlib.Core.Path.{_≡_};
 ghost use Prim.Native.Nat.{ℕ, _+_, _*_, _≤_, _<_};
 ghost use lib.ListN.{length};
 ghost use mathlib.Core.Bool.{cond, _&&_};
-ghost use mathlib.Core.List.{List};
+ghost use mathlib.Core.List.{List, []};
 ghost use Rattle.arith.specs.Flow.{tab};
 ghost use Rattle.rows.specs.View.{Out};
 ghost use Rattle.rows.specs.Answer.{bodyAs};
@@ -67,13 +68,6 @@ ghost use Rattle.step.specs.RunView.{bodiesAt, impulsesAt, candidateTabl
 ghost use Rattle.step.specs.RunView.{Joins, massAs, leftAs, impulsesBy};
 ghost use Rattle.step.specs.Says.{Leaves, WritesRows, Impels, Finds, Tries, Meets, Finishes, Starts};
 ghost use Rattle.step.specs.Joined.{Joined, RowBodies, Spread};
-
-// The definition's Job without its joints: how many there are, the time step, and whether there are at least as many as bodies.
-pub(crate) struct Task {
-    pub count: usize,
-    pub dt: f64,
-    pub cyclic: bool,
-}
 
 // A mass response, if it is finite.
 pub(crate) struct MassAnswer {
@@ -394,10 +388,10 @@ fn finish_run(
     ib: &[usize; 96],
     t: Table,
     bodies: &[f64],
-    cyclic: bool,
+    task: Task,
 ) -> Ended
     requires { ⌜ (Ours s ia ib (candidateTable t)) × (t .bodies ≤ bodyCount (now bodies)) ⌝ }
-    ensures { λ r. ⌜ Finishes s ia ib t r (finishOf cyclic (recordsOf (came bodies))) ⌝ }
+    ensures { λ r. ⌜ Finishes s ia ib t r (finishOf (jobFor [] task) (recordsOf (came bodies))) ⌝ }
 {
     let weighed = prepare_masses(s, t.bodies, true);
     if !done(weighed) {
@@ -408,7 +402,7 @@ fn finish_run(
         rows: t.rows,
         bodies: t.bodies,
     };
-    let corrected = velocity_loop(s, ia, ib, candidate_table, cyclic);
+    let corrected = velocity_loop(s, ia, ib, candidate_table, task);
     let end = corrected.end;
     if !done(end) {
         return corrected;
@@ -462,7 +456,7 @@ pub(crate) fn run(bodies: &[f64], joints: [Joint; 16], count: usize, dt: f64, s:
     if !done(end) {
         return met;
     }
-    let last = finish_run(s, &ia, &ib, t, bodies, task.cyclic);
+    let last = finish_run(s, &ia, &ib, t, bodies, task);
     let end = last.end;
     run_ended(end, met.nonlinear, met.linear + last.linear)
 }

@@ -1,9 +1,16 @@
-// How a pass of the step's two loops ends, and how a loop or the run: with the passes that were counted.
+// What a run is about, and how a pass of the step's two loops ends, and how a loop or the run: with the passes that were counted.
 use solves::End;
 use solves::Pass;
 use solves::done;
 ghost use mathlib.Core.Path.{_≡_};
 ghost use Rattle.step.specs.RunView.{passedAfter};
+
+// The definition's Job without its joints: how many there are, the time step, and whether there are at least as many as bodies.
+pub(crate) struct Task {
+    pub count: usize,
+    pub dt: f64,
+    pub cyclic: bool,
+}
 
 // The end of a pass, with the linear passes of its solve.
 pub(crate) struct Passed {

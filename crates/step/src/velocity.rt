@@ -2,6 +2,7 @@
 use crate::bodies::load_candidate;
 use crate::bodies::store_candidate;
 use crate::passes::Passed;
+use crate::passes::Task;
 use crate::passes::pass_after;
 use crate::passes::pass_ended;
 use arith::number::abs;
@@ -24,6 +25,7 @@ use solves::solver::linear_solve;
 use vectors::vector::OptionVec3;
 use vectors::vector::Vec3;
 ghost use mathlib.Core.Path.{_≡_};
+ghost use mathlib.Core.List.{[]};
 ghost use Prim.Native.Nat.{_≤_, _<_};
 ghost use lib.ListN.{length};
 ghost use Rattle.rows.specs.View.{Out};
@@ -36,7 +38,7 @@ ghost use Rattle.step.specs.Layout.{CANDIDATE, USED, STATES};
 ghost use Rattle.step.specs.Bodies.{velocityOf, velocityRhs, compatibleOf, kickBodies, reactionOf};
 ghost use Rattle.step.specs.Step.{velocityPass, velocityLoop};
 ghost use Rattle.step.specs.View.{candidatesAt};
-ghost use Rattle.step.specs.RunView.{candidatesOf, MotionOf, MotionAt, Remembers, Ours, Correcting, kicksBy};
+ghost use Rattle.step.specs.RunView.{jobFor, candidatesOf, MotionOf, MotionAt, Remembers, Ours, Correcting, kicksBy};
 ghost use Rattle.step.specs.Says.{Leaves, Kicks, Rests};
 
 // The number of no body: there are at most 16.
@@ -170,12 +172,12 @@ fn correct_velocities(
     ia: &[usize; 96],
     ib: &[usize; 96],
     t: Table,
-    cyclic: bool,
+    task: Task,
 ) -> Passed
     requires { ⌜ Ours s ia ib t ⌝ }
-    ensures { λ r. ⌜ Kicks s ia ib t r (kicksBy cyclic (rhsOn s t)) ⌝ }
+    ensures { λ r. ⌜ Kicks s ia ib t r (kicksBy (jobFor [] task) (rhsOn s t)) ⌝ }
 {
-    let solved = linear_solve(s, ia, ib, t, cyclic);
+    let solved = linear_solve(s, ia, ib, t, task.cyclic);
     let end = solved.end;
     if !done(end) {
         return pass_after(end, solved.linear);
@@ -189,10 +191,10 @@ fn velocity_pass(
     ia: &[usize; 96],
     ib: &[usize; 96],
     t: Table,
-    cyclic: bool,
+    task: Task,
 ) -> Passed
     requires { ⌜ Ours s ia ib t ⌝ }
-    ensures { λ r. ⌜ Kicks s ia ib t r (velocityPass cyclic) ⌝ }
+    ensures { λ r. ⌜ Kicks s ia ib t r (velocityPass (jobFor [] task)) ⌝ }
 {
     let rated = velocity_rhs(s, ia, ib, t);
     if !done(rated) {
@@ -201,7 +203,7 @@ fn velocity_pass(
     if compatible(s, t.rows) {
         return pass_ended(Pass::Over(End::Done), 0);
     }
-    correct_velocities(s, ia, ib, t, cyclic)
+    correct_velocities(s, ia, ib, t, task)
 }
 
 pub(crate) fn velocity_loop(
@@ -209,14 +211,14 @@ pub(crate) fn velocity_loop(
     ia: &[usize; 96],
     ib: &[usize; 96],
     t: Table,
-    cyclic: bool,
+    task: Task,
 ) -> Ended
     requires { ⌜ Ours s ia ib t ⌝ }
-    ensures { λ r. ⌜ Rests s ia ib t r (velocityLoop cyclic) ⌝ }
+    ensures { λ r. ⌜ Rests s ia ib t r (velocityLoop (jobFor [] task)) ⌝ }
 {
     let mut linear = 0;
     for k in 0..3usize {
-        let passed = velocity_pass(s, ia, ib, t, cyclic);
+        let passed = velocity_pass(s, ia, ib, t, task);
         linear += passed.linear;
         let pass = passed.pass;
         if let Pass::Over(end) = pass {

@@ -6,20 +6,21 @@ use Prim.Native.Nat.{_*_, _≤_, _-_}
 use lib.ListN.{length}
 use denote.Ref.{now}
 use Rattle.step.specs.View.{candidatesAt}
-use Rattle.step.specs.RunView.{Correcting}
+use Rattle.step.specs.RunView.{jobFor, Correcting}
 use Rattle.step.proofs.CountLaws.{LIMIT, velocity-few}
 use Rattle.step.proofs.PassLaws.{ended-is, Looping, loop-none, loop-spent, loop-again as looped-again, loop-over}
 use Rattle.step.proofs.VelocityLaws.{passOver, same-pass, rests}
+use mathlib.Core.List.{[]}
 use Rattle.step.proofs.velocity.velocity_loop.Statement.{statement}
 use Rattle.step.proofs.velocity.velocity_loop.Tie as tie
 
 abbrev Inv-loop : tie.InvT-loop
-Inv-loop s₀ ia ib t cyclic linear₀ k₀ s linear k =
+Inv-loop s₀ ia ib t task linear₀ k₀ s linear k =
     (k ≤ 3) × (length s ≡ length s₀) × (linear ≤ LIMIT * k)
-    × (Looping 3 Correcting (passOver cyclic ia ib t) (λ x. candidatesAt x (t .bodies)) s₀ s k 0 linear)
+    × (Looping 3 Correcting (passOver (jobFor [] task) ia ib t) (λ x. candidatesAt x (t .bodies)) s₀ s k 0 linear)
 
 abbrev μ-loop : tie.MeasureT-loop
-μ-loop s₀ ia ib t cyclic linear₀ k₀ s linear k = 3 - k
+μ-loop s₀ ia ib t task linear₀ k₀ s linear k = 3 - k
 
 velocity-pass-requires : tie.Need-velocity-pass-requires Inv-loop μ-loop
 velocity-pass-requires c κs = record { ready = search needs; long = search needs }
@@ -33,7 +34,7 @@ add-linear c =
       at-loop .loop .inv .2,
       at-test .loop-test .taken,
       velocity-few (now (at-entry .args .ia)) (now (at-entry .args .ib)) (at-loop .loop .s) (at-entry .args .t) (at-entry .pre .ready .most)
-          (at-entry .args .cyclic) _ (at-velocity-pass .velocity-pass .ensures .is),
+          (jobFor [] (at-entry .args .task)) _ (at-velocity-pass .velocity-pass .ensures .is),
     )
 
 returns : tie.Need-returns Inv-loop μ-loop
@@ -41,9 +42,9 @@ returns c =
     let at-s = c .before .before .before .before .before .before in let at-velocity-pass = at-s .before in
     let at-test = at-velocity-pass .before .before in let at-loop = at-test .before in let at-entry = at-loop .before .before in
     ended-is (λ x. candidatesAt x (at-entry .args .t .bodies)) (c .new .ensures)
-    (rests (at-entry .args .cyclic) (now (at-entry .args .ia)) (now (at-entry .args .ib)) (at-entry .args .t)
+    (rests (jobFor [] (at-entry .args .task)) (now (at-entry .args .ia)) (now (at-entry .args .ib)) (at-entry .args .t)
     (loop-over _ _ _ _ _ (λ x. candidatesAt x (at-entry .args .t .bodies))
-    (same-pass (at-entry .args .cyclic) (at-entry .args .t) (at-entry .pre .ready)) (at-loop .loop .inv .3)
+    (same-pass (jobFor [] (at-entry .args .task)) (at-entry .args .t) (at-entry .pre .ready)) (at-loop .loop .inv .3)
     (at-velocity-pass .velocity-pass .result) (at-velocity-pass .velocity-pass .ensures) (at-test .loop-test .taken)
     (c .before .before .pass .given .1)))
 
@@ -57,10 +58,10 @@ loop-again c =
         arith,
         at-loop .loop .inv .2,
         velocity-few (now (at-entry .args .ia)) (now (at-entry .args .ib)) (at-loop .loop .s) (at-entry .args .t) (at-entry .pre .ready .most)
-            (at-entry .args .cyclic) _ (at-velocity-pass .velocity-pass .ensures .is),
+            (jobFor [] (at-entry .args .task)) _ (at-velocity-pass .velocity-pass .ensures .is),
       ),
       looped-again _ _ _ _ _ (λ x. candidatesAt x (at-entry .args .t .bodies))
-          (same-pass (at-entry .args .cyclic) (at-entry .args .t) (at-entry .pre .ready)) (at-loop .loop .inv .3)
+          (same-pass (jobFor [] (at-entry .args .task)) (at-entry .args .t) (at-entry .pre .ready)) (at-loop .loop .inv .3)
           (at-velocity-pass .velocity-pass .result) (at-velocity-pass .velocity-pass .ensures) (at-test .loop-test .taken) (c .enum-told .given .1),
     )
 
@@ -68,7 +69,7 @@ returns-2 : tie.Need-returns-2 Inv-loop μ-loop
 returns-2 c =
     let at-entry = c .before .before .before .before in
     ended-is (λ x. candidatesAt x (at-entry .args .t .bodies)) (c .new2 .ensures)
-    (rests (at-entry .args .cyclic) (now (at-entry .args .ia)) (now (at-entry .args .ib)) (at-entry .args .t)
+    (rests (jobFor [] (at-entry .args .task)) (now (at-entry .args .ia)) (now (at-entry .args .ib)) (at-entry .args .t)
     (loop-spent _ _ _ _ _ (c .before .before .loop .inv .3) (c .before .loop-test .left) refl))
 
 pub velocity-loop-spec : {M : Type 1} → statement M
