@@ -44,7 +44,7 @@ abbrev pub hasInverse : RigidBody → Bool  -- refusal 7
 hasInverse body = done (inverseSpdOf (body .inertia) .outcome)
 
 abbrev pub joinsTwo : ℕ → Joint → Bool  -- refusal 8
-joinsTwo bodies joint = ltb (joint .«body_a») bodies && ltb (joint .«body_b») bodies && not (eqb (joint .«body_a») (joint .«body_b»))
+joinsTwo body-count joint = ltb (joint .«body_a») body-count && ltb (joint .«body_b») body-count && not (eqb (joint .«body_a») (joint .«body_b»))
 
 abbrev pub frameOk : JointFrame → Bool  -- refusal 9, from here to jointOk
 frameOk frame = finiteOf (frame .«local_anchor») && withinOf (frame .«local_anchor») (ratio 64 1) && isNormalizedOf (frame .«local_rotation»)
@@ -89,16 +89,16 @@ sizesOr doubles count dt scratch next =
     (cond (ltb scratch SCRATCH) Scratch
     next)))
 
-unfoldable pub bodiesOr : List Float → ℕ → Outcome → Outcome  -- refusals 5 to 7, of the n bodies
-bodiesOr bodies n next =
+unfoldable pub bodiesOr : List Float → ℕ → Outcome → Outcome  -- refusals 5 to 7, of so many bodies
+bodiesOr bodies body-count next =
     cond (not (every (length bodies) (λ k. isFinite (at bodies k)))) NotFinite
-    (cond (not (every n (λ k. bodyInRange (recordAt bodies k)))) OutOfRange
-    (cond (not (every n (λ k. hasInverse (recordAt bodies k)))) Inertia
+    (cond (not (every body-count (λ k. bodyInRange (recordAt bodies k)))) OutOfRange
+    (cond (not (every body-count (λ k. hasInverse (recordAt bodies k)))) Inertia
     next))
 
-unfoldable pub jointsOr : List Joint → ℕ → ℕ → Outcome → Outcome  -- refusals 8 and 9, of the joints of n bodies
-jointsOr joints count n next =
-    cond (not (every count (λ k. joinsTwo n (jointIn joints k)))) JointBodies
+unfoldable pub jointsOr : List Joint → ℕ → ℕ → Outcome → Outcome  -- refusals 8 and 9, of the joints of so many bodies
+jointsOr joints count body-count next =
+    cond (not (every count (λ k. joinsTwo body-count (jointIn joints k)))) JointBodies
     (cond (not (every count (λ k. jointOk (jointIn joints k)))) JointNumbers
     next)
 

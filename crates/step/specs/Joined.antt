@@ -9,11 +9,11 @@ use Rattle.step.specs.Layout.{RECORD, SCRATCH}
 use Rattle.step.specs.Checks.{jointIn}
 
 -- at most 16 joints, on at most 16 bodies
-pub record Joined (joints : List Joint) (count size : ℕ) : Type 0 where
+pub record Joined (joints : List Joint) (count body-count : ℕ) : Type 0 where
   pub few : count ≤ 16
-  pub small : size ≤ 16
-  pub a-there : (k : ℕ) → k < count → jointIn joints k .«body_a» < size
-  pub b-there : (k : ℕ) → k < count → jointIn joints k .«body_b» < size
+  pub small : body-count ≤ 16
+  pub a-there : (k : ℕ) → k < count → jointIn joints k .«body_a» < body-count
+  pub b-there : (k : ℕ) → k < count → jointIn joints k .«body_b» < body-count
 
 -- the numbers of 2 to 4 are in range
 pub record Sizes (doubles count scratch : ℕ) : Type 0 where
@@ -24,8 +24,8 @@ pub record Sizes (doubles count scratch : ℕ) : Type 0 where
 -- the bodies of n rows, as many for each joint as its kind has
 pub record RowBodies (joints : List Joint) (count n : ℕ) (ia ib : List ℕ) : Type 0 where
   pub most : n ≤ 6 * count
-  pub a-there : (size : ℕ) → Joined joints count size → (k : ℕ) → k < n → getD ia k 0 < size
-  pub b-there : (size : ℕ) → Joined joints count size → (k : ℕ) → k < n → getD ib k 0 < size
+  pub a-there : (body-count : ℕ) → Joined joints count body-count → (k : ℕ) → k < n → getD ia k 0 < body-count
+  pub b-there : (body-count : ℕ) → Joined joints count body-count → (k : ℕ) → k < n → getD ib k 0 < body-count
 
 -- t is s with n times body from `from` on, and whatever stood behind them
 pub record Spread (from n body : ℕ) (s t : List ℕ) : Type 0 where

@@ -40,7 +40,7 @@ use Rattle.step.specs.Joined.{Joined}
 -- ---- views
 -- the candidates where bodies were moved, else those of the start
 abbrev pub bodiesAt : Bool → List Float → ℕ → List MomentumBody
-bodiesAt moved s n = cond moved (candidatesAt s n) (startBodiesAt s n)
+bodiesAt moved s body-count = cond moved (candidatesAt s body-count) (startBodiesAt s body-count)
 
 abbrev pub candidatesOf : Table → List Float → List MomentumBody
 candidatesOf t s = candidatesAt s (t .bodies)

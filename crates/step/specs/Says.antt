@@ -35,8 +35,8 @@ Leaves P s r view defined = Does P (came s) (left s) (ranAs r (view (left s))) d
 
 -- `write_rows`, of the rows of the joints, on whatever bodies two lists say that they are
 abbrev pub WritesRows : Lent Float → List Joint → ℕ → ℕ → Bool → End → Type 0
-WritesRows s joints count rows moved r = (size : ℕ) → Joined joints count size → (ia ib : List ℕ) → Sides joints count ia ib
-    → Leaves (Out rows ROW-TABLE) s r (λ u. rowsOn ia ib u rows (rowsBefore joints count)) (writeRows joints count (bodiesAt moved (came s) size))
+WritesRows s joints count place moved r = (body-count : ℕ) → Joined joints count body-count → (ia ib : List ℕ) → Sides joints count ia ib
+    → Leaves (Out place ROW-TABLE) s r (λ u. rowsOn ia ib u place (rowsBefore joints count)) (writeRows joints count (bodiesAt moved (came s) body-count))
 
 -- `start`, of the rows of the joints, on whatever bodies two lists say that they are
 abbrev pub Starts : Lent Float → Lent Float → List Joint → Task → End → Type 0

@@ -17,17 +17,18 @@ use Rattle.rows.specs.Body.{bodyWith, stateWith}
 use Rattle.rows.specs.View.{at, vec3At, Out, Kept}
 use Rattle.solves.specs.Solver.{noVec}
 use Rattle.step.specs.Layout.{RECORD, MOVING, START, CANDIDATE}
-use Rattle.step.specs.Records.{quatAt, matAt, recordWith}
+use Rattle.step.specs.Records.{quatAt, matAt}
+use Rattle.step.specs.Bodies.{bodyIn, recordIn, stateIn}
 
 -- what `bodyIn`, `recordIn` and `stateIn` have past the end of a list
 abbrev pub noBody : MomentumBody
-noBody = bodyWith noVec (quat nan nan nan nan) noVec noVec nan noVec (record { columns = [] })
+noBody = bodyIn [] 0
 
 abbrev pub noRecord : RigidBody
-noRecord = recordWith noVec (quat nan nan nan nan) noVec noVec nan noVec (record { columns = [] })
+noRecord = recordIn [] 0
 
 abbrev pub noState : BodyState
-noState = stateWith noVec (quat nan nan nan nan) noVec noVec
+noState = stateIn [] 0
 
 -- what moves of a body, and what does not
 pub record Moving : Type 0 where
@@ -81,41 +82,25 @@ startBodyAt s k = bodyFrom s (START + RECORD * k) (START + RECORD * k)
 abbrev pub candidateAt : List Float → ℕ → MomentumBody
 candidateAt s k = bodyFrom s (CANDIDATE + MOVING * k) (START + RECORD * k)
 
--- the first n of them, and the n states that stand where the candidates were
+-- the first of them, and the states that stand where the candidates were
 abbrev pub startBodiesAt : List Float → ℕ → List MomentumBody
-startBodiesAt s n = tab n (startBodyAt s)
+startBodiesAt s body-count = tab body-count (startBodyAt s)
 
 abbrev pub candidatesAt : List Float → ℕ → List MomentumBody
-candidatesAt s n = tab n (candidateAt s)
+candidatesAt s body-count = tab body-count (candidateAt s)
 
 abbrev pub statesAt : List Float → ℕ → List BodyState
-statesAt s n = tab n (λ k. stateAt s (CANDIDATE + MOVING * k))
+statesAt s body-count = tab body-count (λ k. stateAt s (CANDIDATE + MOVING * k))
 
 -- the body as a store of all of it leaves it
 abbrev pub heldOf : MomentumBody → MomentumBody
-heldOf b = record {
-  center = b .center;
-  rotation = b .rotation;
-  momentum = b .momentum;
-  spin = b .spin;
-  mass = b .mass;
-  «center_of_mass» = b .«center_of_mass»;
-  «inverse_inertia» = colsOf (b .«inverse_inertia»);
-}
+heldOf b = bodyWith (b .center) (b .rotation) (b .momentum) (b .spin) (b .mass) (b .«center_of_mass») (colsOf (b .«inverse_inertia»))
 
 -- the start with what moves of the body
 abbrev pub movedTo : MomentumBody → MomentumBody → MomentumBody
-movedTo b start = record {
-  center = b .center;
-  rotation = b .rotation;
-  momentum = b .momentum;
-  spin = b .spin;
-  mass = start .mass;
-  «center_of_mass» = start .«center_of_mass»;
-  «inverse_inertia» = start .«inverse_inertia»;
-}
+movedTo b start = bodyWith (b .center) (b .rotation) (b .momentum) (b .spin) (start .mass) (start .«center_of_mass») (start .«inverse_inertia»)
 
--- The states are handed back: the first 13 doubles of n records are those of the scratch, all else is as it was.
-pub record Handed (n : ℕ) (s bodies after : List Float) : Type 0 where
-  pub kept : Kept (λ i. (k : ℕ) → k < n → Out (RECORD * k) MOVING i) bodies after
-  pub there : (k : ℕ) → k < n → stateAt after (RECORD * k) ≡ stateAt s (CANDIDATE + MOVING * k)
+-- The states are handed back: the first 13 doubles of the records are those of the scratch, all else is as it was.
+pub record Handed (body-count : ℕ) (s bodies after : List Float) : Type 0 where
+  pub kept : Kept (λ i. (k : ℕ) → k < body-count → Out (RECORD * k) MOVING i) bodies after
+  pub there : (k : ℕ) → k < body-count → stateAt after (RECORD * k) ≡ stateAt s (CANDIDATE + MOVING * k)

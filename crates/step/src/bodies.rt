@@ -133,13 +133,12 @@ pub(crate) fn store_start(s: &mut [f64], k: usize, body: MomentumBody)
 {
     let i = START + RECORD * k;
     store_moving(s, i, body);
-    store_fixed(s, i + 13, body);
+    store_fixed(s, i + MOVING, body);
 }
 
 pub(crate) fn store_candidate(s: &mut [f64], k: usize, body: MomentumBody)
     requires { ⌜ (USED ≤ length (now s)) × (k < BODIES-MOST) ⌝ }
-    ensures { λ _. ⌜
-        (Kept (λ j. Out (CANDIDATE + MOVING * k) MOVING j) (came s) (left s))
+    ensures { λ _. ⌜ (Kept (λ j. Out (CANDIDATE + MOVING * k) MOVING j) (came s) (left s))
         × (candidateAt (left s) k ≡ movedTo body (startBodyAt (came s) k)) ⌝ }
 {
     store_moving(s, CANDIDATE + MOVING * k, body);

@@ -226,8 +226,7 @@ fn kick_and_drift(body: MomentumBody, linear: Vec3, angular: Vec3, dt: f64) -> B
 // The candidates: each pass restarts from the starting bodies with the summed impulses.
 fn move_bodies(s: &mut [f64], body_count: usize, dt: f64) -> End
     requires { ⌜ (USED ≤ length (now s)) × («body_count» ≤ BODIES-MOST) ⌝ }
-    ensures { λ r. ⌜
-        Leaves (Out CANDIDATE STATES) s r (λ u. candidatesAt u «body_count»)
+    ensures { λ r. ⌜ Leaves (Out CANDIDATE STATES) s r (λ u. candidatesAt u «body_count»)
         (moveBodies dt (startBodiesAt (came s) «body_count») (sharesIn (came s) «body_count»)) ⌝ }
 {
     for k in 0..body_count {
@@ -365,8 +364,7 @@ fn nonlinear_loop(
 // The states of the candidates, in their places.
 fn make_states(s: &mut [f64], bodies: &[f64], body_count: usize) -> End
     requires { ⌜ (USED ≤ length (now s)) × («body_count» ≤ bodyCount (now bodies)) × («body_count» ≤ BODIES-MOST) ⌝ }
-    ensures { λ r. ⌜
-        Leaves (Out CANDIDATE STATES) s r (λ u. statesAt u «body_count»)
+    ensures { λ r. ⌜ Leaves (Out CANDIDATE STATES) s r (λ u. statesAt u «body_count»)
         (statesOf (recordsOf (came bodies)) (candidatesAt (came s) «body_count»)) ⌝ }
 {
     for k in 0..body_count {

@@ -139,8 +139,7 @@ fn compatible(s: &[f64], n: usize) -> bool
 
 fn kick_candidates(s: &mut [f64], body_count: usize) -> End
     requires { ⌜ (USED ≤ length (now s)) × («body_count» ≤ BODIES-MOST) ⌝ }
-    ensures { λ r. ⌜
-        Leaves (Out CANDIDATE STATES) s r (λ u. candidatesAt u «body_count»)
+    ensures { λ r. ⌜ Leaves (Out CANDIDATE STATES) s r (λ u. candidatesAt u «body_count»)
         (kickBodies (candidatesAt (came s) «body_count») (sharesIn (came s) «body_count»)) ⌝ }
 {
     for k in 0..body_count {
@@ -186,13 +185,7 @@ fn correct_velocities(
     pass_after(applied, solved.linear)
 }
 
-fn velocity_pass(
-    s: &mut [f64],
-    ia: &[usize; 96],
-    ib: &[usize; 96],
-    t: Table,
-    task: Task,
-) -> Passed
+fn velocity_pass(s: &mut [f64], ia: &[usize; 96], ib: &[usize; 96], t: Table, task: Task) -> Passed
     requires { ⌜ Ours s ia ib t ⌝ }
     ensures { λ r. ⌜ Kicks s ia ib t r (velocityPass (jobFor [] task)) ⌝ }
 {

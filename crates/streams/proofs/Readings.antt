@@ -2,12 +2,12 @@
 use Prim.Native.Nat.{ℕ, zero, suc, _+_, _≤_, _<_}
 use mathlib.Core.Path.{_≡_, refl, sym, _∙_, ap, subst}
 use mathlib.Core.Bool.{true}
-use mathlib.Core.List.{List}
+use mathlib.Core.List.{List, _++_, append-assoc}
 use native.Mathlib.Omega.{arith}
 use lib.Dec.{leb, ltb}
 use lib.IntN.{ℤ, pos, negsuc}
-use lib.ListN.{length, drop}
-use lib.Seq.{paste, drop-paste, drop-drop}
+use lib.ListN.{length, drop, take}
+use lib.Seq.{paste, drop-paste, drop-drop, take-at, length-take-le}
 use borrow.Author.Tests.{lt-ltb, le-ltb, le-leb, lt-leb}
 use Rattle.libc.specs.Io.{Moved}
 use Rattle.streams.specs.declared.Got.{Got}
@@ -36,6 +36,10 @@ reads {before} {after} {at} {n} chunk told b fits there e =
     record {
       told = told;
       within = subst (λ (k : ℕ). at + k ≤ length before) b fits;
+      front =
+          ap (take at) e
+          ∙ ap (take at) (append-assoc (take at before) (take n chunk) (drop (at + n) before))
+          ∙ take-at (take at before) (take n chunk ++ drop (at + n) before) at (length-take-le at before (omega arith));
       rest = subst (λ (k : ℕ). drop (at + k) after ≡ drop (at + k) before) b same;
     }
 

@@ -6,7 +6,7 @@ use mathlib.Core.Bool.{Bool, true, false}
 use mathlib.Core.List.{List}
 use lib.Dec.{leb}
 use lib.IntN.{ℤ, pos, negsuc}
-use lib.ListN.{length, drop}
+use lib.ListN.{length, take, drop}
 use Rattle.streams.specs.declared.Got.{Got}
 use Rattle.streams.specs.declared.Got.the-variants.{Failed, Ended, Bytes}
 use Rattle.streams.specs.declared.Read.{Read}
@@ -35,10 +35,11 @@ isMore Ended = false
 isMore (Bytes n) = true
 
 -- one read into a buffer that held `before` and holds `after`, from a place on: what the answer says, that so much fits, and
--- that the bytes behind it are as they were
+-- that the bytes before and behind it are as they were
 pub record Reads (before : List ℕ) (at : ℕ) (after : List ℕ) (r : Read) : Type 0 where
   pub told : r .got ≡ gotOf (r .answer)
   pub within : at + bytesIn (r .got) ≤ length before
+  pub front : take at after ≡ take at before
   pub rest : drop (at + bytesIn (r .got)) after ≡ drop (at + bytesIn (r .got)) before
 
 -- a reading into a buffer that held `before` and holds `after`: the same of all that came, where there is room for any, and no
