@@ -3,9 +3,8 @@
 // The first 5,756 bytes decide every report (`pose-first-bytes` in specs/PoseLaws.antt of `report`), so an input of 8,192 holds
 // all that can matter.
 //
-// What `send` is handed is proved to be the text for the input that `main` received. No proof says that `read` brings the
-// bytes of the file in their order, that `send` hands its text to `write` and to nothing else, that `write` delivers it, and
-// that the input is the one of standard input.
+// What `send` is handed is proved to be the text for the input that `main` received. What no proof says of reading and writing
+// is listed in README, "What is left unproved".
 ghost use mathlib.Core.Path.{_≡_};
 ghost use Rattle.io.specs.Counts.{Counts};
 ghost use Rattle.pose.specs.Reply.{printed, replyOf};

@@ -42,7 +42,7 @@ use Rattle.step.specs.Bodies.{bodyIn, recordIn, stateIn, jointRows, writ
 use Rattle.step.specs.Step.{Stepped, stepped, faultOutcome, grounded, handBack, cleared, settledAs, settled, jobOf, runFor, solveOf}
 use Rattle.step.specs.BackLaws.{back-length, back-state}
 use Rattle.step.specs.TurnLaws.{each-at}
-use Rattle.step.specs.RunLaws.{Ran, ran}
+use Rattle.step.specs.RunLaws.{Traced, ran}
 use Rattle.step.specs.Answered.{AtEnds, Answered}
 
 -- ---- tests that were passed
@@ -61,7 +61,7 @@ local-in body e =
 
 -- ---- an accepted run: its joints, and its states
 module _ (bodies : List Float) (joints : List Joint) (count : ℕ) (dt : Float) (scratch : ℕ) (ready : Unrefused bodies joints count dt scratch)
-    (states : List BodyState) (r : Ran (recordsOf bodies) joints count states) (on-ground : grounded states ≡ true) where
+    (states : List BodyState) (r : Traced (recordsOf bodies) joints count states) (on-ground : grounded states ≡ true) where
   records : length (recordsOf bodies) ≡ bodyCount bodies
   records = tab-length (bodyCount bodies) (recordAt bodies)
 
@@ -240,7 +240,7 @@ module _ (bodies : List Float) (joints : List Joint) (count : ℕ) (dt : Float) 
       late = λ h. absurd (omega arith);
     }
       where
-        end : Ran (recordsOf bodies) joints count states
+        end : Traced (recordsOf bodies) joints count states
         end = ran (jobOf bodies joints count dt) (recordsOf bodies) states e
 
         as-many : {k : ℕ} → k < bodyCount (handBack bodies states) → k < bodyCount bodies

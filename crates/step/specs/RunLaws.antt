@@ -168,7 +168,7 @@ finished job bodies found states h =
     let r₂ = ends-then _ _ _ (r₁ .2) in
     (r₂ .0, loop-stays job _ (found .candidate) (r₂ .0) (r₂ .1), r₂ .2)
 
-pub record Ran (bodies : List RigidBody) (joints : List Joint) (count : ℕ) (states : List BodyState) : Type 0 where
+pub record Traced (bodies : List RigidBody) (joints : List Joint) (count : ℕ) (states : List BodyState) : Type 0 where
   -- the candidate that met its rows
   pub candidate : List MomentumBody
   pub rows : List EqualityRow
@@ -181,7 +181,7 @@ pub record Ran (bodies : List RigidBody) (joints : List Joint) (count : ℕ) (st
   pub states-are : statesOf bodies last ≡ go states
 
 pub ran : (job : Job) (bodies : List RigidBody) (states : List BodyState) → runOf job bodies .ends ≡ go states
-    → Ran bodies (job .joints) (job .count) states
+    → Traced bodies (job .joints) (job .count) states
 unfolding runOf
 ran job bodies states h =
     let r₁ = ends-then _ _ _ h in
