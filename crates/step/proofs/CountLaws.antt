@@ -1,7 +1,6 @@
 -- What the passes and the loops count at most, so that the code's sums do not wrap: link by link, from the limit of a linear solve.
 use Prim.Native.Nat.{ℕ, _*_, _≤_}
 use mathlib.Core.Path.{_≡_, ap}
-use mathlib.Core.Bool.{Bool}
 use mathlib.Core.List.{List}
 use native.Mathlib.Omega.{arith}
 use lib.ListN.{length}

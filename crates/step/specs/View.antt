@@ -3,19 +3,17 @@
 use Prim.Native.Nat.{ℕ, _+_, _*_, _<_}
 use mathlib.Core.Path.{_≡_}
 use mathlib.Core.List.{List, []}
-use lib.Ieee.{Float, nan}
+use lib.Ieee.{Float}
 use Rattle.arith.specs.Flow.{tab}
 use Rattle.vectors.specs.declared.vector.Vec3.{Vec3}
 use Rattle.vectors.specs.declared.quaternion.Quat.{Quat}
 use Rattle.vectors.specs.declared.matrix.Mat3.{Mat3}
 use Rattle.vectors.specs.Matrix.{fromCols, columnOf}
-use Rattle.vectors.specs.Quaternion.{quat}
 use Rattle.rows.specs.declared.body.RigidBody.{RigidBody}
 use Rattle.rows.specs.declared.body.BodyState.{BodyState}
 use Rattle.rows.specs.declared.body.MomentumBody.{MomentumBody}
-use Rattle.rows.specs.Body.{bodyWith, stateWith}
+use Rattle.rows.specs.Body.{bodyWith}
 use Rattle.rows.specs.View.{at, vec3At, Out, Kept}
-use Rattle.solves.specs.Solver.{noVec}
 use Rattle.step.specs.Layout.{RECORD, MOVING, START, CANDIDATE}
 use Rattle.step.specs.Records.{quatAt, matAt}
 use Rattle.step.specs.Bodies.{bodyIn, recordIn, stateIn}

@@ -10,26 +10,26 @@ returns : tie.Need-returns
 returns c =
     let at-if1 = c .before .before .before .before in let at-in-ground = at-if1 .before in let at-enum-told = at-in-ground .before in
     let at-entry = at-enum-told .before .before .before .before in
-    λ nonlinear linear scratch. settle-accepts (at-entry .args .body-count) (now (at-entry .args .work)) (now (at-entry .args .bodies))
+    λ nonlinear linear scratch. settle-accepts _ _ _
     (at-in-ground .in-ground .ensures) (at-enum-told .enum-told .given .1) nonlinear linear scratch (at-if1 .if1 .taken) (at-entry .pre .1)
     (at-entry .pre .0) (c .before .before .write-states .ensures)
 
 returns-2 : tie.Need-returns-2
 returns-2 c =
     let at-entry = c .before .before .before .before .before .before in
-    λ nonlinear linear scratch. settle-grounds (at-entry .args .body-count) (now (at-entry .args .work)) (now (at-entry .args .bodies))
+    λ nonlinear linear scratch. settle-grounds _ (now (at-entry .args .work)) _
     (c .before .in-ground .ensures) (c .before .before .enum-told .given .1) nonlinear linear scratch (c .if1 .left)
 
 returns-3 : tie.Need-returns-3
 returns-3 c =
     let at-entry = c .before .before .before .before in
-    λ nonlinear linear scratch. settle-fails (now (at-entry .args .bodies)) scratch (statesAt (now (at-entry .args .work)) (at-entry .args .body-count))
+    λ nonlinear linear scratch. settle-fails _ scratch (statesAt (now (at-entry .args .work)) _)
     (c .enum-told2 .given .1) nonlinear linear
 
 returns-4 : tie.Need-returns-4
 returns-4 c =
     let at-entry = c .before .before .before .before in
-    λ nonlinear linear scratch. settle-fails (now (at-entry .args .bodies)) scratch (statesAt (now (at-entry .args .work)) (at-entry .args .body-count))
+    λ nonlinear linear scratch. settle-fails _ scratch (statesAt (now (at-entry .args .work)) _)
     (c .enum-told3 .given .1) nonlinear linear
 
 pub settle-spec : {M : Type 1} → statement M

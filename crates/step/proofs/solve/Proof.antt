@@ -14,14 +14,13 @@ use Rattle.step.proofs.solve.Tie as tie
 
 returns : tie.Need-returns
 returns c =
-    let at-entry = c .before .before .before .before .before .before in
-    answered-refused (now (at-entry .args .bodies)) (at-entry .args .joints) (at-entry .args .count) (at-entry .args .dt)
-    (now (at-entry .args .scratch)) (c .before .before .refusal .ensures) (c .before .accepted .ensures) (c .if1 .taken)
+    answered-refused _ _ _ _
+    _ (c .before .before .refusal .ensures) (c .before .accepted .ensures) (c .if1 .taken)
 
 slice-relend-prefix-solve-in : tie.Need-slice-relend-prefix-solve-in
 slice-relend-prefix-solve-in c =
     let at-refusal = c .before .before .before in let at-entry = at-refusal .before .before .before .before in
-    run-unrefused (now (at-entry .args .bodies)) (at-entry .args .joints) (at-entry .args .count) (at-entry .args .dt) (now (at-entry .args .scratch))
+    run-unrefused _ _ _ _ (now (at-entry .args .scratch))
     (at-refusal .refusal .ensures) (c .before .before .accepted .ensures) (c .before .if1 .left) .room
 
 slice-aggregate-solve-in : tie.Need-slice-aggregate-solve-in
@@ -30,7 +29,7 @@ slice-aggregate-solve-in c =
     let at-entry = at-refusal .before .before .before .before in
     sym
     (take-long SCRATCH (at-entry .args .scratch .now)
-    (run-unrefused (now (at-entry .args .bodies)) (at-entry .args .joints) (at-entry .args .count) (at-entry .args .dt) (now (at-entry .args .scratch))
+    (run-unrefused _ _ _ _ (now (at-entry .args .scratch))
     (at-refusal .refusal .ensures) (at-accepted .accepted .ensures) (c .before .before .if1 .left) .room))
 
 solve-in-requires : tie.Need-solve-in-requires
@@ -38,7 +37,7 @@ solve-in-requires c κs =
     let at-if1 = c .before .before in let at-accepted = at-if1 .before in let at-refusal = at-accepted .before in
     let at-entry = at-refusal .before .before .before .before in
     let ready =
-    run-unrefused (now (at-entry .args .bodies)) (at-entry .args .joints) (at-entry .args .count) (at-entry .args .dt) (now (at-entry .args .scratch))
+    run-unrefused _ _ _ _ (now (at-entry .args .scratch))
     (at-refusal .refusal .ensures) (at-accepted .accepted .ensures) (at-if1 .if1 .left) in
     (take-long SCRATCH (at-entry .args .scratch .now) (ready .room), ready .whole, unrefused-joined ready)
 
@@ -46,10 +45,10 @@ returns-2 : tie.Need-returns-2
 returns-2 c =
     let at-solve-in = c .before .before .before .before in let at-if1 = at-solve-in .before .before .before in let at-accepted = at-if1 .before in
     let at-refusal = at-accepted .before in let at-entry = at-refusal .before .before .before .before in
-    answered-run (now (at-entry .args .bodies)) (at-entry .args .joints) (at-entry .args .count) (at-entry .args .dt)
-    (now (at-entry .args .scratch)) (at-refusal .refusal .ensures) (at-accepted .accepted .ensures) _ _ _ (at-if1 .if1 .left)
+    answered-run _ _ _ _
+    _ (at-refusal .refusal .ensures) (at-accepted .accepted .ensures) _ _ _ (at-if1 .if1 .left)
     (solved-scratch (now (at-entry .args .bodies)) (now (at-entry .args .scratch))
-    (runFor (now (at-entry .args .bodies)) (at-entry .args .joints) (at-entry .args .count) (at-entry .args .dt))
+    (runFor (now (at-entry .args .bodies)) _ _ _)
     (at-solve-in .solve-in .ensures))
 
 pub solve-spec : {M : Type 1} → statement M

@@ -12,8 +12,8 @@ returns : tie.Need-returns
 returns c =
     let at-settle = c .before .before .before .before .before .before in let at-run = at-settle .before .before .before .before .before in
     let at-entry = at-run .before .before .before .before .before in
-    solved-in (now (at-entry .args .bodies))
-    (runFor (now (at-entry .args .bodies)) (at-entry .args .joints) (at-entry .args .count) (at-entry .args .dt)) (at-run .run .result) _
+    solved-in _
+    (runFor (now (at-entry .args .bodies)) _ _ _) (at-run .run .result) _
     (at-run .run .ensures) (at-settle .settle .ensures)
     (all-zero (at-run .run .ensures .kept .size ∙ at-entry .pre .0) (c .before .before .clear .ensures))
 

@@ -21,13 +21,12 @@ abbrev μ-loop : tie.MeasureT-loop
 
 loop-again : tie.Need-loop-again Inv-loop μ-loop
 loop-again c =
-    let at-entry = c .before .before .before in
-    (omega arith, simp length-set (omega arith), rhs-more (at-entry .args .dt) _ _ _ (c .before .before .loop .inv .2) (omega arith) (omega arith))
+    (omega arith, simp length-set (omega arith), rhs-more _ _ _ _ (c .before .before .loop .inv .2) (omega arith) (omega arith))
 
 returns : tie.Need-returns Inv-loop μ-loop
 returns c =
     let at-entry = c .before .before in
-    λ ia ib. rhs-is _ _ ia ib (at-entry .args .dt) (filled-all (omega arith) (c .loop-test .left) (c .before .loop .inv .2)) (at-entry .pre .1)
+    λ ia ib. rhs-is _ _ ia ib _ (filled-all (omega arith) (c .loop-test .left) (c .before .loop .inv .2)) (at-entry .pre .1)
 
 pub fill-rhs-spec : {M : Type 1} → statement M
 fill-rhs-spec =

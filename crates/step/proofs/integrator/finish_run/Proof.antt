@@ -15,7 +15,7 @@ returns : tie.Need-returns
 returns c =
     let at-prepare-masses = c .before .before .before .before .before in let at-entry = at-prepare-masses .before .before .before .before in
     ended-is (λ x. statesAt x (at-entry .args .t .bodies)) (c .new .ensures)
-    (not-weighed (jobFor [] (at-entry .args .task)) (recordsOf (now (at-entry .args .bodies))) (now (at-entry .args .ia)) (now (at-entry .args .ib))
+    (not-weighed (jobFor [] _) (recordsOf (now (at-entry .args .bodies))) (now (at-entry .args .ia)) (now (at-entry .args .ib))
     (at-entry .args .t) (at-entry .pre .0 .ready .most) (at-entry .pre .0 .ready .bodies) (at-prepare-masses .prepare-masses .result)
     (at-prepare-masses .prepare-masses .ensures) (c .before .before .done .ensures) (c .before .if1 .taken))
 
@@ -26,7 +26,7 @@ returns-2 : tie.Need-returns-2
 returns-2 c =
     let at-velocity-loop = c .before .before .before .before in let at-if1 = at-velocity-loop .before .before in let at-done = at-if1 .before in
     let at-prepare-masses = at-done .before .before .before in let at-entry = at-prepare-masses .before .before .before .before in
-    not-rested (jobFor [] (at-entry .args .task)) (recordsOf (now (at-entry .args .bodies))) (now (at-entry .args .ia)) (now (at-entry .args .ib))
+    not-rested (jobFor [] _) (recordsOf (now (at-entry .args .bodies))) (now (at-entry .args .ia)) (now (at-entry .args .ib))
     (at-entry .args .t) (at-entry .pre .0 .ready .most) (at-entry .pre .0 .ready .bodies) (at-prepare-masses .prepare-masses .result)
     (at-prepare-masses .prepare-masses .ensures) (at-done .done .ensures) (at-if1 .if1 .left) (at-velocity-loop .velocity-loop .result)
     (at-velocity-loop .velocity-loop .ensures) (c .before .done2 .ensures) (c .if2 .taken)
@@ -37,7 +37,7 @@ returns-3 c =
     let at-velocity-loop = at-done2 .before .before .before in let at-if1 = at-velocity-loop .before .before in let at-done = at-if1 .before in
     let at-prepare-masses = at-done .before .before .before in let at-entry = at-prepare-masses .before .before .before .before in
     ended-is (λ x. statesAt x (at-entry .args .t .bodies)) (c .new2 .ensures)
-    (all-finished (jobFor [] (at-entry .args .task)) (recordsOf (now (at-entry .args .bodies))) (now (at-entry .args .ia)) (now (at-entry .args .ib))
+    (all-finished (jobFor [] _) (recordsOf (now (at-entry .args .bodies))) (now (at-entry .args .ia)) (now (at-entry .args .ib))
     (at-entry .args .t) (at-entry .pre .0 .ready .most) (at-entry .pre .0 .ready .bodies) (at-prepare-masses .prepare-masses .result)
     (at-prepare-masses .prepare-masses .ensures) (at-done .done .ensures) (at-if1 .if1 .left) (at-velocity-loop .velocity-loop .result)
     (at-velocity-loop .velocity-loop .ensures) (at-done2 .done2 .ensures) (at-if2 .if2 .left) (at-make-states .make-states .result)

@@ -7,13 +7,13 @@ use Rattle.step.proofs.integrator.kick_and_drift.Tie as tie
 returns : tie.Need-returns
 returns c =
     let at-kick = c .before .before in let at-entry = at-kick .before in
-    kick-fails (at-entry .args .dt) (at-entry .args .body) (record { linear = at-entry .args .linear; angular = at-entry .args .angular })
+    kick-fails _ _ (record { linear = at-entry .args .linear; angular = at-entry .args .angular })
     (at-kick .kick .ensures) (c .before .done .ensures) (c .if1 .taken)
 
 returns-2 : tie.Need-returns-2
 returns-2 c =
     let at-done = c .before .before in let at-kick = at-done .before in let at-entry = at-kick .before in
-    kick-drifts (at-entry .args .dt) (at-entry .args .body) (record { linear = at-entry .args .linear; angular = at-entry .args .angular })
+    kick-drifts _ _ (record { linear = at-entry .args .linear; angular = at-entry .args .angular })
     (at-kick .kick .ensures) (at-done .done .ensures) (c .before .if1 .left) (c .drift .ensures)
 
 pub kick-and-drift-spec : {M : Type 1} → statement M

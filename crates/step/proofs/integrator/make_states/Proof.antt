@@ -19,30 +19,26 @@ abbrev μ-loop : tie.MeasureT-loop
 
 mul-store-state : tie.Need-mul-store-state Inv-loop μ-loop
 mul-store-state c =
-    let at-load-candidate = c .before .before .before .before .before .before in
     omega arith
 
 add-store-state : tie.Need-add-store-state Inv-loop μ-loop
 add-store-state c =
-    let at-load-candidate = c .before .before .before .before .before .before in
     omega arith
 
 store-state-requires : tie.Need-store-state-requires Inv-loop μ-loop
 store-state-requires c κs =
-    let at-load-candidate = c .before .before .before .before .before .before in
     omega arith
 
 returns : tie.Need-returns Inv-loop μ-loop
 returns c =
     let at-load-state = c .before .before .before in let at-load-candidate = at-load-state .before in
     let at-test = at-load-candidate .before .before in let at-loop = at-test .before in let at-entry = at-loop .before .before .before in
-    state-stops (now (at-entry .args .bodies)) (at-entry .args .body-count) _ _ _ (at-loop .loop .inv .2) (at-test .loop-test .taken) (at-entry .pre .2)
+    state-stops (now (at-entry .args .bodies)) _ _ _ _ (at-loop .loop .inv .2) (at-test .loop-test .taken) (at-entry .pre .2)
     (at-entry .pre .1) (at-load-candidate .load-candidate .ensures) refl
     (state-stop (c .before .before .state .ensures) (c .enum-told .given .1) ∙ ap (stateOf _) (at-load-state .load-state .ensures))
 
 add-k : tie.Need-add-k Inv-loop μ-loop
 add-k c =
-    let at-match = c .before .before .before .before .before .before in
     omega arith
 
 loop-again : tie.Need-loop-again Inv-loop μ-loop
@@ -52,7 +48,7 @@ loop-again c =
     let at-entry = at-loop .before .before .before in (
       omega arith,
       omega arith,
-      state-again (now (at-entry .args .bodies)) (at-entry .args .body-count) _ _ _ (at-loop .loop .inv .2) (at-test .loop-test .taken) (at-entry .pre .2)
+      state-again (now (at-entry .args .bodies)) _ _ _ _ (at-loop .loop .inv .2) (at-test .loop-test .taken) (at-entry .pre .2)
           (at-entry .pre .1) (at-load-candidate .load-candidate .ensures) refl
           (state-go (at-state .state .ensures) (at-state2 .state2 .given .1) ∙ ap (stateOf _) (at-load-state .load-state .ensures))
           (c .before .before .store-state .ensures),
@@ -61,7 +57,7 @@ loop-again c =
 returns-2 : tie.Need-returns-2 Inv-loop μ-loop
 returns-2 c =
     let at-entry = c .before .before .before .before in
-    state-ends (now (at-entry .args .bodies)) (at-entry .args .body-count) _ _ _ (c .before .loop .inv .2) (omega arith) (c .loop-test .left)
+    state-ends (now (at-entry .args .bodies)) _ _ _ _ (c .before .loop .inv .2) (omega arith) (c .loop-test .left)
     (at-entry .pre .2)
 
 pub make-states-spec : {M : Type 1} → statement M

@@ -11,8 +11,8 @@ returns : tie.Need-returns
 unfolding round ofBits
 returns c =
     let at-product2 = c .before .before .before .before in let at-transpose = at-product2 .before in let at-product = at-transpose .before in
-    let at-to-mat3 = at-product .before .before .before in let at-entry = at-to-mat3 .before in
-    mass-is (at-entry .args .body) (at-to-mat3 .to-mat3 .ensures) (at-product .product .ensures)
+    let at-to-mat3 = at-product .before .before .before in
+    mass-is _ (at-to-mat3 .to-mat3 .ensures) (at-product .product .ensures)
     (at-product2 .product2 .ensures ∙ ap (matProductOf _) (at-transpose .transpose .ensures)) (c .before .before .is-finite .ensures)
     (c .before .is-finite2 .ensures) (c .all-three .ensures)
 

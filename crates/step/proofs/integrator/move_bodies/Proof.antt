@@ -22,7 +22,7 @@ returns c =
     let at-load-generalized = at-load-start .before .before in let at-test = at-load-generalized .before .before in let at-loop = at-test .before in
     let at-entry = at-loop .before .before in let moved = at-kick-and-drift .kick-and-drift in
     does-eq (fails _ (moved .result .outcome) (c .before .done .ensures) (c .if1 .taken))
-    (move-stops (at-entry .args .dt) (at-entry .args .body-count) _ _ _ (at-loop .loop .inv .2) (at-test .loop-test .taken) (at-entry .pre .1)
+    (move-stops _ _ _ _ _ (at-loop .loop .inv .2) (at-test .loop-test .taken) (at-entry .pre .1)
     (at-load-generalized .load-generalized .ensures) (at-load-start .load-start .ensures) refl
     (end-stops (moved .result .body) (moved .result .outcome) (c .before .done .ensures) (moved .ensures) (c .if1 .taken)))
 
@@ -34,7 +34,7 @@ loop-again c =
     let moved = at-kick-and-drift .kick-and-drift in (
       omega arith,
       omega arith,
-      move-again (at-entry .args .dt) (at-entry .args .body-count) _ _ _ (at-loop .loop .inv .2) (at-test .loop-test .taken) (at-entry .pre .1)
+      move-again _ _ _ _ _ (at-loop .loop .inv .2) (at-test .loop-test .taken) (at-entry .pre .1)
           (at-load-generalized .load-generalized .ensures) (at-load-start .load-start .ensures) refl
           (end-goes (moved .result .body) (moved .result .outcome) (at-done .done .ensures) (moved .ensures) (at-if1 .if1 .left))
           (c .before .before .store-candidate .ensures),
@@ -43,7 +43,7 @@ loop-again c =
 returns-2 : tie.Need-returns-2 Inv-loop μ-loop
 returns-2 c =
     let at-entry = c .before .before .before in
-    move-ends (at-entry .args .dt) (at-entry .args .body-count) _ _ _ (c .before .loop .inv .2) (omega arith) (c .loop-test .left) (at-entry .pre .1)
+    move-ends _ _ _ _ _ (c .before .loop .inv .2) (omega arith) (c .loop-test .left) (at-entry .pre .1)
 
 pub move-bodies-spec : {M : Type 1} → statement M
 move-bodies-spec =

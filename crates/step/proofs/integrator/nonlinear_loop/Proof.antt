@@ -32,7 +32,7 @@ add-linear c =
       at-loop .loop .inv .2,
       at-test .loop-test .taken,
       nonlinear-few (now (at-entry .args .ia)) (now (at-entry .args .ib)) (at-loop .loop .s) (at-entry .args .t) (at-entry .pre .0 .ours .ready .most)
-          (jobFor (at-entry .args .joints) (at-entry .args .task)) _ (at-nonlinear-pass .nonlinear-pass .ensures .is),
+          (jobFor _ _) _ (at-nonlinear-pass .nonlinear-pass .ensures .is),
     )
 
 returns : tie.Need-returns Inv-loop μ-loop
@@ -41,9 +41,9 @@ returns c =
     let at-test = at-nonlinear-pass .before .before in let at-loop = at-test .before in let at-clear = at-loop .before .before .before in
     let at-entry = at-clear .before .before .before in
     left-is (λ x. foundAt (now (at-entry .args .ia)) (now (at-entry .args .ib)) x (at-entry .args .t)) (c .run-ended .ensures)
-    (from-none (jobFor (at-entry .args .joints) (at-entry .args .task)) (at-entry .pre .0) (at-clear .clear .ensures)
+    (from-none (jobFor _ _) (at-entry .pre .0) (at-clear .clear .ensures)
     (loop-over _ _ _ _ _ (λ x. foundAt (now (at-entry .args .ia)) (now (at-entry .args .ib)) x (at-entry .args .t))
-    (same-pass (jobFor (at-entry .args .joints) (at-entry .args .task)) (at-entry .pre .0)) (at-loop .loop .inv .3)
+    (same-pass (jobFor _ _) (at-entry .pre .0)) (at-loop .loop .inv .3)
     (at-nonlinear-pass .nonlinear-pass .result) (at-nonlinear-pass .nonlinear-pass .ensures) (at-test .loop-test .taken)
     (c .before .before .pass .given .1)))
 
@@ -57,11 +57,11 @@ loop-again c =
         arith,
         at-loop .loop .inv .2,
         nonlinear-few (now (at-entry .args .ia)) (now (at-entry .args .ib)) (at-loop .loop .s) (at-entry .args .t)
-            (at-entry .pre .0 .ours .ready .most) (jobFor (at-entry .args .joints) (at-entry .args .task)) _
+            (at-entry .pre .0 .ours .ready .most) (jobFor _ _) _
             (at-nonlinear-pass .nonlinear-pass .ensures .is),
       ),
       looped-again _ _ _ _ _ (λ x. foundAt (now (at-entry .args .ia)) (now (at-entry .args .ib)) x (at-entry .args .t))
-          (same-pass (jobFor (at-entry .args .joints) (at-entry .args .task)) (at-entry .pre .0)) (at-loop .loop .inv .3)
+          (same-pass (jobFor _ _) (at-entry .pre .0)) (at-loop .loop .inv .3)
           (at-nonlinear-pass .nonlinear-pass .result) (at-nonlinear-pass .nonlinear-pass .ensures) (at-test .loop-test .taken) (c .enum-told .given .1),
     )
 
@@ -69,7 +69,7 @@ returns-2 : tie.Need-returns-2 Inv-loop μ-loop
 returns-2 c =
     let at-loop = c .before .before in let at-clear = at-loop .before .before .before in let at-entry = at-clear .before .before .before in
     left-is (λ x. foundAt (now (at-entry .args .ia)) (now (at-entry .args .ib)) x (at-entry .args .t)) (c .run-ended2 .ensures)
-    (from-none (jobFor (at-entry .args .joints) (at-entry .args .task)) (at-entry .pre .0) (at-clear .clear .ensures)
+    (from-none (jobFor _ _) (at-entry .pre .0) (at-clear .clear .ensures)
     (loop-spent _ _ _ _ _ (at-loop .loop .inv .3) (c .before .loop-test .left) (omega arith)))
 
 pub nonlinear-loop-spec : {M : Type 1} → statement M

@@ -14,8 +14,7 @@ returns-2 : tie.Need-returns-2
 returns-2 c =
     let at-column3 = c .before .before .before .before in let at-column2 = at-column3 .before in let at-column = at-column2 .before in
     let at-if1 = at-column .before .before .before in let at-mass-response = at-if1 .before .before in
-    let at-entry = at-mass-response .before .before in
-    weigh-there _ (at-entry .args .k) _ (at-mass-response .mass-response .result) (at-mass-response .mass-response .ensures) (at-if1 .if1 .left)
+    weigh-there _ _ _ (at-mass-response .mass-response .result) (at-mass-response .mass-response .ensures) (at-if1 .if1 .left)
     (at-column .column .ensures) (at-column2 .column2 .ensures) (at-column3 .column3 .ensures) (c .before .before .store-mass .ensures)
 
 pub prepare-mass-spec : {M : Type 1} → statement M

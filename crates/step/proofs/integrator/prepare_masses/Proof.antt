@@ -21,7 +21,7 @@ returns c =
     let at-prepare-mass = c .before .before .before .before in let at-load-moved = at-prepare-mass .before .before in
     let at-test = at-load-moved .before .before in let at-loop = at-test .before in let at-entry = at-loop .before .before in
     does-eq (fails _ (at-prepare-mass .prepare-mass .result) (c .before .done .ensures) (c .if1 .taken))
-    (weigh-stops (at-entry .args .moved) (at-entry .args .body-count) _ _ _ (at-loop .loop .inv .2) (at-test .loop-test .taken) (at-entry .pre .1)
+    (weigh-stops (at-entry .args .moved) _ _ _ _ (at-loop .loop .inv .2) (at-test .loop-test .taken) (at-entry .pre .1)
     (at-load-moved .load-moved .ensures)
     (failed _ (at-prepare-mass .prepare-mass .result) (c .before .done .ensures) (at-prepare-mass .prepare-mass .ensures) (c .if1 .taken)))
 
@@ -31,7 +31,7 @@ loop-again c =
     let at-test = at-load-moved .before .before in let at-loop = at-test .before in let at-entry = at-loop .before .before in (
       omega arith,
       omega arith,
-      weigh-again (at-entry .args .moved) (at-entry .args .body-count) _ _ _ (at-loop .loop .inv .2) (at-test .loop-test .taken) (at-entry .pre .1)
+      weigh-again (at-entry .args .moved) _ _ _ _ (at-loop .loop .inv .2) (at-test .loop-test .taken) (at-entry .pre .1)
           (at-load-moved .load-moved .ensures)
           (went _ (at-prepare-mass .prepare-mass .result) (c .before .done .ensures) (at-prepare-mass .prepare-mass .ensures) (c .if1 .left)),
     )
@@ -39,7 +39,7 @@ loop-again c =
 returns-2 : tie.Need-returns-2 Inv-loop μ-loop
 returns-2 c =
     let at-entry = c .before .before .before in
-    weigh-ends (at-entry .args .moved) (at-entry .args .body-count) _ _ _ (c .before .loop .inv .2) (omega arith) (c .loop-test .left) (at-entry .pre .1)
+    weigh-ends (at-entry .args .moved) _ _ _ _ (c .before .loop .inv .2) (omega arith) (c .loop-test .left) (at-entry .pre .1)
 
 pub prepare-masses-spec : {M : Type 1} → statement M
 prepare-masses-spec =

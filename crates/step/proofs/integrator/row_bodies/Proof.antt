@@ -34,7 +34,7 @@ loop-holds c =
       (λ size q j h. absurd (omega arith)),
       (λ size q j h. absurd (omega arith)),
       before-none (at-entry .args .t3),
-      sides-none (at-entry .args .t3) _ _,
+      sides-none _ _ _,
     )
 
 fill-requires : tie.Need-fill-requires Inv-loop μ-loop
@@ -101,7 +101,7 @@ returns : tie.Need-returns Inv-loop μ-loop
 returns c =
     let at-entry = c .before .before .before .before in (
       record { most = omega arith; a-there = c .before .loop .inv .4; b-there = c .before .loop .inv .5 },
-      sides-end (at-entry .args .t3) (omega arith) (c .loop-test .left) (c .before .loop .inv .7),
+      sides-end _ (omega arith) (c .loop-test .left) (c .before .loop .inv .7),
       turns-end (λ (j n : ℕ). n + rowCount (jointIn (at-entry .args .t3) j .kind)) 0 (omega arith) (c .loop-test .left) (c .before .loop .inv .6),
     )
 

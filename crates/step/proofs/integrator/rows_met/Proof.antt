@@ -24,8 +24,8 @@ abbrev μ-loop : tie.MeasureT-loop
 returns : tie.Need-returns Inv-loop μ-loop
 returns c =
     let at-test = c .before .before .before .before in let at-loop = at-test .before in let at-entry = at-loop .before .before in
-    λ ia ib. met-fails (now (at-entry .args .s)) (at-entry .args .n) ia ib _ (at-test .loop-test .taken)
-    (row-test (now (at-entry .args .s)) (at-entry .args .n) ia ib (at-loop .loop .k) (at-test .loop-test .taken)
+    λ ia ib. met-fails (now (at-entry .args .s)) _ ia ib _ (at-test .loop-test .taken)
+    (row-test (now (at-entry .args .s)) _ ia ib (at-loop .loop .k) (at-test .loop-test .taken)
     (ap (λ (x : Float). Ieee.le x (at (now (at-entry .args .s)) (ROWS + 14 * (at-loop .loop .k) + 13))) (sym (c .before .before .abs .ensures)) ∙
     c .if1 .left))
 
@@ -33,8 +33,8 @@ loop-again : tie.Need-loop-again Inv-loop μ-loop
 loop-again c =
     let at-test = c .before .before .before .before in let at-loop = at-test .before in let at-entry = at-loop .before .before in (
       omega arith,
-      λ ia ib. every-more (rowTest (now (at-entry .args .s)) (at-entry .args .n) ia ib) (at-loop .loop .inv .1 ia ib)
-          (row-test (now (at-entry .args .s)) (at-entry .args .n) ia ib (at-loop .loop .k) (at-test .loop-test .taken)
+      λ ia ib. every-more (rowTest (now (at-entry .args .s)) _ ia ib) (at-loop .loop .inv .1 ia ib)
+          (row-test (now (at-entry .args .s)) _ ia ib (at-loop .loop .k) (at-test .loop-test .taken)
           (ap (λ (x : Float). Ieee.le x (at (now (at-entry .args .s)) (ROWS + 14 * (at-loop .loop .k) + 13))) (sym (c .before .before .abs .ensures)) ∙
           c .if1 .taken)),
     )
@@ -42,7 +42,7 @@ loop-again c =
 returns-2 : tie.Need-returns-2 Inv-loop μ-loop
 returns-2 c =
     let at-entry = c .before .before .before in
-    λ ia ib. met-ends (now (at-entry .args .s)) (at-entry .args .n) ia ib _ (c .before .loop .inv .1 ia ib) (omega arith) (c .loop-test .left)
+    λ ia ib. met-ends (now (at-entry .args .s)) _ ia ib _ (c .before .loop .inv .1 ia ib) (omega arith) (c .loop-test .left)
 
 pub rows-met-spec : {M : Type 1} → statement M
 rows-met-spec =

@@ -19,7 +19,7 @@ returns c =
     let at-start = c .before .before .before .before .before in let at-row-bodies = at-start .before .before .before .before in
     let at-entry = at-row-bodies .before .before .before .before .before in
     left-is (λ x. statesAt x (bodyCount (now (at-entry .args .bodies)))) (c .run-ended .ensures)
-    (not-started (jobOf (now (at-entry .args .bodies)) (at-entry .args .joints) (at-entry .args .count) (at-entry .args .dt))
+    (not-started (jobOf (now (at-entry .args .bodies)) _ _ _)
     (recordsOf (now (at-entry .args .bodies))) (at-row-bodies .row-bodies .ensures .1)
     (record { place = START-ROWS; rows = at-row-bodies .row-bodies .result; bodies = bodyCount (now (at-entry .args .bodies)) })
     (at-start .start .result)
@@ -42,7 +42,7 @@ returns-2 c =
     let at-nonlinear-loop = c .before .before .before .before in let at-if1 = at-nonlinear-loop .before .before .before .before in
     let at-done = at-if1 .before in let at-start = at-done .before .before .before in
     let at-row-bodies = at-start .before .before .before .before in let at-entry = at-row-bodies .before .before .before .before .before in
-    not-met (jobOf (now (at-entry .args .bodies)) (at-entry .args .joints) (at-entry .args .count) (at-entry .args .dt))
+    not-met (jobOf (now (at-entry .args .bodies)) _ _ _)
     (recordsOf (now (at-entry .args .bodies))) (at-row-bodies .row-bodies .ensures .1)
     (record { place = START-ROWS; rows = at-row-bodies .row-bodies .result; bodies = bodyCount (now (at-entry .args .bodies)) })
     (at-start .start .result)
@@ -71,7 +71,7 @@ add-run-ended c =
       loop-few (at-row-bodies .row-bodies .ensures .1)
           (record { place = START-ROWS; rows = at-row-bodies .row-bodies .result; bodies = bodyCount (now (at-entry .args .bodies)) })
           (omega (arith, at-row-bodies .row-bodies .ensures .0 .most, at-entry .pre .1 .few))
-          (jobOf (now (at-entry .args .bodies)) (at-entry .args .joints) (at-entry .args .count) (at-entry .args .dt))
+          (jobOf (now (at-entry .args .bodies)) _ _ _)
           (at-nonlinear-loop .nonlinear-loop .ensures),
       finish-few (at-row-bodies .row-bodies .ensures .1)
           (record { place = START-ROWS; rows = at-row-bodies .row-bodies .result; bodies = bodyCount (now (at-entry .args .bodies)) })
@@ -96,7 +96,7 @@ returns-3 c =
     let at-start = at-done .before .before .before in let at-row-bodies = at-start .before .before .before .before in
     let at-entry = at-row-bodies .before .before .before .before .before in
     left-is (λ x. statesAt x (bodyCount (now (at-entry .args .bodies)))) (c .run-ended2 .ensures)
-    (all-run (jobOf (now (at-entry .args .bodies)) (at-entry .args .joints) (at-entry .args .count) (at-entry .args .dt))
+    (all-run (jobOf (now (at-entry .args .bodies)) _ _ _)
     (recordsOf (now (at-entry .args .bodies))) (at-row-bodies .row-bodies .ensures .1)
     (record { place = START-ROWS; rows = at-row-bodies .row-bodies .result; bodies = bodyCount (now (at-entry .args .bodies)) })
     (at-start .start .result)

@@ -14,7 +14,7 @@ use Rattle.step.proofs.integrator.start.Tie as tie
 returns : tie.Need-returns
 returns c =
     let at-start-bodies = c .before .before .before .before in let at-entry = at-start-bodies .before .before .before .before in
-    λ ia ib S. no-body (jobFor (at-entry .args .joints) (at-entry .args .task)) (now (at-entry .args .bodies)) (at-entry .pre .1 .small) _ _
+    λ ia ib S. no-body (jobFor _ _) (now (at-entry .args .bodies)) (at-entry .pre .1 .small) _ _
     (at-start-bodies .start-bodies .result) (c .before .done .ensures) (c .if1 .taken) (at-start-bodies .start-bodies .ensures) _
 
 write-rows-requires : tie.Need-write-rows-requires
@@ -26,7 +26,7 @@ returns-2 : tie.Need-returns-2
 returns-2 c =
     let at-write-rows = c .before .before .before .before in let at-if1 = at-write-rows .before .before in let at-done = at-if1 .before in
     let at-start-bodies = at-done .before .before .before in let at-entry = at-start-bodies .before .before .before .before in
-    λ ia ib S. no-rows (jobFor (at-entry .args .joints) (at-entry .args .task)) (now (at-entry .args .bodies)) (at-entry .pre .1 .small) _ _
+    λ ia ib S. no-rows (jobFor _ _) (now (at-entry .args .bodies)) (at-entry .pre .1 .small) _ _
     (went _ (at-start-bodies .start-bodies .result) (at-done .done .ensures) (at-start-bodies .start-bodies .ensures) (at-if1 .if1 .left)) _
     (at-write-rows .write-rows .result) (c .before .done2 .ensures) (c .if2 .taken) _
     (at-write-rows .write-rows .ensures (bodyCount (now (at-entry .args .bodies))) (at-entry .pre .1) ia ib S) _

@@ -23,7 +23,7 @@ returns c =
     let at-test = at-load-record .before in let at-loop = at-test .before in let at-entry = at-loop .before .before .before in
     let end = at-new .new .result .outcome in
     does-eq (fails _ end (c .before .done .ensures) (c .if1 .taken))
-    (begin-stops (now (at-entry .args .bodies)) (at-entry .args .body-count) _ _ _ (at-loop .loop .inv .2) (at-test .loop-test .taken) (at-entry .pre .2) _
+    (begin-stops (now (at-entry .args .bodies)) _ _ _ _ (at-loop .loop .inv .2) (at-test .loop-test .taken) (at-entry .pre .2) _
     (at-load-record .load-record .ensures) (at-inverse-spd .inverse-spd .ensures) refl
     (end-stops _ end (c .before .done .ensures) (answered (at-new .new .ensures)) (c .if1 .taken)))
 
@@ -34,7 +34,7 @@ loop-again c =
     let at-loop = at-test .before in let at-entry = at-loop .before .before .before in (
       omega arith,
       omega arith,
-      begin-again (now (at-entry .args .bodies)) (at-entry .args .body-count) _ _ _ (at-loop .loop .inv .2) (at-test .loop-test .taken) (at-entry .pre .2) _
+      begin-again (now (at-entry .args .bodies)) _ _ _ _ (at-loop .loop .inv .2) (at-test .loop-test .taken) (at-entry .pre .2) _
           (at-load-record .load-record .ensures) (at-inverse-spd .inverse-spd .ensures) refl
           (end-goes _ (at-new .new .result .outcome) (at-done .done .ensures) (answered (at-new .new .ensures)) (at-if1 .if1 .left))
           (c .before .before .store-start .ensures),
@@ -43,7 +43,7 @@ loop-again c =
 returns-2 : tie.Need-returns-2 Inv-loop μ-loop
 returns-2 c =
     let at-entry = c .before .before .before .before in
-    begin-ends (now (at-entry .args .bodies)) (at-entry .args .body-count) _ _ _ (c .before .loop .inv .2) (omega arith) (c .loop-test .left)
+    begin-ends (now (at-entry .args .bodies)) _ _ _ _ (c .before .loop .inv .2) (omega arith) (c .loop-test .left)
     (at-entry .pre .2)
 
 pub start-bodies-spec : {M : Type 1} → statement M

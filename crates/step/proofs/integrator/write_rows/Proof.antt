@@ -58,7 +58,7 @@ returns c =
     let at-write-equality-rows = c .before .before .before .before in let at-load-moved2 = at-write-equality-rows .before .before in
     let at-load-moved = at-load-moved2 .before .before in let at-test = at-load-moved .before .before .before in let at-loop = at-test .before in
     let at-entry = at-loop .before .before in
-    λ size J ia ib S. wrote-nonconvergent (at-entry .args .t2) (at-entry .args .count) (at-entry .args .moved) (at-entry .args .place) _ size J ia ib
+    λ size J ia ib S. wrote-nonconvergent _ _ (at-entry .args .moved) _ _ size J ia ib
     S (at-loop .loop .k) _ _ (at-loop .loop .inv .4 size J ia ib S) (at-test .loop-test .taken) (omega arith) (at-entry .pre .1)
     (at-loop .loop .inv .3) (at-load-moved .load-moved .ensures) (at-load-moved2 .load-moved2 .ensures) _
     (at-write-equality-rows .write-equality-rows .ensures) (c .enum-told .given .1)
@@ -68,16 +68,13 @@ returns-2 c =
     let at-write-equality-rows = c .before .before .before .before in let at-load-moved2 = at-write-equality-rows .before .before in
     let at-load-moved = at-load-moved2 .before .before in let at-test = at-load-moved .before .before .before in let at-loop = at-test .before in
     let at-entry = at-loop .before .before in
-    λ size J ia ib S. wrote-overflow (at-entry .args .t2) (at-entry .args .count) (at-entry .args .moved) (at-entry .args .place) _ size J ia ib S
+    λ size J ia ib S. wrote-overflow _ _ (at-entry .args .moved) _ _ size J ia ib S
     (at-loop .loop .k) _ _ (at-loop .loop .inv .4 size J ia ib S) (at-test .loop-test .taken) (omega arith) (at-entry .pre .1)
     (at-loop .loop .inv .3) (at-load-moved .load-moved .ensures) (at-load-moved2 .load-moved2 .ensures) _
     (at-write-equality-rows .write-equality-rows .ensures) (c .enum-told2 .given .1)
 
 add-k : tie.Need-add-k Inv-loop μ-loop
 add-k c =
-    let at-write-equality-rows-arg = c .before .before .before .before .before .before in
-    let at-test = at-write-equality-rows-arg .before .before .before .before .before .before in let at-loop = at-test .before in
-    let at-entry = at-loop .before .before in
     omega arith
 
 loop-again : tie.Need-loop-again Inv-loop μ-loop
@@ -96,7 +93,7 @@ loop-again c =
       omega arith,
       wrote-rows (at-entry .args .t2) (at-loop .loop .k) _ (at-loop .loop .inv .3) (at-write-equality-rows .write-equality-rows .ensures) _
           (c .before .m .given .1),
-      λ size J ia ib S. wrote-again (at-entry .args .t2) (at-entry .args .count) (at-entry .args .moved) (at-entry .args .place) _ size J ia ib S
+      λ size J ia ib S. wrote-again _ _ (at-entry .args .moved) _ _ size J ia ib S
           (at-loop .loop .k) _ _ (at-loop .loop .inv .4 size J ia ib S) (at-test .loop-test .taken) (omega arith) (at-entry .pre .1)
           (at-loop .loop .inv .3) (at-load-moved .load-moved .ensures) (at-load-moved2 .load-moved2 .ensures) _
           (at-write-equality-rows .write-equality-rows .ensures) (c .before .m .given .1),
@@ -105,7 +102,7 @@ loop-again c =
 returns-3 : tie.Need-returns-3 Inv-loop μ-loop
 returns-3 c =
     let at-entry = c .before .before .before in
-    λ size J ia ib S. wrote-ends (at-entry .args .t2) (at-entry .args .count) (at-entry .args .moved) (at-entry .args .place) _ size J ia ib S
+    λ size J ia ib S. wrote-ends _ _ (at-entry .args .moved) _ _ size J ia ib S
     (c .before .loop .k) _ _ (c .before .loop .inv .4 size J ia ib S) (c .before .loop .inv .3) (omega arith) (c .loop-test .left)
 
 pub write-rows-spec : {M : Type 1} → statement M

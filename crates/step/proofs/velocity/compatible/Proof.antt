@@ -26,7 +26,7 @@ loop-again : tie.Need-loop-again Inv-loop μ-loop
 loop-again c =
     let at-test = c .before .before .before in let at-loop = at-test .before in let at-entry = at-loop .before .before in (
       omega arith,
-      every-more (small (now (at-entry .args .s)) (at-entry .args .n)) (at-loop .loop .inv .1)
+      every-more (small (now (at-entry .args .s)) _) (at-loop .loop .inv .1)
           (small-is (now (at-entry .args .s)) _ (at-test .loop-test .taken) (c .before .abs .ensures) tenth-12 (c .if1 .taken)),
     )
 

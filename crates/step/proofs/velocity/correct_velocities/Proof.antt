@@ -10,7 +10,7 @@ use Rattle.step.proofs.velocity.correct_velocities.Tie as tie
 returns : tie.Need-returns
 returns c =
     let at-linear-solve = c .before .before .before .before .before in let at-entry = at-linear-solve .before .before .before in
-    rest-unsolved (jobFor [] (at-entry .args .task)) (at-entry .args .t) (at-entry .pre .ready) (at-linear-solve .linear-solve .result)
+    rest-unsolved (jobFor [] (at-entry .args .task)) _ (at-entry .pre .ready) (at-linear-solve .linear-solve .result)
     (at-linear-solve .linear-solve .ensures .0) (c .before .before .done .ensures) (c .before .if1 .taken) (c .pass-after .ensures)
 
 apply-requires : tie.Need-apply-requires
@@ -20,7 +20,7 @@ returns-2 : tie.Need-returns-2
 returns-2 c =
     let at-apply = c .before .before .before in let at-if1 = at-apply .before .before in let at-done = at-if1 .before in
     let at-linear-solve = at-done .before .before .before in let at-entry = at-linear-solve .before .before .before in
-    rest-kicked (jobFor [] (at-entry .args .task)) (at-entry .args .t) (at-entry .pre .ready) (at-linear-solve .linear-solve .result)
+    rest-kicked (jobFor [] (at-entry .args .task)) _ (at-entry .pre .ready) (at-linear-solve .linear-solve .result)
     (at-linear-solve .linear-solve .ensures .0) (at-done .done .ensures) (at-if1 .if1 .left) (at-apply .apply .result) (at-apply .apply .ensures)
     (c .pass-after2 .ensures)
 

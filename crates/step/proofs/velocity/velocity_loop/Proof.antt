@@ -34,7 +34,7 @@ add-linear c =
       at-loop .loop .inv .2,
       at-test .loop-test .taken,
       velocity-few (now (at-entry .args .ia)) (now (at-entry .args .ib)) (at-loop .loop .s) (at-entry .args .t) (at-entry .pre .ready .most)
-          (jobFor [] (at-entry .args .task)) _ (at-velocity-pass .velocity-pass .ensures .is),
+          (jobFor [] _) _ (at-velocity-pass .velocity-pass .ensures .is),
     )
 
 returns : tie.Need-returns Inv-loop μ-loop
@@ -42,9 +42,9 @@ returns c =
     let at-s = c .before .before .before .before .before .before in let at-velocity-pass = at-s .before in
     let at-test = at-velocity-pass .before .before in let at-loop = at-test .before in let at-entry = at-loop .before .before in
     ended-is (λ x. candidatesAt x (at-entry .args .t .bodies)) (c .new .ensures)
-    (rests (jobFor [] (at-entry .args .task)) (now (at-entry .args .ia)) (now (at-entry .args .ib)) (at-entry .args .t)
+    (rests (jobFor [] _) (now (at-entry .args .ia)) (now (at-entry .args .ib)) (at-entry .args .t)
     (loop-over _ _ _ _ _ (λ x. candidatesAt x (at-entry .args .t .bodies))
-    (same-pass (jobFor [] (at-entry .args .task)) (at-entry .args .t) (at-entry .pre .ready)) (at-loop .loop .inv .3)
+    (same-pass (jobFor [] _) _ (at-entry .pre .ready)) (at-loop .loop .inv .3)
     (at-velocity-pass .velocity-pass .result) (at-velocity-pass .velocity-pass .ensures) (at-test .loop-test .taken)
     (c .before .before .pass .given .1)))
 
@@ -58,10 +58,10 @@ loop-again c =
         arith,
         at-loop .loop .inv .2,
         velocity-few (now (at-entry .args .ia)) (now (at-entry .args .ib)) (at-loop .loop .s) (at-entry .args .t) (at-entry .pre .ready .most)
-            (jobFor [] (at-entry .args .task)) _ (at-velocity-pass .velocity-pass .ensures .is),
+            (jobFor [] _) _ (at-velocity-pass .velocity-pass .ensures .is),
       ),
       looped-again _ _ _ _ _ (λ x. candidatesAt x (at-entry .args .t .bodies))
-          (same-pass (jobFor [] (at-entry .args .task)) (at-entry .args .t) (at-entry .pre .ready)) (at-loop .loop .inv .3)
+          (same-pass (jobFor [] _) _ (at-entry .pre .ready)) (at-loop .loop .inv .3)
           (at-velocity-pass .velocity-pass .result) (at-velocity-pass .velocity-pass .ensures) (at-test .loop-test .taken) (c .enum-told .given .1),
     )
 
@@ -69,7 +69,7 @@ returns-2 : tie.Need-returns-2 Inv-loop μ-loop
 returns-2 c =
     let at-entry = c .before .before .before .before in
     ended-is (λ x. candidatesAt x (at-entry .args .t .bodies)) (c .new2 .ensures)
-    (rests (jobFor [] (at-entry .args .task)) (now (at-entry .args .ia)) (now (at-entry .args .ib)) (at-entry .args .t)
+    (rests (jobFor [] _) (now (at-entry .args .ia)) (now (at-entry .args .ib)) (at-entry .args .t)
     (loop-spent _ _ _ _ _ (c .before .before .loop .inv .3) (c .before .loop-test .left) refl))
 
 pub velocity-loop-spec : {M : Type 1} → statement M

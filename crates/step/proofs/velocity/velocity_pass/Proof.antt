@@ -13,7 +13,7 @@ returns : tie.Need-returns
 returns c =
     let at-velocity-rhs = c .before .before .before .before .before in let at-entry = at-velocity-rhs .before .before .before in
     passed-is 0 (λ x. candidatesAt x (at-entry .args .t .bodies)) (λ x. candidatesAt x (at-entry .args .t .bodies)) (c .pass-ended .ensures)
-    (rates-fail (jobFor [] (at-entry .args .task)) (at-entry .args .t) (at-entry .pre .ready) (at-velocity-rhs .velocity-rhs .result)
+    (rates-fail (jobFor [] _) _ (at-entry .pre .ready) (at-velocity-rhs .velocity-rhs .result)
     (at-velocity-rhs .velocity-rhs .ensures) (c .before .before .done .ensures) (c .before .if1 .taken))
 
 returns-2 : tie.Need-returns-2
@@ -21,7 +21,7 @@ returns-2 c =
     let at-if1 = c .before .before .before .before in let at-done = at-if1 .before in let at-velocity-rhs = at-done .before .before .before in
     let at-entry = at-velocity-rhs .before .before .before in
     passed-is 0 (λ x. candidatesAt x (at-entry .args .t .bodies)) (λ x. candidatesAt x (at-entry .args .t .bodies)) (c .pass-ended2 .ensures)
-    (at-rest (jobFor [] (at-entry .args .task)) (at-entry .args .t) (at-entry .pre .ready) (at-velocity-rhs .velocity-rhs .result)
+    (at-rest (jobFor [] _) _ (at-entry .pre .ready) (at-velocity-rhs .velocity-rhs .result)
     (at-velocity-rhs .velocity-rhs .ensures) (at-done .done .ensures) (at-if1 .if1 .left) (c .before .before .compatible .ensures)
     (c .before .if2 .taken))
 
@@ -33,7 +33,7 @@ returns-3 c =
     let at-if2 = c .before .before .before .before in let at-compatible = at-if2 .before in let at-if1 = at-compatible .before .before in
     let at-done = at-if1 .before in let at-velocity-rhs = at-done .before .before .before in
     let at-entry = at-velocity-rhs .before .before .before in
-    kicked-on (jobFor [] (at-entry .args .task)) (at-entry .args .t) (at-entry .pre .ready) (at-velocity-rhs .velocity-rhs .result)
+    kicked-on (jobFor [] _) _ (at-entry .pre .ready) (at-velocity-rhs .velocity-rhs .result)
     (at-velocity-rhs .velocity-rhs .ensures) (at-done .done .ensures) (at-if1 .if1 .left) (at-compatible .compatible .ensures) (at-if2 .if2 .left)
     (c .before .before .correct-velocities .ensures)
 
