@@ -19,14 +19,17 @@ abbrev μ-loop : tie.MeasureT-loop
 
 mul-store-state : tie.Need-mul-store-state Inv-loop μ-loop
 mul-store-state c =
+    let at-load-candidate = c .before .before .before .before .before .before in
     omega arith
 
 add-store-state : tie.Need-add-store-state Inv-loop μ-loop
 add-store-state c =
+    let at-load-candidate = c .before .before .before .before .before .before in
     omega arith
 
 store-state-requires : tie.Need-store-state-requires Inv-loop μ-loop
 store-state-requires c κs =
+    let at-load-candidate = c .before .before .before .before .before .before in
     omega arith
 
 returns : tie.Need-returns Inv-loop μ-loop
@@ -39,6 +42,7 @@ returns c =
 
 add-k : tie.Need-add-k Inv-loop μ-loop
 add-k c =
+    let at-match = c .before .before .before .before .before .before in
     omega arith
 
 loop-again : tie.Need-loop-again Inv-loop μ-loop

@@ -75,6 +75,9 @@ returns-2 c =
 
 add-k : tie.Need-add-k Inv-loop μ-loop
 add-k c =
+    let at-write-equality-rows-arg = c .before .before .before .before .before .before in
+    let at-test = at-write-equality-rows-arg .before .before .before .before .before .before in let at-loop = at-test .before in
+    let at-entry = at-loop .before .before in
     omega arith
 
 loop-again : tie.Need-loop-again Inv-loop μ-loop

@@ -64,18 +64,26 @@ returns c =
 
 add-s : tie.Need-add-s Inv-loop μ-loop
 add-s c =
+    let at-motion-again = c .before .before .before .before .before .before in let at-test = at-motion-again .before .before .before .before in
+    let at-loop = at-test .before in let at-entry = at-loop .before .before .before .before in
     omega arith
 
 mul-s : tie.Need-mul-s Inv-loop μ-loop
 mul-s c =
+    let at-motion-again = c .before .before .before .before .before .before in let at-test = at-motion-again .before .before .before .before in
+    let at-loop = at-test .before in let at-entry = at-loop .before .before .before .before in
     omega arith
 
 slice-write-s : tie.Need-slice-write-s Inv-loop μ-loop
 slice-write-s c =
+    let at-motion-again = c .before .before .before .before .before .before in let at-test = at-motion-again .before .before .before .before in
+    let at-loop = at-test .before in let at-entry = at-loop .before .before .before .before in
     omega arith
 
 add-k : tie.Need-add-k Inv-loop μ-loop
 add-k c =
+    let at-motion-again = c .before .before .before .before .before .before in let at-test = at-motion-again .before .before .before .before in
+    let at-entry = at-test .before .before .before .before .before in
     omega arith
 
 loop-again : tie.Need-loop-again Inv-loop μ-loop
