@@ -43,11 +43,11 @@ abbrev pub generalizedAt : List Float → ℕ → ℕ → Generalized
 generalizedAt s off i = record { linear = vec3At s (off + 6 * i); angular = vec3At s (off + 6 * i + 3) }
 
 abbrev pub generalizedsAt : List Float → ℕ → ℕ → List Generalized
-generalizedsAt s off m = tab m (generalizedAt s off)
+generalizedsAt s off body-count = tab body-count (generalizedAt s off)
 
 -- the bodies' shares, where `transpose` leaves them
 abbrev pub sharesIn : List Float → ℕ → List Generalized
-sharesIn s bodies = generalizedsAt s GENERALIZED bodies
+sharesIn s body-count = generalizedsAt s GENERALIZED body-count
 
 abbrev pub massOf : Float → Vec3 → Vec3 → Vec3 → MassResponse
 massOf linear x y z = record { linear = linear; angular = fromCols x y z }
@@ -56,7 +56,7 @@ abbrev pub massAt : List Float → ℕ → ℕ → MassResponse
 massAt s off i = massOf (at s (off + 10 * i)) (vec3At s (off + 10 * i + 1)) (vec3At s (off + 10 * i + 4)) (vec3At s (off + 10 * i + 7))
 
 abbrev pub massesAt : List Float → ℕ → ℕ → List MassResponse
-massesAt s off m = tab m (massAt s off)
+massesAt s off body-count = tab body-count (massAt s off)
 
 -- the system that stands in a table of rows
 abbrev pub systemOn : List ℕ → List ℕ → List Float → Table → System
@@ -136,14 +136,14 @@ pub record Tables (i : ℕ) : Type 0 where
   pub scale : Beside PATH-SCALE i
   pub side : Beside PATH-RHS i
 
--- n rows in one of the two tables, on bodies below count
-pub record Rows (s : List Float) (ia ib : List ℕ) (rows n count : ℕ) : Type 0 where
+-- n rows in one of the two tables, on bodies below body-count
+pub record Rows (s : List Float) (ia ib : List ℕ) (place n body-count : ℕ) : Type 0 where
   pub whole : END ≤ length s
-  pub table : rows ≤ ROWS
+  pub table : place ≤ ROWS
   pub most : n ≤ ROWS-MOST
-  pub bodies : count ≤ BODIES-MOST
-  pub a-there : (k : ℕ) → k < n → getD ia k 0 < count
-  pub b-there : (k : ℕ) → k < n → getD ib k 0 < count
+  pub bodies : body-count ≤ BODIES-MOST
+  pub a-there : (k : ℕ) → k < n → getD ia k 0 < body-count
+  pub b-there : (k : ℕ) → k < n → getD ib k 0 < body-count
 
 -- what every solve requires
 abbrev pub Ready : Slice Float → Slice ℕ → Slice ℕ → Table → Type 0
