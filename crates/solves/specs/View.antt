@@ -4,7 +4,7 @@ use mathlib.Core.Path.{_≡_}
 use mathlib.Core.Bool.{false}
 use mathlib.Core.List.{List, []}
 use lib.ListN.{length, getD, replicate}
-use lib.Ieee.{Float, nan}
+use lib.Ieee.{Float}
 use Rattle.arith.specs.Flow.{tab}
 use Rattle.vectors.specs.declared.vector.Vec3.{Vec3}
 use Rattle.vectors.specs.Matrix.{fromCols}
@@ -19,18 +19,18 @@ pub use Rattle.solves.specs.Layout.{PRODUCT, DIAGONAL, NORMAL, GENERALIZ
 use Rattle.solves.specs.Lent.{Slice, Lent, came}
 use Rattle.solves.specs.Region.{vecAt}
 use Rattle.solves.specs.System.{System}
-use Rattle.solves.specs.Solver.{noVec, Search, Prepared}
+use Rattle.solves.specs.Solver.{rowIn, generalizedIn, massIn, Search, Prepared}
 use Rattle.solves.specs.Path.{Factor, Refined}
 
 -- what `rowIn`, `generalizedIn` and `massIn` have past the end of a list
 abbrev pub noRow : EqualityRow
-noRow = record { a = 0; b = 0; «linear_a» = noVec; «angular_a» = noVec; «linear_b» = noVec; «angular_b» = noVec; value = nan; tolerance = nan }
+noRow = rowIn [] 0
 
 abbrev pub noGeneralized : Generalized
-noGeneralized = record { linear = noVec; angular = noVec }
+noGeneralized = generalizedIn [] 0
 
 abbrev pub noMass : MassResponse
-noMass = record { linear = nan; angular = record { columns = [] } }
+noMass = massIn [] 0
 
 -- a row is 14 doubles at off + 14 k, and its bodies are in two lists beside the scratch
 abbrev pub rowOn : List ℕ → List ℕ → List Float → ℕ → ℕ → EqualityRow
