@@ -158,8 +158,8 @@ trueResidual system rhs tolerance solution residual = do
   cond near
       (do
         product ← operator system solution
-        near ← within (difference rhs product) tolerance
-        go (record { residual = difference rhs product; solved = near }))
+        solved ← within (difference rhs product) tolerance
+        go (record { residual = difference rhs product; solved = solved }))
       (go (record { residual = residual; solved = false }))
 
 unfoldable pub scaledSquare : List Float → List Float → Float  -- the sum of r * r / d
