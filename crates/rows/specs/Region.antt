@@ -21,7 +21,7 @@ use Rattle.rows.specs.declared.geometry.Motions.the-variants.{Rod, Frame
 use Rattle.rows.specs.Motions.{motionsOf}
 use Rattle.rows.specs.Geometry.{swingLocked, twistLocked}
 use Rattle.rows.specs.Count.{oneIf, linearCount, turningCount, motionCount, rowCount}
-use Rattle.rows.specs.View.{at, vec3At, rowAt, rowsAt, Out, Kept}
+use Rattle.rows.specs.View.{at, vec3At, rowAt, Out, Kept}
 use Rattle.rows.specs.Append.{Filled}
 
 module _ {A : Type 0} where
@@ -103,9 +103,6 @@ module _ {P : ℕ → Type 0} {s t : List Float} (kept : Kept P s t) where
     value = kept .same (i + 12) (w (i + 12) (omega arith) (omega arith)) j;
     tolerance = kept .same (i + 13) (w (i + 13) (omega arith) (omega arith)) j;
   }
-
-  pub kept-rows : (i a b n : ℕ) → Over P i (14 * n) → rowsAt t i a b n ≡ rowsAt s i a b n
-  kept-rows i a b n w = tab-ext n λ k h. kept-row (i + 14 * k) a b (λ m p q. w m (omega arith) (omega arith))
 
 -- Three doubles, one after the other.
 pub stored3 : (s : List Float) (i : ℕ) (v : Vec3) → i + 3 ≤ length s

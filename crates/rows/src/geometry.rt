@@ -34,8 +34,10 @@ ghost use Rattle.rows.specs.Answer.{Writes};
 ghost use Rattle.rows.specs.Unit.{UnitOf};
 ghost use Rattle.rows.specs.Append.{endsAs, axisAs, relativeAs, rowAs, Stored2, countOf, Room, Appends, Adds, Follows, Filled};
 
-// The doubles of a row.
+// The doubles of a row, and where its value and its tolerance stand among them.
 pub const ROW: usize = 14;
+pub const VALUE: usize = 12;
+pub const TOLERANCE: usize = 13;
 
 // The doubles of six rows: no joint has more.
 const SPACE: usize = 84;
@@ -211,7 +213,7 @@ impl EqualityRow {
         store3(s, at + 3, self.angular_a);
         store3(s, at + 6, self.linear_b);
         store3(s, at + 9, self.angular_b);
-        store2(s, at + 12, self.value, self.tolerance);
+        store2(s, at + VALUE, self.value, self.tolerance);
     }
 
     // A row of the scratch, which lies there by its caller's proof.
@@ -226,8 +228,8 @@ impl EqualityRow {
             angular_a: load3(s, at + 3),
             linear_b: load3(s, at + 6),
             angular_b: load3(s, at + 9),
-            value: s[at + 12],
-            tolerance: s[at + 13],
+            value: s[at + VALUE],
+            tolerance: s[at + TOLERANCE],
         }
     }
 
@@ -692,7 +694,7 @@ fn values_finite(s: &[f64], at: usize, count: usize) -> bool
     ensures { λ r. ⌜ ((a b : ℕ) → r ≡ finiteValues (rowsAt (now (s .entry)) at a b count)) ⌝ }
 {
     for k in 0..count {
-        if !is_finite(s[at + ROW * k + 12]) {
+        if !is_finite(s[at + ROW * k + VALUE]) {
             return false;
         }
     }

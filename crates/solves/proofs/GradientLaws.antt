@@ -75,12 +75,12 @@ other b h = ap (λ (x : Bool). x || b) h
 one-out : (o k i : ℕ) → k < VECTOR → Beside o i → Out (o + k) 1 i
 one-out o k i h x = omega arith
 
-module _ {z : List Float} {ia ib : List ℕ} {rows n count : ℕ} (pre : Rows z ia ib rows n count) (s₀ : List Float) where
+module _ {z : List Float} {ia ib : List ℕ} {rows n body-count : ℕ} (pre : Rows z ia ib rows n body-count) (s₀ : List Float) where
   abbrev R : List EqualityRow
   R = rowsOn ia ib s₀ rows n
 
   abbrev M : List MassResponse
-  M = massesAt s₀ MASSES count
+  M = massesAt s₀ MASSES body-count
 
   abbrev S : System
   S = record { rows = R; masses = M }
@@ -106,8 +106,8 @@ module _ {z : List Float} {ia ib : List ℕ} {rows n count : ℕ} (pre : Rows z 
     d-is : d ≡ diagonalOf (rowIn R k) (massIn M (rowIn R k .a)) (massIn M (rowIn R k .b))
     d-is =
         let x : row ≡ rowIn R k = row-in (inv .kept) ia ib rows n k (λ i x y. omega arith) h er in
-        let y : ma ≡ massIn M (row .a) = mass-in (inv .kept) MASSES count (row .a) (λ i x y. omega arith) (on-a pre h s er) ea in
-        let w : mb ≡ massIn M (row .b) = mass-in (inv .kept) MASSES count (row .b) (λ i x y. omega arith) (on-b pre h s er) eb in
+        let y : ma ≡ massIn M (row .a) = mass-in (inv .kept) MASSES body-count (row .a) (λ i x y. omega arith) (on-a pre h s er) ea in
+        let w : mb ≡ massIn M (row .b) = mass-in (inv .kept) MASSES body-count (row .b) (λ i x y. omega arith) (on-b pre h s er) eb in
         cc
 
     r-is : at s (RESIDUAL + k) ≡ at E k

@@ -55,45 +55,45 @@ module _ (s : List Float) (a b n : ℕ) {total : Float} {t : Bool} (e : total �
   dot-over h = number-no long f h
 
 -- push_into
-module _ (s : List Float) (index : ℕ) (linear angular : Vec3) (value : Float) (count : ℕ) (h : index < count) (most : count ≤ BODIES-MOST)
+module _ (s : List Float) (index : ℕ) (linear angular : Vec3) (value : Float) (body-count : ℕ) (h : index < body-count) (most : body-count ≤ BODIES-MOST)
     {body : Generalized} (eb : body ≡ generalizedAt s GENERALIZED index) where
-  in-list : body ≡ generalizedIn (sharesIn s count) index
-  in-list = eb ∙ sym (tab-at count (generalizedAt s GENERALIZED) noGeneralized index h)
+  in-list : body ≡ generalizedIn (sharesIn s body-count) index
+  in-list = eb ∙ sym (tab-at body-count (generalizedAt s GENERALIZED) noGeneralized index h)
 
   pub into-done : {g : Generalized} {t : List Float} → g ≡ added body linear angular value
       → (Kept (λ j. Out (GENERALIZED + 6 * index) 6 j) s t) × (generalizedAt t GENERALIZED index ≡ g)
-      → Does Shares s t (checked (sharesIn t count)) (checked (sharesIn s count) >>= pushInto index linear angular value)
+      → Does Shares s t (checked (sharesIn t body-count)) (checked (sharesIn s body-count) >>= pushInto index linear angular value)
   into-done eg st = record {
     kept = kept-more (st .0) (λ i q. omega arith);
     is = ap checked
-        (sym (shares-set GENERALIZED count index h st)
-        ∙ ap (set (sharesIn s count) index) (eg ∙ ap (λ (b : Generalized). added b linear angular value) in-list))
-        ∙ push-is (sharesIn s count) index linear angular value
-        (subst (λ (m : ℕ). index < m) (sym (tab-length count (generalizedAt s GENERALIZED))) h);
+        (sym (shares-set GENERALIZED body-count index h st)
+        ∙ ap (set (sharesIn s body-count) index) (eg ∙ ap (λ (b : Generalized). added b linear angular value) in-list))
+        ∙ push-is (sharesIn s body-count) index linear angular value
+        (subst (λ (m : ℕ). index < m) (sym (tab-length body-count (generalizedAt s GENERALIZED))) h);
   }
 
 -- push_row
-module _ (count : ℕ) (row : EqualityRow) (value : Float) (s : List Float) where
+module _ (body-count : ℕ) (row : EqualityRow) (value : Float) (s : List Float) where
   pub row-then : {t u : List Float}
-      → Does Shares s t (checked (sharesIn t count)) (checked (sharesIn s count) >>= pushInto (row .a) (row .«linear_a») (row .«angular_a») value)
-      → Does Shares t u (checked (sharesIn u count)) (checked (sharesIn t count) >>= pushInto (row .b) (row .«linear_b») (row .«angular_b») value)
-      → Does Shares s u (checked (sharesIn u count)) (checked (sharesIn s count) >>= pushRow row value)
+      → Does Shares s t (checked (sharesIn t body-count)) (checked (sharesIn s body-count) >>= pushInto (row .a) (row .«linear_a») (row .«angular_a») value)
+      → Does Shares t u (checked (sharesIn u body-count)) (checked (sharesIn t body-count) >>= pushInto (row .b) (row .«linear_b») (row .«angular_b») value)
+      → Does Shares s u (checked (sharesIn u body-count)) (checked (sharesIn s body-count) >>= pushRow row value)
   unfolding pushRow
   row-then d e = record {
     kept = kept-then (d .kept) (e .kept) (λ i q. q);
     is = e .is
         ∙ ap (λ (r : Result (List Generalized)). r >>= pushInto (row .b) (row .«linear_b») (row .«angular_b») value) (d .is)
-        ∙ then-then (checked (sharesIn s count)) _ _;
+        ∙ then-then (checked (sharesIn s body-count)) _ _;
   }
 
 -- shares_finite
-module _ (s : List Float) (count : ℕ) where
+module _ (s : List Float) (body-count : ℕ) where
   abbrev pub shareTest : ℕ → Bool
-  shareTest k = finiteShare (generalizedIn (sharesIn s count) k)
+  shareTest k = finiteShare (generalizedIn (sharesIn s body-count) k)
 
-  module _ {k : ℕ} {g : Generalized} (h : k < count) (eg : g ≡ generalizedAt s GENERALIZED k) where
+  module _ {k : ℕ} {g : Generalized} (h : k < body-count) (eg : g ≡ generalizedAt s GENERALIZED k) where
     share-is : finiteShare g ≡ shareTest k
-    share-is = ap finiteShare (eg ∙ sym (tab-at count (generalizedAt s GENERALIZED) noGeneralized k h))
+    share-is = ap finiteShare (eg ∙ sym (tab-at body-count (generalizedAt s GENERALIZED) noGeneralized k h))
 
     pub linear-wild : {b : Bool} → b ≡ finiteOf (g .linear) → not b ≡ true → shareTest k ≡ false
     linear-wild {b} e n = sym share-is ∙ ap (λ (x : Bool). x && finiteOf (g .angular)) (sym e ∙ not-yes b n)
@@ -106,14 +106,14 @@ module _ (s : List Float) (count : ℕ) where
     share-fine {a} {b} f m e n =
         sym share-is ∙ ap (λ (x : Bool). x && finiteOf (g .angular)) (sym f ∙ not-no a m) ∙ sym e ∙ not-no b n
 
-  pub all-of : {r : Bool} → r ≡ every count shareTest → r ≡ allFinite (sharesIn s count)
-  all-of e = e ∙ ap (λ (m : ℕ). every m shareTest) (sym (tab-length count (generalizedAt s GENERALIZED)))
+  pub all-of : {r : Bool} → r ≡ every body-count shareTest → r ≡ allFinite (sharesIn s body-count)
+  all-of e = e ∙ ap (λ (m : ℕ). every m shareTest) (sym (tab-length body-count (generalizedAt s GENERALIZED)))
 
 -- transpose
 abbrev pub rowTurn : List EqualityRow → List Float → ℕ → List Generalized → Result (List Generalized)
 rowTurn rows values k out = pushRow (rowIn rows k) (at values k) out
 
-module _ {z : List Float} {ia ib : List ℕ} {rows n count : ℕ} (pre : Rows z ia ib rows n count) {values : ℕ}
+module _ {z : List Float} {ia ib : List ℕ} {rows n body-count : ℕ} (pre : Rows z ia ib rows n body-count) {values : ℕ}
     (place : VectorPlace z values) (s₀ : List Float) where
   abbrev R : List EqualityRow
   R = rowsOn ia ib s₀ rows n
@@ -122,68 +122,68 @@ module _ {z : List Float} {ia ib : List ℕ} {rows n count : ℕ} (pre : Rows z 
   Vs = vecAt s₀ values n
 
   abbrev pub TransposeSo : ℕ → List Float → Type 0
-  TransposeSo k s = Does Shares s₀ s (checked (sharesIn s count)) (loop k (rowTurn R Vs) (sharesIn s₀ count))
+  TransposeSo k s = Does Shares s₀ s (checked (sharesIn s body-count)) (loop k (rowTurn R Vs) (sharesIn s₀ body-count))
 
-  pub transpose-none : Filled GENERALIZED (6 * count) (λ _. ratio 0 1) z s₀ → TransposeSo 0 s₀
+  pub transpose-none : Filled GENERALIZED (6 * body-count) (λ _. ratio 0 1) z s₀ → TransposeSo 0 s₀
   transpose-none f =
-      let zeros = shares-none GENERALIZED count f in
+      let zeros = shares-none GENERALIZED body-count f in
       record {
         kept = kept-refl Shares s₀;
-        is = ap checked zeros ∙ zeros-checked count ∙ ap go (sym zeros) ∙ loop-none (rowTurn R Vs) (sharesIn s₀ count);
+        is = ap checked zeros ∙ zeros-checked body-count ∙ ap go (sym zeros) ∙ loop-none (rowTurn R Vs) (sharesIn s₀ body-count);
       }
 
   pub transpose-again : {k : ℕ} {s t : List Float} {row : EqualityRow} {v : Float} → TransposeSo k s → k < n → row ≡ rowOn ia ib s rows k
-      → v ≡ at s (values + k) → Does Shares s t (checked (sharesIn t count)) (checked (sharesIn s count) >>= pushRow row v) → TransposeSo (k + 1) t
+      → v ≡ at s (values + k) → Does Shares s t (checked (sharesIn t body-count)) (checked (sharesIn s body-count) >>= pushRow row v) → TransposeSo (k + 1) t
   transpose-again {k} {s} {t} {row} {v} inv h er ev d =
       let a : row ≡ rowIn R k = row-in (inv .kept) ia ib rows n k (λ i x y. omega arith) h er in
       let b : v ≡ at Vs k = vec-in (inv .kept) values n k (λ i x y. omega arith) h ev in
       record {
         kept = kept-then (inv .kept) (d .kept) (λ i x. x);
         is = d .is
-            ∙ ap (λ (y : EqualityRow). checked (sharesIn s count) >>= pushRow y v) a
-            ∙ ap (λ (y : Float). checked (sharesIn s count) >>= pushRow (rowIn R k) y) b
+            ∙ ap (λ (y : EqualityRow). checked (sharesIn s body-count) >>= pushRow y v) a
+            ∙ ap (λ (y : Float). checked (sharesIn s body-count) >>= pushRow (rowIn R k) y) b
             ∙ ap (λ (y : Result (List Generalized)). y >>= rowTurn R Vs k) (inv .is)
-            ∙ loop-next (rowTurn R Vs) (sharesIn s₀ count) k;
+            ∙ loop-next (rowTurn R Vs) (sharesIn s₀ body-count) k;
       }
 
   -- the end of the loop, and what the test of all shares says
-  pub transpose-ends : {k : ℕ} {s : List Float} {y : Result (List Generalized)} → y ≡ checked (sharesIn s count) → TransposeSo k s → k ≤ n → n ≤ k
-      → Does Shares s₀ s y (loop n (rowTurn R Vs) (sharesIn s₀ count))
+  pub transpose-ends : {k : ℕ} {s : List Float} {y : Result (List Generalized)} → y ≡ checked (sharesIn s body-count) → TransposeSo k s → k ≤ n → n ≤ k
+      → Does Shares s₀ s y (loop n (rowTurn R Vs) (sharesIn s₀ body-count))
   transpose-ends {k} {s} e inv a b =
       let same : k ≡ n = omega arith in
-      record { kept = inv .kept; is = e ∙ inv .is ∙ ap (λ (m : ℕ). loop m (rowTurn R Vs) (sharesIn s₀ count)) same }
+      record { kept = inv .kept; is = e ∙ inv .is ∙ ap (λ (m : ℕ). loop m (rowTurn R Vs) (sharesIn s₀ body-count)) same }
 
-  pub transpose-from : {t : List Float} {y : Result (List Generalized)} → Filled GENERALIZED (6 * count) (λ _. ratio 0 1) z s₀
-      → Does Shares s₀ t y (loop n (rowTurn R Vs) (sharesIn s₀ count))
-      → Does Shares z t y (transpose (rowsOn ia ib z rows n) (vecAt z values n) count)
+  pub transpose-from : {t : List Float} {y : Result (List Generalized)} → Filled GENERALIZED (6 * body-count) (λ _. ratio 0 1) z s₀
+      → Does Shares s₀ t y (loop n (rowTurn R Vs) (sharesIn s₀ body-count))
+      → Does Shares z t y (transpose (rowsOn ia ib z rows n) (vecAt z values n) body-count)
   unfolding transpose
   transpose-from {t} {y} f d = record {
     kept = kept-then (kept-more (f .kept) (λ i x. omega arith)) (d .kept) (λ i x. x);
     is = d .is
-        ∙ ap (λ (l : List EqualityRow). loop n (rowTurn l Vs) (sharesIn s₀ count)) (kept-rows (f .kept) ia ib rows n (λ i x y. omega arith))
-        ∙ ap (λ (l : List Float). loop n (rowTurn (rowsOn ia ib z rows n) l) (sharesIn s₀ count)) (kept-vec (f .kept) values n (λ i x y. omega arith))
-        ∙ ap (loop n (rowTurn (rowsOn ia ib z rows n) (vecAt z values n))) (shares-none GENERALIZED count f)
-        ∙ ap (λ (m : ℕ). loop m (rowTurn (rowsOn ia ib z rows n) (vecAt z values n)) (replicate count noShare)) (sym (tab-length n (rowOn ia ib z rows)));
+        ∙ ap (λ (l : List EqualityRow). loop n (rowTurn l Vs) (sharesIn s₀ body-count)) (kept-rows (f .kept) ia ib rows n (λ i x y. omega arith))
+        ∙ ap (λ (l : List Float). loop n (rowTurn (rowsOn ia ib z rows n) l) (sharesIn s₀ body-count)) (kept-vec (f .kept) values n (λ i x y. omega arith))
+        ∙ ap (loop n (rowTurn (rowsOn ia ib z rows n) (vecAt z values n))) (shares-none GENERALIZED body-count f)
+        ∙ ap (λ (m : ℕ). loop m (rowTurn (rowsOn ia ib z rows n) (vecAt z values n)) (replicate body-count noShare)) (sym (tab-length n (rowOn ia ib z rows)));
   }
 
 -- scale_all
-module _ (s₀ : List Float) (count : ℕ) (most : count ≤ BODIES-MOST) where
+module _ (s₀ : List Float) (body-count : ℕ) (most : body-count ≤ BODIES-MOST) where
   abbrev pub scaling : ℕ → Result Generalized
-  scaling k = scaled (generalizedIn (sharesIn s₀ count) k) (massIn (massesAt s₀ MASSES count) k)
+  scaling k = scaled (generalizedIn (sharesIn s₀ body-count) k) (massIn (massesAt s₀ MASSES body-count) k)
 
   abbrev pub ScaleSo : ℕ → List Float → Type 0
-  ScaleSo k s = Does (λ i. Out GENERALIZED (6 * k) i) s₀ s (go (sharesIn s k)) (scaleAll (sharesIn s₀ count) (massesAt s₀ MASSES count) k)
+  ScaleSo k s = Does (λ i. Out GENERALIZED (6 * k) i) s₀ s (go (sharesIn s k)) (scaleAll (sharesIn s₀ body-count) (massesAt s₀ MASSES body-count) k)
 
   pub scale-none : ScaleSo 0 s₀
   unfolding tab
   scale-none = record { kept = kept-refl _ s₀; is = each-none scaling }
 
-  module _ {k : ℕ} {s : List Float} {value : Generalized} {mass : MassResponse} (inv : ScaleSo k s) (h : k < count)
+  module _ {k : ℕ} {s : List Float} {value : Generalized} {mass : MassResponse} (inv : ScaleSo k s) (h : k < body-count)
       (ev : value ≡ generalizedAt s GENERALIZED k) (em : mass ≡ massAt s MASSES k) where
     scale-turn : scaled value mass ≡ scaling k
     scale-turn =
-        let a : value ≡ generalizedIn (sharesIn s₀ count) k = share-in (inv .kept) GENERALIZED count k (λ i x y. omega arith) h ev in
-        let b : mass ≡ massIn (massesAt s₀ MASSES count) k = mass-in (inv .kept) MASSES count k (λ i x y. omega arith) h em in
+        let a : value ≡ generalizedIn (sharesIn s₀ body-count) k = share-in (inv .kept) GENERALIZED body-count k (λ i x y. omega arith) h ev in
+        let b : mass ≡ massIn (massesAt s₀ MASSES body-count) k = mass-in (inv .kept) MASSES body-count k (λ i x y. omega arith) h em in
         cc
 
     pub scale-again : {t : List Float} {g : Generalized} → go g ≡ scaled value mass
@@ -193,21 +193,23 @@ module _ (s₀ : List Float) (count : ℕ) (most : count ≤ BODIES-MOST) where
       is = ap go (shares-more GENERALIZED k st) ∙ each-more scaling (inv .is) (q ∙ scale-turn);
     }
 
-    pub scale-stops : stop arithmeticOverflow ≡ scaled value mass → Does Shares s₀ s (stop arithmeticOverflow) (each count scaling)
-    scale-stops q = record { kept = kept-more (inv .kept) (λ i x. omega arith); is = each-stop scaling count h (inv .is) (q ∙ scale-turn) }
+    pub scale-stops : stop arithmeticOverflow ≡ scaled value mass → Does Shares s₀ s (stop arithmeticOverflow) (each body-count scaling)
+    scale-stops q = record { kept = kept-more (inv .kept) (λ i x. omega arith); is = each-stop scaling body-count h (inv .is) (q ∙ scale-turn) }
 
-  pub scale-ends : {k : ℕ} {s : List Float} → ScaleSo k s → k ≤ count → count ≤ k → Does Shares s₀ s (go (sharesIn s count)) (each count scaling)
+  pub scale-ends : {k : ℕ} {s : List Float} → ScaleSo k s → k ≤ body-count → body-count ≤ k
+      → Does Shares s₀ s (go (sharesIn s body-count)) (each body-count scaling)
   scale-ends {k} {s} inv a b =
-      let same : k ≡ count = omega arith in
+      let same : k ≡ body-count = omega arith in
       record { kept = kept-more (inv .kept) (λ i x. omega arith); is = ap (λ (m : ℕ). go (sharesIn s m)) (sym same) ∙ each-end scaling a b (inv .is) }
 
 -- rates
-module _ {z : List Float} {ia ib : List ℕ} {rows n count : ℕ} (pre : Rows z ia ib rows n count) {out : ℕ} (place : VectorPlace z out) (s₀ : List Float) where
+module _ {z : List Float} {ia ib : List ℕ} {rows n body-count : ℕ} (pre : Rows z ia ib rows n body-count)
+    {out : ℕ} (place : VectorPlace z out) (s₀ : List Float) where
   abbrev Q : List EqualityRow
   Q = rowsOn ia ib s₀ rows n
 
   abbrev M : List Generalized
-  M = sharesIn s₀ count
+  M = sharesIn s₀ body-count
 
   abbrev pub rating : ℕ → Result Float
   rating k = tryNumber (rate (rowIn Q k) (generalizedIn M (rowIn Q k .a)) (generalizedIn M (rowIn Q k .b)))
@@ -225,10 +227,10 @@ module _ {z : List Float} {ia ib : List ℕ} {rows n count : ℕ} (pre : Rows z 
     rate-turn : v ≡ rate (rowIn Q k) (generalizedIn M (rowIn Q k .a)) (generalizedIn M (rowIn Q k .b))
     rate-turn =
         let x : row ≡ rowIn Q k = row-in (inv .kept) ia ib rows n k (λ i x y. omega arith) h er in
-        let la : row .a < count = subst (λ (q : EqualityRow). q .a < count) (sym er) (pre .a-there k h) in
-        let lb : row .b < count = subst (λ (q : EqualityRow). q .b < count) (sym er) (pre .b-there k h) in
-        let y : a ≡ generalizedIn M (row .a) = share-in (inv .kept) GENERALIZED count (row .a) (λ i x y. omega arith) la ea in
-        let w : b ≡ generalizedIn M (row .b) = share-in (inv .kept) GENERALIZED count (row .b) (λ i x y. omega arith) lb eb in
+        let la : row .a < body-count = subst (λ (q : EqualityRow). q .a < body-count) (sym er) (pre .a-there k h) in
+        let lb : row .b < body-count = subst (λ (q : EqualityRow). q .b < body-count) (sym er) (pre .b-there k h) in
+        let y : a ≡ generalizedIn M (row .a) = share-in (inv .kept) GENERALIZED body-count (row .a) (λ i x y. omega arith) la ea in
+        let w : b ≡ generalizedIn M (row .b) = share-in (inv .kept) GENERALIZED body-count (row .b) (λ i x y. omega arith) lb eb in
         cc
 
     stored : Kept (Beside out) s₀ (set s (out + k) v)
@@ -246,61 +248,63 @@ module _ {z : List Float} {ia ib : List ℕ} {rows n count : ℕ} (pre : Rows z 
       record { kept = inv .kept; is = ap (λ (m : ℕ). go (vecAt s out m)) (sym same) ∙ each-end rating a b (inv .is) }
 
 -- operator
-pub rows-kept : {s t : List Float} {ia ib : List ℕ} {rows n count : ℕ} → Rows s ia ib rows n count → length t ≡ length s → Rows t ia ib rows n count
+pub rows-kept : {s t : List Float} {ia ib : List ℕ} {rows n body-count : ℕ} → Rows s ia ib rows n body-count
+    → length t ≡ length s → Rows t ia ib rows n body-count
 rows-kept pre e = record { whole = omega arith; table = pre .table; most = pre .most; bodies = pre .bodies; a-there = pre .a-there; b-there = pre .b-there }
 
 -- a vector before the shares is a place for the operator
 pub place-of : {s : List Float} (off : ℕ) → RHS ≤ off → off + VECTOR ≤ GENERALIZED → END ≤ length s → VectorPlace s off
 place-of off h l w = record { low = h; apart = omega arith; there = omega arith }
 
--- a row that was loaded is on bodies below count
-module _ {s : List Float} {ia ib : List ℕ} {rows n count : ℕ} (pre : Rows s ia ib rows n count) {k : ℕ} (h : k < n) (t : List Float)
+-- a row that was loaded is on bodies below body-count
+module _ {s : List Float} {ia ib : List ℕ} {rows n body-count : ℕ} (pre : Rows s ia ib rows n body-count) {k : ℕ} (h : k < n) (t : List Float)
     {row : EqualityRow} (e : row ≡ rowOn ia ib t rows k) where
-  pub on-a : row .a < count
-  on-a = subst (λ (q : EqualityRow). q .a < count) (sym e) (pre .a-there k h)
+  pub on-a : row .a < body-count
+  on-a = subst (λ (q : EqualityRow). q .a < body-count) (sym e) (pre .a-there k h)
 
-  pub on-b : row .b < count
-  on-b = subst (λ (q : EqualityRow). q .b < count) (sym e) (pre .b-there k h)
+  pub on-b : row .b < body-count
+  on-b = subst (λ (q : EqualityRow). q .b < body-count) (sym e) (pre .b-there k h)
 
 module _ {s : List Float} {ia ib : List ℕ} (table : Table) (pre : Rows s ia ib (table .place) (table .rows) (table .bodies)) (input out : ℕ) where
-  abbrev count : ℕ
-  count = table .bodies
+  abbrev body-count : ℕ
+  body-count = table .bodies
 
   abbrev Whole : Result (List Float)
   Whole = operator (systemOn ia ib s table) (vecAt s input (table .rows))
 
   abbrev Pushed : Result (List Generalized)
-  Pushed = transpose (rowsOn ia ib s (table .place) (table .rows)) (vecAt s input (table .rows)) count
+  Pushed = transpose (rowsOn ia ib s (table .place) (table .rows)) (vecAt s input (table .rows)) body-count
 
-  -- `length masses` is count
-  len : count ≡ length (massesAt s MASSES count)
-  len = sym (tab-length count (massAt s MASSES))
+  -- `length masses` is body-count
+  len : body-count ≡ length (massesAt s MASSES body-count)
+  len = sym (tab-length body-count (massAt s MASSES))
 
   module _ {t : List Float} where
     first : {x : Result (List Generalized)} → Does Shares s t x Pushed
-        → Does Shares s t x (transpose (rowsOn ia ib s (table .place) (table .rows)) (vecAt s input (table .rows)) (length (massesAt s MASSES count)))
+        → Does Shares s t x (transpose (rowsOn ia ib s (table .place) (table .rows)) (vecAt s input (table .rows)) (length (massesAt s MASSES body-count)))
     first d = record { kept = d .kept; is = d .is ∙ ap (transpose (rowsOn ia ib s (table .place) (table .rows)) (vecAt s input (table .rows))) len }
 
     pub operator-pushes-failed : {f : Fault} → Does Shares s t (stop f) Pushed → Does (Operating out) s t (stop f) Whole
     unfolding operator
     operator-pushes-failed d = does-stop _ (λ i x. x .0) (first d)
 
-    module _ (d : Does Shares s t (go (sharesIn t count)) Pushed) {u : List Float} where
-      second : {x : Result (List Generalized)} → Does Shares t u x (scaleAll (sharesIn t count) (massesAt t MASSES count) count)
-          → Does Shares t u x (scaleAll (sharesIn t count) (massesAt s MASSES count) (length (massesAt s MASSES count)))
+    module _ (d : Does Shares s t (go (sharesIn t body-count)) Pushed) {u : List Float} where
+      second : {x : Result (List Generalized)} → Does Shares t u x (scaleAll (sharesIn t body-count) (massesAt t MASSES body-count) body-count)
+          → Does Shares t u x (scaleAll (sharesIn t body-count) (massesAt s MASSES body-count) (length (massesAt s MASSES body-count)))
       second e = record {
         kept = e .kept;
-        is = e .is ∙ λ j. scaleAll (sharesIn t count) (kept-masses (d .kept) MASSES count (λ i x y. omega (arith, pre .bodies)) j) (len j);
+        is = e .is ∙ λ j. scaleAll (sharesIn t body-count) (kept-masses (d .kept) MASSES body-count (λ i x y. omega (arith, pre .bodies)) j) (len j);
       }
 
-      pub operator-scales-failed : {f : Fault} → Does Shares t u (stop f) (scaleAll (sharesIn t count) (massesAt t MASSES count) count)
+      pub operator-scales-failed : {f : Fault} → Does Shares t u (stop f) (scaleAll (sharesIn t body-count) (massesAt t MASSES body-count) body-count)
           → Does (Operating out) s u (stop f) Whole
       unfolding operator
       operator-scales-failed e = does-then _ (λ i x. x .0) (λ i x. x) (first d) (does-stop _ (λ i x. x .0) (second e))
 
-      pub operator-rates : Does Shares t u (go (sharesIn u count)) (scaleAll (sharesIn t count) (massesAt t MASSES count) count)
+      pub operator-rates : Does Shares t u (go (sharesIn u body-count)) (scaleAll (sharesIn t body-count) (massesAt t MASSES body-count) body-count)
           → {w : List Float} {y : Result (List Float)}
-          → Does (Beside out) u w y (rates (rowsOn ia ib u (table .place) (table .rows)) (table .rows) (sharesIn u count)) → Does (Operating out) s w y Whole
+          → Does (Beside out) u w y (rates (rowsOn ia ib u (table .place) (table .rows)) (table .rows) (sharesIn u body-count))
+          → Does (Operating out) s w y Whole
       unfolding operator
       operator-rates e {w} {y} f = does-then _ (λ i x. x .0) (λ i x. x) (first d) (does-then _ (λ i x. x .0) (λ i x. x .1) (second e) third)
         where
@@ -309,11 +313,11 @@ module _ {s : List Float} {ia ib : List ℕ} (table : Table) (pre : Rows s ia ib
               ∙ kept-rows (d .kept) ia ib (table .place) (table .rows) (λ i x y. omega (arith, pre .table, pre .most))
 
           third : Does (Beside out) u w y
-              (rates (rowsOn ia ib s (table .place) (table .rows)) (length (rowsOn ia ib s (table .place) (table .rows))) (sharesIn u count))
+              (rates (rowsOn ia ib s (table .place) (table .rows)) (length (rowsOn ia ib s (table .place) (table .rows))) (sharesIn u body-count))
           third =
               record {
                 kept = f .kept;
-                is = f .is ∙ λ j. rates (kept j) (sym (tab-length (table .rows) (rowOn ia ib s (table .place))) j) (sharesIn u count);
+                is = f .is ∙ λ j. rates (kept j) (sym (tab-length (table .rows) (rowOn ia ib s (table .place))) j) (sharesIn u body-count);
               }
 
 -- cross_mass
@@ -322,15 +326,15 @@ pub through-is : (mass : MassResponse) (al aa bl ba : Vec3) {d e : Float} {w : V
 unfolding through
 through-is mass al aa bl ba a b c = cc
 
-module _ (s : List Float) (count ai bi : ℕ) (h : ai < count) (al aa bl ba : Vec3) (value : Float) where
+module _ (s : List Float) (body-count ai bi : ℕ) (h : ai < body-count) (al aa bl ba : Vec3) (value : Float) where
   pub same-body : ai ≡ bi → {mass : MassResponse} {x : Float} → mass ≡ massAt s MASSES ai → x ≡ through mass al aa bl ba
-      → value ⊕ x ≡ addThrough (massesAt s MASSES count) ai al aa bi bl ba value
+      → value ⊕ x ≡ addThrough (massesAt s MASSES body-count) ai al aa bi bl ba value
   same-body e {mass} {x} em ex =
       let t : eqb ai bi ≡ true = eq-eqb ai bi e in
-      let m : mass ≡ massIn (massesAt s MASSES count) ai = em ∙ sym (tab-at count (massAt s MASSES) noMass ai h) in
+      let m : mass ≡ massIn (massesAt s MASSES body-count) ai = em ∙ sym (tab-at body-count (massAt s MASSES) noMass ai h) in
       cc
 
-  pub other-body : (ai ≡ bi → ⊥) → value ≡ addThrough (massesAt s MASSES count) ai al aa bi bl ba value
+  pub other-body : (ai ≡ bi → ⊥) → value ≡ addThrough (massesAt s MASSES body-count) ai al aa bi bl ba value
   other-body e = cond-no _ _ (ne-eqb ai bi e)
 
 pub end-is : (masses : List MassResponse) (ai : ℕ) (al aa : Vec3) (b : EqualityRow) (value : Float) {half x : Float}

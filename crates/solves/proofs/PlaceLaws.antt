@@ -70,15 +70,15 @@ mass-loaded s off k {m} {x} {y} {z} a b c e = λ j. record { linear = at s (off 
 
 -- pure parts, by cases
 module _ (value : Generalized) (mass : MassResponse) {l : Vec3} {t : Bool} (el : l ≡ scaleOf (value .linear) (mass .linear)) (et : t ≡ finiteOf l) where
-  pub scaled-1 : t ≡ false → stop arithmeticOverflow ≡ scaled value mass
+  pub scaled-linear-over : t ≡ false → stop arithmeticOverflow ≡ scaled value mass
   unfolding scaled
-  scaled-1 h = then-stop _ (finite-no el et h)
+  scaled-linear-over h = then-stop _ (finite-no el et h)
 
   module _ {a : Vec3} {u : Bool} (ht : t ≡ true) (ea : a ≡ applyOf (mass .angular) (value .angular)) (eu : u ≡ finiteOf a) where
-    pub scaled-2 : u ≡ false → stop arithmeticOverflow ≡ scaled value mass
+    pub scaled-angular-over : u ≡ false → stop arithmeticOverflow ≡ scaled value mass
     unfolding scaled
-    scaled-2 h = then-stop _ (finite-no ea eu h) ∙ then-go _ (finite-yes el et ht)
+    scaled-angular-over h = then-stop _ (finite-no ea eu h) ∙ then-go _ (finite-yes el et ht)
 
-    pub scaled-3 : u ≡ true → go (record { linear = l; angular = a }) ≡ scaled value mass
+    pub scaled-both : u ≡ true → go (record { linear = l; angular = a }) ≡ scaled value mass
     unfolding scaled
-    scaled-3 h = then-go _ (finite-yes ea eu h) ∙ then-go _ (finite-yes el et ht)
+    scaled-both h = then-go _ (finite-yes ea eu h) ∙ then-go _ (finite-yes el et ht)

@@ -62,10 +62,10 @@ gradients system rhs solution residual = do
 -- ---- fn path_solve, along an order of the rows: a refinement is counted once its residual is known
 unfoldable pub refinement : System → List Float → List ℕ → Factor → Float → Refined → Counting (Turn Refined (List Float))
 refinement system rhs order factor tolerance s = do
-  s ← try (refine system rhs order factor s)
+  next ← try (refine system rhs order factor s)
   tick
-  near ← try (within (s .residual) tolerance)
-  leaveIf near (s .solution) (again s)
+  near ← try (within (next .residual) tolerance)
+  leaveIf near (next .solution) (again next)
 
 unfoldable pub pathAlong : System → List Float → List Float → List ℕ → Counting (List Float)
 pathAlong system rhs solution order = do

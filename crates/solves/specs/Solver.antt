@@ -52,7 +52,7 @@ abbrev pub noShare : Generalized
 noShare = record { linear = zeroVec; angular = zeroVec }
 
 unfoldable pub transpose : List EqualityRow → List Float → ℕ → Result (List Generalized)
-transpose rows values bodies = loop (length rows) (λ k out. pushRow (rowIn rows k) (at values k) out) (replicate bodies noShare)
+transpose rows values bodyCount = loop (length rows) (λ k out. pushRow (rowIn rows k) (at values k) out) (replicate bodyCount noShare)
 
 -- ---- fn operator: value[0] = finite(value[0] * mass.linear)?; value[1] = finite(mass.angular * value[1])?
 unfoldable pub scaled : Generalized → MassResponse → Result Generalized
@@ -62,7 +62,7 @@ scaled value mass = do
   go (record { linear = l; angular = a })
 
 abbrev pub scaleAll : List Generalized → List MassResponse → ℕ → Result (List Generalized)
-scaleAll generalized masses bodies = each bodies (λ k. scaled (generalizedIn generalized k) (massIn masses k))
+scaleAll generalized masses bodyCount = each bodyCount (λ k. scaled (generalizedIn generalized k) (massIn masses k))
 
 unfoldable pub rate : EqualityRow → Generalized → Generalized → Float
 rate row a b =
@@ -75,9 +75,9 @@ rates rows n moved = each n λ k. tryNumber (rate (rowIn rows k) (generalizedIn 
 
 unfoldable pub operator : System → List Float → Result (List Float)
 operator system input = do
-  let bodies = length (system .masses)
-  generalized ← transpose (system .rows) input bodies
-  moved ← scaleAll generalized (system .masses) bodies
+  let bodyCount = length (system .masses)
+  generalized ← transpose (system .rows) input bodyCount
+  moved ← scaleAll generalized (system .masses) bodyCount
   rates (system .rows) (rowsIn system) moved
 
 -- ---- fn cross_mass: mass.linear * al.dot(bl) + aa.dot(mass.angular * ba)
@@ -158,8 +158,8 @@ trueResidual system rhs tolerance solution residual = do
   cond near
       (do
         product ← operator system solution
-        near ← within (difference rhs product) tolerance
-        go (record { residual = difference rhs product; solved = near }))
+        solved ← within (difference rhs product) tolerance
+        go (record { residual = difference rhs product; solved = solved }))
       (go (record { residual = residual; solved = false }))
 
 unfoldable pub scaledSquare : List Float → List Float → Float  -- the sum of r * r / d

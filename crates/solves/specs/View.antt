@@ -4,7 +4,7 @@ use mathlib.Core.Path.{_≡_}
 use mathlib.Core.Bool.{false}
 use mathlib.Core.List.{List, []}
 use lib.ListN.{length, getD, replicate}
-use lib.Ieee.{Float, nan}
+use lib.Ieee.{Float}
 use Rattle.arith.specs.Flow.{tab}
 use Rattle.vectors.specs.declared.vector.Vec3.{Vec3}
 use Rattle.vectors.specs.Matrix.{fromCols}
@@ -19,18 +19,18 @@ pub use Rattle.solves.specs.Layout.{PRODUCT, DIAGONAL, NORMAL, GENERALIZ
 use Rattle.solves.specs.Lent.{Slice, Lent, came}
 use Rattle.solves.specs.Region.{vecAt}
 use Rattle.solves.specs.System.{System}
-use Rattle.solves.specs.Solver.{noVec, Search, Prepared}
+use Rattle.solves.specs.Solver.{rowIn, generalizedIn, massIn, Search, Prepared}
 use Rattle.solves.specs.Path.{Factor, Refined}
 
 -- what `rowIn`, `generalizedIn` and `massIn` have past the end of a list
 abbrev pub noRow : EqualityRow
-noRow = record { a = 0; b = 0; «linear_a» = noVec; «angular_a» = noVec; «linear_b» = noVec; «angular_b» = noVec; value = nan; tolerance = nan }
+noRow = rowIn [] 0
 
 abbrev pub noGeneralized : Generalized
-noGeneralized = record { linear = noVec; angular = noVec }
+noGeneralized = generalizedIn [] 0
 
 abbrev pub noMass : MassResponse
-noMass = record { linear = nan; angular = record { columns = [] } }
+noMass = massIn [] 0
 
 -- a row is 14 doubles at off + 14 k, and its bodies are in two lists beside the scratch
 abbrev pub rowOn : List ℕ → List ℕ → List Float → ℕ → ℕ → EqualityRow
@@ -43,11 +43,11 @@ abbrev pub generalizedAt : List Float → ℕ → ℕ → Generalized
 generalizedAt s off i = record { linear = vec3At s (off + 6 * i); angular = vec3At s (off + 6 * i + 3) }
 
 abbrev pub generalizedsAt : List Float → ℕ → ℕ → List Generalized
-generalizedsAt s off m = tab m (generalizedAt s off)
+generalizedsAt s off body-count = tab body-count (generalizedAt s off)
 
 -- the bodies' shares, where `transpose` leaves them
 abbrev pub sharesIn : List Float → ℕ → List Generalized
-sharesIn s bodies = generalizedsAt s GENERALIZED bodies
+sharesIn s body-count = generalizedsAt s GENERALIZED body-count
 
 abbrev pub massOf : Float → Vec3 → Vec3 → Vec3 → MassResponse
 massOf linear x y z = record { linear = linear; angular = fromCols x y z }
@@ -56,7 +56,7 @@ abbrev pub massAt : List Float → ℕ → ℕ → MassResponse
 massAt s off i = massOf (at s (off + 10 * i)) (vec3At s (off + 10 * i + 1)) (vec3At s (off + 10 * i + 4)) (vec3At s (off + 10 * i + 7))
 
 abbrev pub massesAt : List Float → ℕ → ℕ → List MassResponse
-massesAt s off m = tab m (massAt s off)
+massesAt s off body-count = tab body-count (massAt s off)
 
 -- the system that stands in a table of rows
 abbrev pub systemOn : List ℕ → List ℕ → List Float → Table → System
@@ -136,14 +136,14 @@ pub record Tables (i : ℕ) : Type 0 where
   pub scale : Beside PATH-SCALE i
   pub side : Beside PATH-RHS i
 
--- n rows in one of the two tables, on bodies below count
-pub record Rows (s : List Float) (ia ib : List ℕ) (rows n count : ℕ) : Type 0 where
+-- n rows in one of the two tables, on bodies below body-count
+pub record Rows (s : List Float) (ia ib : List ℕ) (place n body-count : ℕ) : Type 0 where
   pub whole : END ≤ length s
-  pub table : rows ≤ ROWS
+  pub table : place ≤ ROWS
   pub most : n ≤ ROWS-MOST
-  pub bodies : count ≤ BODIES-MOST
-  pub a-there : (k : ℕ) → k < n → getD ia k 0 < count
-  pub b-there : (k : ℕ) → k < n → getD ib k 0 < count
+  pub bodies : body-count ≤ BODIES-MOST
+  pub a-there : (k : ℕ) → k < n → getD ia k 0 < body-count
+  pub b-there : (k : ℕ) → k < n → getD ib k 0 < body-count
 
 -- what every solve requires
 abbrev pub Ready : Slice Float → Slice ℕ → Slice ℕ → Table → Type 0

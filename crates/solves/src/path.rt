@@ -193,12 +193,12 @@ fn append(rows: &mut [usize; 96], listed: usize, from: usize, to: usize) -> usiz
     requires { ⌜ (from ≤ to) × (to ≤ 96) × (listed + (to - from) ≤ 96) × (length (now rows) ≡ 96) ⌝ }
     ensures { λ r. ⌜ Appended (orderAt (came rows) listed) from to to (orderAt (left rows) r) ⌝ }
 {
-    let mut count = listed;
+    let mut listed = listed;
     for i in from..to {
-        rows[count] = i;
-        count += 1;
+        rows[listed] = i;
+        listed += 1;
     }
-    count
+    listed
 }
 
 // Follows the blocks from `first` to the other end. The order is lent, so that no table is copied from call to call.
@@ -216,28 +216,28 @@ fn walk(
     requires { ⌜ (OnGraph ia ib starts blocks edges) × (first < blocks) × (Free (blocksAt (now starts) blocks) (orderAt (now rows) listed) (now visited)) ⌝ }
     ensures { λ r. ⌜ WalksOn starts blocks visited rows listed r (λ b. walkOn (came ia) (came ib) b (came edges) first) ⌝ }
 {
-    let mut count = listed;
+    let mut listed = listed;
     let mut current = first;
     let mut previous = NONE;
     for k in 0..blocks {
         if visited[current] {
-            return Walked::new(false, count);
+            return Walked::new(false, listed);
         }
         visited[current] = true;
         let row = starts[current];
-        count = append(rows, count, row, starts[current + 1]);
+        listed = append(rows, listed, row, starts[current + 1]);
         let next = next_block(
             neighbor(edges, ia[row], current),
             neighbor(edges, ib[row], current),
             previous,
         );
         if next == NONE {
-            return Walked::new(true, count);
+            return Walked::new(true, listed);
         }
         previous = current;
         current = next;
     }
-    Walked::new(false, count)
+    Walked::new(false, listed)
 }
 
 // Whether a block has a free end and was not visited yet.

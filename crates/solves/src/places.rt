@@ -38,31 +38,31 @@ pub fn load_row(
     EqualityRow::load(s, place + ROW * k, ia[k], ib[k])
 }
 
-pub fn load_generalized(s: &[f64], off: usize, k: usize) -> Generalized
-    requires { ⌜ off + 6 * k + 6 ≤ length (now s) ⌝ }
-    ensures { λ r. ⌜ r ≡ generalizedAt (came s) off k ⌝ }
+pub fn load_generalized(s: &[f64], place: usize, k: usize) -> Generalized
+    requires { ⌜ place + 6 * k + 6 ≤ length (now s) ⌝ }
+    ensures { λ r. ⌜ r ≡ generalizedAt (came s) place k ⌝ }
 {
-    let i = off + SHARE * k;
+    let i = place + SHARE * k;
     Generalized {
         linear: load3(s, i),
         angular: load3(s, i + 3),
     }
 }
 
-pub(crate) fn store_generalized(s: &mut [f64], off: usize, k: usize, g: Generalized)
-    requires { ⌜ off + 6 * k + 6 ≤ length (now s) ⌝ }
-    ensures { λ _. ⌜ (Kept (λ j. Out (off + 6 * k) 6 j) (came s) (left s)) × (generalizedAt (left s) off k ≡ g) ⌝ }
+pub(crate) fn store_generalized(s: &mut [f64], place: usize, k: usize, g: Generalized)
+    requires { ⌜ place + 6 * k + 6 ≤ length (now s) ⌝ }
+    ensures { λ _. ⌜ (Kept (λ j. Out (place + 6 * k) 6 j) (came s) (left s)) × (generalizedAt (left s) place k ≡ g) ⌝ }
 {
-    let i = off + SHARE * k;
+    let i = place + SHARE * k;
     store3(s, i, g.linear);
     store3(s, i + 3, g.angular);
 }
 
-pub(crate) fn load_mass(s: &[f64], off: usize, k: usize) -> MassResponse
-    requires { ⌜ off + 10 * k + 10 ≤ length (now s) ⌝ }
-    ensures { λ r. ⌜ r ≡ massAt (came s) off k ⌝ }
+pub(crate) fn load_mass(s: &[f64], place: usize, k: usize) -> MassResponse
+    requires { ⌜ place + 10 * k + 10 ≤ length (now s) ⌝ }
+    ensures { λ r. ⌜ r ≡ massAt (came s) place k ⌝ }
 {
-    let i = off + MASS * k;
+    let i = place + MASS * k;
     let x = load3(s, i + 1);
     let y = load3(s, i + 4);
     let z = load3(s, i + 7);
@@ -72,11 +72,11 @@ pub(crate) fn load_mass(s: &[f64], off: usize, k: usize) -> MassResponse
     }
 }
 
-pub fn store_mass(s: &mut [f64], off: usize, k: usize, linear: f64, x: Vec3, y: Vec3, z: Vec3)
-    requires { ⌜ off + 10 * k + 10 ≤ length (now s) ⌝ }
-    ensures { λ _. ⌜ (Kept (λ j. Out (off + 10 * k) 10 j) (came s) (left s)) × (massAt (left s) off k ≡ massOf linear x y z) ⌝ }
+pub fn store_mass(s: &mut [f64], place: usize, k: usize, linear: f64, x: Vec3, y: Vec3, z: Vec3)
+    requires { ⌜ place + 10 * k + 10 ≤ length (now s) ⌝ }
+    ensures { λ _. ⌜ (Kept (λ j. Out (place + 10 * k) 10 j) (came s) (left s)) × (massAt (left s) place k ≡ massOf linear x y z) ⌝ }
 {
-    let i = off + MASS * k;
+    let i = place + MASS * k;
     s[i] = linear;
     store3(s, i + 1, x);
     store3(s, i + 4, y);

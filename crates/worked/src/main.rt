@@ -47,10 +47,10 @@ fn balls() -> [Joint; 16] {
 }
 
 // Whether the report could be written whole.
-fn show(bodies: &mut [f64], joints: usize, dt: f64) -> bool {
+fn show(bodies: &mut [f64], count: usize, dt: f64) -> bool {
     let mut scratch = [0.0; SCRATCH];
     let mut out = [0u8; 4096];
-    let answer = step::solve(bodies, balls(), joints, dt, &mut scratch);
+    let answer = step::solve(bodies, balls(), count, dt, &mut scratch);
     let outcome = answer.outcome;
     let number = step::number(outcome);
     let n = report::text::report(number, answer.nonlinear, answer.linear, bodies, &mut out);
@@ -65,11 +65,11 @@ fn show_one(mass: f64) -> bool {
 }
 
 // Two bodies at rest with so many joints that hold.
-fn show_two(joints: usize) -> bool {
+fn show_two(count: usize) -> bool {
     let mut two = [0.0; 52];
     place(&mut two, 0, 2.0, 0.0);
     place(&mut two, 26, 2.0, 0.0);
-    show(&mut two, joints, 1.0)
+    show(&mut two, count, 1.0)
 }
 
 // All of them, as far as they can be written.

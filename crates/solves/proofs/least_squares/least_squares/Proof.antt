@@ -5,7 +5,6 @@ use mathlib.Core.Path.{_∙_, ap}
 use Prim.Native.Nat.{_-_}
 use lib.Ieee.{Float}
 use Rattle.arith.specs.Run.{ran}
-use Rattle.arith.specs.Run.{ran}
 use Rattle.solves.specs.Region.{vecAt}
 use Rattle.solves.specs.View.{RHS, SOLUTION, RESIDUAL, NORMAL}
 use Rattle.solves.specs.DoesLaws.{sum-there, sum-over, went, failed, fails, does-eq}

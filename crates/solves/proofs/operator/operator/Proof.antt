@@ -1,4 +1,4 @@
--- operator: back to the bodies, through their masses, along the rows; by `does-then` of the three.
+-- operator: back to the bodies, through their masses, along the rows; by OperatorLaws `operator-rates` and the laws of a failure beside it.
 use native.Mathlib.Omega.{arith}
 use mathlib.Core.Path.{_∙_}
 use Prim.Native.Nat.{_-_}

@@ -1,4 +1,4 @@
--- products: the sum by the turns of `dotTurn`.
+-- products: the sum, turn by turn by OperatorLaws `products-more`.
 use native.Mathlib.Omega.{arith}
 use mathlib.Core.Path.{_≡_, _∙_}
 use Prim.Native.Nat.{_≤_, _-_}

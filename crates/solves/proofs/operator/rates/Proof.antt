@@ -1,4 +1,4 @@
--- rates: a number for each row, by the turns of `rating`.
+-- rates: a number for each row, turn by turn by OperatorLaws `rates-again`.
 use native.Mathlib.Omega.{arith}
 use mathlib.Core.Path.{_≡_, refl}
 use Prim.Native.Nat.{_≤_, _-_}

@@ -1,4 +1,4 @@
--- scale_all: each share through its mass, by the turns of `scaling`.
+-- scale_all: each share through its mass, turn by turn by OperatorLaws `scale-again`.
 use native.Mathlib.Omega.{arith}
 use borrow.Author.Needs.{needs}
 use mathlib.Core.Path.{_≡_, refl}

@@ -7,10 +7,10 @@ use Rattle.solves.proofs.path.append.Statement.{statement}
 use Rattle.solves.proofs.path.append.Tie as tie
 
 abbrev Inv-loop : tie.InvT-loop
-Inv-loop rows₀ listed from to count₀ i₀ rows count i = (from ≤ i) × (i ≤ to) × (Appended (orderAt rows₀ listed) from to i (orderAt rows count))
+Inv-loop rows₀ before from to listed₀ i₀ rows listed i = (from ≤ i) × (i ≤ to) × (Appended (orderAt rows₀ before) from to i (orderAt rows listed))
 
 abbrev μ-loop : tie.MeasureT-loop
-μ-loop rows₀ listed from to count₀ i₀ rows count i = to - i
+μ-loop rows₀ before from to listed₀ i₀ rows listed i = to - i
 
 loop-holds : tie.Need-loop-holds Inv-loop μ-loop
 loop-holds c = (omega arith, c .pre .0, append-none _ _ _ (c .pre .3))

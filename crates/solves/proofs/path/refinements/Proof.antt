@@ -1,4 +1,4 @@
--- refinements: at most four, by `Reached`.
+-- refinements: at most four, turn by turn by SolveLaws `refined-more`.
 use native.Mathlib.Omega.{arith}
 use borrow.Author.Needs.{needs}
 use mathlib.Core.Path.{ap}
@@ -7,7 +7,6 @@ use denote.Ref.{now}
 use Rattle.arith.specs.Flow.{loop}
 use Rattle.arith.specs.Run.{ran}
 use Rattle.rows.specs.View.{at}
-use Rattle.arith.specs.Run.{ran}
 use Rattle.solves.specs.Region.{vecAt}
 use Rattle.solves.specs.View.{systemOn, refinedAt, factorAt, listAt}
 use Rattle.solves.specs.View.{Refining}

@@ -11,11 +11,11 @@ use Rattle.solves.proofs.path.walk.Statement.{statement}
 use Rattle.solves.proofs.path.walk.Tie as tie
 
 abbrev Inv-loop : tie.InvT-loop
-Inv-loop ia ib starts blocks edges visited₀ first rows₀ listed count₀ current₀ previous₀ k₀ visited rows count current previous k =
-    (k ≤ blocks) × (WalkSo ia ib (blocksAt starts blocks) edges (orderAt rows₀ listed) visited₀ first k (orderAt rows count) visited current previous)
+Inv-loop ia ib starts blocks edges visited₀ first rows₀ before listed₀ current₀ previous₀ k₀ visited rows listed current previous k =
+    (k ≤ blocks) × (WalkSo ia ib (blocksAt starts blocks) edges (orderAt rows₀ before) visited₀ first k (orderAt rows listed) visited current previous)
 
 abbrev μ-loop : tie.MeasureT-loop
-μ-loop ia ib starts blocks edges visited₀ first rows₀ listed count₀ current₀ previous₀ k₀ visited rows count current previous k = blocks - k
+μ-loop ia ib starts blocks edges visited₀ first rows₀ before listed₀ current₀ previous₀ k₀ visited rows listed current previous k = blocks - k
 
 -- the loop, seen from where the block's rows were appended
 abbrev at-loop : tie.After-append Inv-loop μ-loop → tie.At-loop Inv-loop μ-loop

@@ -8,7 +8,7 @@ returns : tie.Need-returns
 returns c =
     let at-store3 = c .before .before .before .before .before .before in
     let start = at-store3 .before .before .before in
-    stored-generalized (start .args .off) (start .args .k) (start .args .g) (at-store3 .store3 .ensures) (c .before .before .store32 .ensures)
+    stored-generalized (start .args .place) (start .args .k) (start .args .g) (at-store3 .store3 .ensures) (c .before .before .store32 .ensures)
 
 pub store-generalized-spec : {M : Type 1} → statement M
 store-generalized-spec =

@@ -16,7 +16,7 @@ store3-requires-2 c κs =
       arith,
       at-store3 .store3 .ensures .0 .size,
       start .pre,
-      length-set (now (start .args .s)) (start .args .off + 10 * start .args .k)
+      length-set (now (start .args .s)) (start .args .place + 10 * start .args .k)
           (start .args .linear),
     )
 
@@ -29,7 +29,7 @@ store3-requires-3 c κs =
       arith,
       at-store3 .store3 .ensures .0 .size,
       start .pre,
-      length-set (now (start .args .s)) (start .args .off + 10 * start .args .k)
+      length-set (now (start .args .s)) (start .args .place + 10 * start .args .k)
           (start .args .linear),
       at-store32 .store32 .ensures .0 .size,
     )
@@ -45,7 +45,7 @@ same-length c =
       at-store32 .store32 .ensures .0 .size,
       c .before .before .store33 .ensures .0 .size,
       length-set
-          (now (start .args .s)) (start .args .off + 10 * start .args .k) (start .args .linear),
+          (now (start .args .s)) (start .args .place + 10 * start .args .k) (start .args .linear),
     )
 
 returns : tie.Need-returns
@@ -53,7 +53,7 @@ returns c =
     let at-store32 = c .before .before .before .before .before .before in
     let at-store3 = at-store32 .before .before .before .before in
     let start = at-store3 .before .before .before in
-    stored-mass (now (start .args .s)) (start .args .off) (start .args .k) (start .args .linear) (start .pre) (at-store3 .store3 .ensures)
+    stored-mass (now (start .args .s)) (start .args .place) (start .args .k) (start .args .linear) (start .pre) (at-store3 .store3 .ensures)
     (at-store32 .store32 .ensures) (c .before .before .store33 .ensures)
 
 pub store-mass-spec : {M : Type 1} → statement M

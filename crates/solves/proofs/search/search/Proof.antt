@@ -1,4 +1,4 @@
--- search: the passes of a search, by `Reached`.
+-- search: the passes of a search, turn by turn by SearchLaws `search-again`.
 use native.Mathlib.Omega.{arith}
 use borrow.Author.Needs.{needs}
 use mathlib.Core.Path.{ap}

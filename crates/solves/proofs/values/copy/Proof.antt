@@ -1,4 +1,4 @@
--- copy: double by double, by `filled-more`.
+-- copy: double by double, by VectorLaws `copy-more`.
 use native.Mathlib.Omega.{arith}
 use mathlib.Core.Path.{_≡_, refl}
 use Prim.Native.Nat.{_+_, _≤_, _-_}
