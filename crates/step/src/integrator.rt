@@ -24,6 +24,8 @@ use rows::body::MomentumBody;
 use rows::body::StateAnswer;
 use rows::geometry::Joint;
 use rows::geometry::ROW;
+use rows::geometry::TOLERANCE;
+use rows::geometry::VALUE;
 use rows::geometry::Written;
 use rows::geometry::clear;
 use rows::geometry::row_count;
@@ -246,8 +248,8 @@ fn rows_met(s: &[f64], n: usize) -> bool
     ensures { λ r. ⌜ ((ia ib : List ℕ) → r ≡ rowsMet (rowsOn ia ib (came s) ROWS n)) ⌝ }
 {
     for k in 0..n {
-        let value = s[ROWS + ROW * k + 12];
-        if abs(value) <= s[ROWS + ROW * k + 13] {} else {
+        let value = s[ROWS + ROW * k + VALUE];
+        if abs(value) <= s[ROWS + ROW * k + TOLERANCE] {} else {
             return false;
         }
     }
@@ -259,7 +261,7 @@ fn fill_rhs(s: &mut [f64], dt: f64, n: usize)
     ensures { λ _. ⌜ ((ia ib : List ℕ) → Does (Beside RHS) (came s) (left s) (vecAt (left s) RHS n) (rhsOf dt (rowsOn ia ib (came s) ROWS n))) ⌝ }
 {
     for k in 0..n {
-        s[RHS + k] = -s[ROWS + ROW * k + 12] / dt;
+        s[RHS + k] = -s[ROWS + ROW * k + VALUE] / dt;
     }
 }
 

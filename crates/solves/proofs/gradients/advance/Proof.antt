@@ -26,7 +26,7 @@ returns c =
     let start = at-operator .before .before .before in
     let end = at-operator .operator .result in
     does-eq (fails _ end (at-done .done .ensures) (c .if1 .taken))
-    (advance-unmoved (start .args .t) (start .pre) (start .args .rho)
+    (advance-unmoved _ (start .pre) _
     (failed _ end (at-done .done .ensures) (at-operator .operator .ensures) (c .if1 .taken)))
 
 returns-2 : tie.Need-returns-2
@@ -34,7 +34,7 @@ returns-2 c =
     let at-if1 = c .before .before .before .before in
     let at-operator = at-if1 .before .before .before .before in
     let start = at-operator .before .before .before in
-    advance-unmeasured (start .args .t) (start .pre) (start .args .rho)
+    advance-unmeasured _ (start .pre) _
     (went _ (at-operator .operator .result) (at-if1 .before .done .ensures) (at-operator .operator .ensures) (at-if1 .if1 .left))
     (sum-over (c .before .before .dot .ensures) (c .enum-told .given .1))
 
@@ -44,7 +44,7 @@ returns-3 c =
     let at-done = at-dot .before .before .before in
     let at-operator = at-done .before .before .before in
     let start = at-operator .before .before .before in
-    advance-flat (start .args .t) (start .pre) (start .args .rho)
+    advance-flat _ (start .pre) _
     (went _ (at-operator .operator .result) (at-done .done .ensures) (at-operator .operator .ensures) (at-dot .before .before .if1 .left))
     zero-is (sum-there (at-dot .dot .ensures) (c .before .before .curvature .given .1)) (c .if2 .taken)
 
@@ -54,7 +54,7 @@ returns-4 c =
     let at-if1 = at-curvature .before .before .before .before in
     let at-operator = at-if1 .before .before .before .before in
     let start = at-operator .before .before .before in
-    advance-wild (start .args .t) (start .pre) (start .args .rho)
+    advance-wild _ (start .pre) _
     (went _ (at-operator .operator .result) (at-if1 .before .done .ensures) (at-operator .operator .ensures) (at-if1 .if1 .left))
     zero-is (sum-there (at-curvature .before .before .dot .ensures) (at-curvature .curvature .given .1)) (c .before .before .if2 .left)
     (c .before .is-finite .ensures) (c .if3 .taken)
@@ -67,7 +67,7 @@ returns-5 c =
     let at-if1 = at-curvature .before .before .before .before in
     let at-operator = at-if1 .before .before .before .before in
     let start = at-operator .before .before .before in
-    advance-done (start .args .t) (start .pre) (start .args .rho)
+    advance-done _ (start .pre) _
     (went _ (at-operator .operator .result) (at-if1 .before .done .ensures) (at-operator .operator .ensures) (at-if1 .if1 .left))
     zero-is (sum-there (at-curvature .before .before .dot .ensures) (at-curvature .curvature .given .1)) (at-is-finite .before .if2 .left)
     (at-is-finite .is-finite .ensures) (at-add-scaled .before .before .if3 .left) (at-add-scaled .add-scaled .ensures)

@@ -8,8 +8,7 @@ returns : tie.Need-returns
 returns c =
     let at-length-squared2 = c .before .before .before in
     let at-length-squared = at-length-squared2 .before .before .before .before in
-    let start = at-length-squared .before in
-    diagonal-is (start .args .row) (start .args .ma) (start .args .mb) (at-length-squared .length-squared .ensures)
+    diagonal-is _ _ _ (at-length-squared .length-squared .ensures)
     (at-length-squared2 .before .before .apply .ensures) (at-length-squared2 .before .dot .ensures) (at-length-squared2 .length-squared2 .ensures)
     (c .before .apply2 .ensures) (c .dot2 .ensures)
 

@@ -14,7 +14,7 @@ returns : tie.Need-returns
 returns c =
     let at-end = c .before in
     let start = at-end .before .before .before .before .before in
-    pass-over (start .args .t) (start .pre) (start .args .tolerance) (start .args .rho) (at-end .end .given .0 .0) (at-end .end .given .1)
+    pass-over _ (start .pre) _ _ (at-end .end .given .0 .0) (at-end .end .given .1)
     (at-end .before .before .residual-test .ensures)
 
 advance-requires : tie.Need-advance-requires
@@ -30,7 +30,7 @@ returns-2 c =
     let start = at-residual-test .before .before .before in
     let end = at-advance .advance .result in
     does-eq (ap (λ x. ran x 0 0) (fails-over _ end (at-done .done .ensures) (c .if1 .taken)))
-    (pass-stuck (start .args .t) (start .pre) (start .args .tolerance) (start .args .rho) (at-advance .before .before .enum-told .given .1)
+    (pass-stuck _ (start .pre) _ _ (at-advance .before .before .enum-told .given .1)
     (at-residual-test .residual-test .ensures) (failed _ end (at-done .done .ensures) (at-advance .advance .ensures) (c .if1 .taken)))
 
 settle-requires : tie.Need-settle-requires
@@ -46,7 +46,7 @@ returns-3 c =
     let at-advance = at-if1 .before .before .before .before in
     let at-residual-test = at-advance .before .before .before .before in
     let start = at-residual-test .before .before .before in
-    pass-on (start .args .t) (start .pre) (start .args .tolerance) (start .args .rho) (at-advance .before .before .enum-told .given .1)
+    pass-on _ (start .pre) _ _ (at-advance .before .before .enum-told .given .1)
     (at-residual-test .residual-test .ensures)
     (went _ (at-advance .advance .result) (at-if1 .before .done .ensures) (at-advance .advance .ensures) (at-if1 .if1 .left))
     (c .before .before .settle .ensures)

@@ -19,8 +19,8 @@ returns : tie.Need-returns
 returns c =
     let at-prepare = c .before .before .before .before .before in
     let start = at-prepare .before .before .before in
-    new-ended (vecAt (at-prepare .prepare .last .0) SOLUTION (start .args .t .rows)) (c .new .ensures)
-    (gradients-refused (start .args .t) (start .pre)
+    new-ended (vecAt (at-prepare .prepare .last .0) SOLUTION _) (c .new .ensures)
+    (gradients-refused _ (start .pre)
     (does-as (λ r. preparedAs r (at-prepare .prepare .last .0) (start .args .t .rows)) (c .before .enum-told .given .1)
     (at-prepare .prepare .ensures)))
 
@@ -48,7 +48,7 @@ returns-3 c =
     let at-rho = at-tolerance .before .before .before .before .before in
     let at-prepare = at-rho .before .before .before .before in
     let start = at-prepare .before .before .before in
-    gradients-whole (start .args .t) (start .pre)
+    gradients-whole _ (start .pre)
     (does-as (λ r. preparedAs r (at-prepare .prepare .last .0) (start .args .t .rows)) (at-rho .rho .given .1) (at-prepare .prepare .ensures))
     (sum-there (at-tolerance .before .before .tolerance-for .ensures) (at-tolerance .tolerance .given .1) ∙ ap
     (λ (x : Float). toleranceFor x (vecAt (at-prepare .prepare .last .0) RHS (start .args .t .rows))) tenth-12)

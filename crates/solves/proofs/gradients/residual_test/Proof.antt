@@ -12,21 +12,21 @@ use Rattle.solves.proofs.gradients.residual_test.Tie as tie
 returns : tie.Need-returns
 returns c =
     let start = c .before .before .before .before in
-    test-over (vecAt (now (start .args .s)) RESIDUAL (start .args .n)) (start .args .tolerance)
+    test-over (vecAt (now (start .args .s)) RESIDUAL _) (start .args .tolerance)
     (sum-over (c .before .before .dot .ensures) (c .enum-told .given .1))
 
 returns-2 : tie.Need-returns-2
 returns-2 c =
     let at-square = c .before .before .before in
     let start = at-square .before .before .before .before in
-    test-there (vecAt (now (start .args .s)) RESIDUAL (start .args .n)) (start .args .tolerance)
+    test-there (vecAt (now (start .args .s)) RESIDUAL _) _
     (sum-there (at-square .before .before .dot .ensures) (at-square .square .given .1)) (c .before .sqrt .ensures .is) (c .if1 .taken)
 
 returns-3 : tie.Need-returns-3
 returns-3 c =
     let at-square = c .before .before .before in
     let start = at-square .before .before .before .before in
-    test-there (vecAt (now (start .args .s)) RESIDUAL (start .args .n)) (start .args .tolerance)
+    test-there (vecAt (now (start .args .s)) RESIDUAL _) _
     (sum-there (at-square .before .before .dot .ensures) (at-square .square .given .1)) (c .before .sqrt .ensures .is) (c .if1 .left)
 
 pub residual-test-spec : {M : Type 1} → statement M

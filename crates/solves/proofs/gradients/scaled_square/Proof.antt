@@ -24,7 +24,7 @@ loop-again c =
     let at-loop = c .before .before .before in
     let start = at-loop .before in (
       omega arith,
-      square-more (now (start .args .s)) RESIDUAL DIAGONAL (start .args .n) _ (c .before .before .loop-test .taken)
+      square-more (now (start .args .s)) RESIDUAL DIAGONAL _ _ (c .before .before .loop-test .taken)
           (at-loop .loop .inv .1),
     )
 
@@ -32,7 +32,7 @@ returns : tie.Need-returns Inv-loop μ-loop
 returns c =
     let at-loop = c .before in
     let start = at-loop .before in
-    square-ends (now (start .args .s)) RESIDUAL DIAGONAL (start .args .n) _ (at-loop .loop .inv .0) (c .loop-test .left) (at-loop .loop .inv .1)
+    square-ends (now (start .args .s)) RESIDUAL DIAGONAL _ _ (at-loop .loop .inv .0) (c .loop-test .left) (at-loop .loop .inv .1)
 
 pub scaled-square-spec : {M : Type 1} → statement M
 scaled-square-spec =

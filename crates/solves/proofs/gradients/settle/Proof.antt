@@ -11,7 +11,7 @@ returns c =
     let at-end = c .before in
     let at-true-residual = at-end .before .before .before .before in
     let start = at-true-residual .before .before .before in
-    settle-over (start .args .t) (start .pre) (start .args .tolerance) (start .args .rho) (at-true-residual .true-residual .result)
+    settle-over _ (start .pre) _ _ (at-true-residual .true-residual .result)
     (at-end .end .given .0 .0) (at-end .end .given .1) (at-true-residual .true-residual .ensures)
 
 returns-2 : tie.Need-returns-2
@@ -19,7 +19,7 @@ returns-2 c =
     let at-scaled-square = c .before .before .before .before in
     let at-true-residual = at-scaled-square .before .before .before .before .before .before in
     let start = at-true-residual .before .before .before in
-    settle-next (start .args .t) (start .pre) (start .args .tolerance) (start .args .rho) (at-true-residual .true-residual .result)
+    settle-next _ (start .pre) _ _ (at-true-residual .true-residual .result)
     (at-scaled-square .before .before .enum-told .given .1) (at-true-residual .true-residual .ensures)
     (at-scaled-square .scaled-square .ensures) (c .before .before .next-direction .ensures)
 

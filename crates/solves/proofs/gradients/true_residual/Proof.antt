@@ -16,7 +16,7 @@ use Rattle.solves.proofs.gradients.true_residual.Tie as tie
 returns : tie.Need-returns
 returns c =
     let start = c .before .before .before .before .before in
-    true-beyond (start .args .t) (start .pre) (start .args .tolerance) (test-is (c .before .before .residual-test .ensures) (c .enum-told .given .1))
+    true-beyond _ (start .pre) _ (test-is (c .before .before .residual-test .ensures) (c .enum-told .given .1))
 
 returns-2 : tie.Need-returns-2
 returns-2 c =
@@ -24,7 +24,7 @@ returns-2 c =
     let at-near = at-done .before .before in
     let start = at-near .before .before .before .before .before in
     does-eq (fails _ (at-near .near .given .0 .0) (at-done .done .ensures) (c .if1 .taken))
-    (true-wild (start .args .t) (start .pre) (start .args .tolerance)
+    (true-wild _ (start .pre) _
     (sym (fails true (at-near .near .given .0 .0) (at-done .done .ensures) (c .if1 .taken)) ∙ test-is
     (at-near .before .before .residual-test .ensures) (at-near .near .given .1)))
 
@@ -47,7 +47,7 @@ returns-3 c =
     let start = at-near .before .before .before .before .before in
     let end = at-operator .operator .result in
     does-eq (fails _ end (at-done2 .done2 .ensures) (c .if2 .taken))
-    (true-unmoved (start .args .t) (start .pre) (start .args .tolerance)
+    (true-unmoved _ (start .pre) _
     (sym (ran-done true (at-near .near .given .0 .0) (sym (at-done .done .ensures) ∙ not-no _ (at-operator .before .before .if1 .left)))
     ∙ test-is (at-near .before .before .residual-test .ensures) (at-near .near .given .1))
     (failed _ end (at-done2 .done2 .ensures) (at-operator .operator .ensures) (c .if2 .taken)))
@@ -60,7 +60,7 @@ returns-4 c =
     let at-done = at-operator .before .before .before in
     let at-near = at-done .before .before in
     let start = at-near .before .before .before .before .before in
-    true-again (start .args .t) (start .pre) (start .args .tolerance)
+    true-again _ (start .pre) _
     (sym (ran-done true (at-near .near .given .0 .0) (sym (at-done .done .ensures) ∙ not-no _ (at-operator .before .before .if1 .left)))
     ∙ test-is (at-near .before .before .residual-test .ensures) (at-near .near .given .1))
     (went _ (at-operator .operator .result) (at-done2 .done2 .ensures) (at-operator .operator .ensures) (at-difference .before .before .if2 .left))

@@ -90,14 +90,14 @@ returns-3 : tie.Need-returns-3
 returns-3 c =
     let at-if2 = c .before .before .before .before in
     let start = start-of (first-of at-if2) in
-    pass-unmeasured (start .args .t) (start .pre) _ _ (moved at-if2) (sum-over (c .before .before .dot .ensures) (c .enum-told .given .1))
+    pass-unmeasured _ (start .pre) _ _ (moved at-if2) (sum-over (c .before .before .dot .ensures) (c .enum-told .given .1))
 
 returns-4 : tie.Need-returns-4
 returns-4 c =
     let at-dot = c .before .before .before .before in
     let at-if2 = at-dot .before .before in
     let start = start-of (first-of at-if2) in
-    pass-stuck (start .args .t) (start .pre) _ _ (moved at-if2) zero-is (sum-there (at-dot .dot .ensures) (c .before .before .denominator .given .1))
+    pass-stuck _ (start .pre) _ _ (moved at-if2) zero-is (sum-there (at-dot .dot .ensures) (c .before .before .denominator .given .1))
     (c .if3 .taken)
 
 operator-requires-2 : tie.Need-operator-requires-2
@@ -115,7 +115,7 @@ returns-5 c =
     let start = begin-of (sub-of at-operator2) in
     let end = at-operator2 .operator2 .result in
     does-eq (ap (λ x. ran x 0 0) (fails-over _ end (at-done2 .done2 .ensures) (c .if4 .taken)))
-    (pass-unreturned (start .args .t) (start .pre) _ _ (advanced (sub-of at-operator2))
+    (pass-unreturned _ (start .pre) _ _ (advanced (sub-of at-operator2))
     (failed _ end (at-done2 .done2 .ensures) (at-operator2 .operator2 .ensures) (c .if4 .taken)))
 
 dot-requires-2 : tie.Need-dot-requires-2
@@ -129,7 +129,7 @@ returns-6 c =
     let at-if4 = c .before .before .before .before in
     let at-operator2 = at-if4 .before .before .before .before in
     let start = begin-of (sub-of at-operator2) in
-    pass-unmeasured-again (start .args .t) (start .pre) _ _ (advanced (sub-of at-operator2))
+    pass-unmeasured-again _ (start .pre) _ _ (advanced (sub-of at-operator2))
     (went _ (at-operator2 .operator2 .result) (at-if4 .before .done2 .ensures) (at-operator2 .operator2 .ensures) (at-if4 .if4 .left))
     (sum-over (c .before .before .dot2 .ensures) (c .enum-told2 .given .1))
 
@@ -152,7 +152,7 @@ returns-7 c =
     let at-if4 = at-next .before .before .before .before in
     let at-operator2 = at-if4 .before .before .before .before in
     let start = begin-of (sub-of at-operator2) in
-    pass-next (start .args .t) (start .pre) _ _ (advanced (sub-of at-operator2))
+    pass-next _ (start .pre) _ _ (advanced (sub-of at-operator2))
     (went _ (at-operator2 .operator2 .result) (at-if4 .before .done2 .ensures) (at-operator2 .operator2 .ensures) (at-if4 .if4 .left))
     (sum-there (at-next .before .before .dot2 .ensures) (at-next .next .given .1)) (c .before .before .add-scaled2 .ensures)
 

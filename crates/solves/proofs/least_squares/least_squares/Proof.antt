@@ -31,9 +31,9 @@ returns c =
     let at-operator = at-done .before .before .before in
     let start = at-operator .before .before .before in
     let end = at-operator .operator .result in
-    new-ended (vecAt (at-operator .operator .last .0) SOLUTION (start .args .t .rows)) (c .new .ensures)
+    new-ended (vecAt (at-operator .operator .last .0) SOLUTION _) (c .new .ensures)
     (does-eq (ap (λ x. ran x 0 0) (fails _ end (at-done .done .ensures) (at-if1 .if1 .taken)))
-    (least-unmoved (start .args .t) (start .pre) (failed _ end (at-done .done .ensures) (at-operator .operator .ensures) (at-if1 .if1 .taken))))
+    (least-unmoved _ (start .pre) (failed _ end (at-done .done .ensures) (at-operator .operator .ensures) (at-if1 .if1 .taken))))
 
 returns-2 : tie.Need-returns-2
 returns-2 c =
@@ -41,8 +41,8 @@ returns-2 c =
     let at-done = at-dot .before .before .before in
     let at-operator = at-done .before .before .before in
     let start = at-operator .before .before .before in
-    new-ended (vecAt (at-operator .operator .last .0) SOLUTION (start .args .t .rows)) (c .new2 .ensures)
-    (least-unmeasured (start .args .t) (start .pre)
+    new-ended (vecAt (at-operator .operator .last .0) SOLUTION _) (c .new2 .ensures)
+    (least-unmeasured _ (start .pre)
     (went _ (at-operator .operator .result) (at-done .done .ensures) (at-operator .operator .ensures) (at-dot .before .before .if1 .left))
     (sum-over (at-dot .dot .ensures) (c .before .enum-told .given .1)))
 
@@ -53,8 +53,8 @@ returns-3 c =
     let at-if1 = at-norm .before .before .before .before in
     let at-operator = at-if1 .before .before .before .before in
     let start = at-operator .before .before .before in
-    new-ended (vecAt (at-operator .operator .last .0) SOLUTION (start .args .t .rows)) (c .new3 .ensures)
-    (least-intolerant (start .args .t) (start .pre)
+    new-ended (vecAt (at-operator .operator .last .0) SOLUTION _) (c .new3 .ensures)
+    (least-intolerant _ (start .pre)
     (went _ (at-operator .operator .result) (at-if1 .before .done .ensures) (at-operator .operator .ensures) (at-if1 .if1 .left))
     (sum-there (at-norm .before .before .dot .ensures) (at-norm .norm .given .1))
     (sum-over (at-tolerance-for .tolerance-for .ensures) (c .before .enum-told2 .given .1) ∙ ap
@@ -76,7 +76,7 @@ returns-4 c =
     let at-if1 = at-norm .before .before .before .before in
     let at-operator = at-if1 .before .before .before .before in
     let start = at-operator .before .before .before in
-    least-whole (start .args .t) (start .pre)
+    least-whole _ (start .pre)
     (went _ (at-operator .operator .result) (at-if1 .before .done .ensures) (at-operator .operator .ensures) (at-if1 .if1 .left))
     (sum-there (at-norm .before .before .dot .ensures) (at-norm .norm .given .1))
     (sum-there (at-tolerance .before .before .tolerance-for .ensures) (at-tolerance .tolerance .given .1) ∙ ap

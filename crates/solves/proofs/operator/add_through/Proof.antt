@@ -8,14 +8,14 @@ use Rattle.solves.proofs.operator.add_through.Tie as tie
 returns : tie.Need-returns
 returns c =
     let start = c .before .before .before .before in
-    same-body (now (start .args .s)) (start .args .body-count) (start .args .ai) (start .args .bi) (start .pre .1) (start .args .al) (start .args .aa)
-    (start .args .bl) (start .args .ba) (start .args .value) (c .before .before .if1 .taken) (c .before .load-mass .ensures) (c .through .ensures)
+    same-body (now (start .args .s)) _ _ _ (start .pre .1) _ _
+    _ _ _ (c .before .before .if1 .taken) (c .before .load-mass .ensures) (c .through .ensures)
 
 returns-2 : tie.Need-returns-2
 returns-2 c =
     let start = c .before .before in
-    other-body (now (start .args .s)) (start .args .body-count) (start .args .ai) (start .args .bi) (start .pre .1) (start .args .al) (start .args .aa)
-    (start .args .bl) (start .args .ba) (start .args .value) (c .if1 .left)
+    other-body (now (start .args .s)) _ _ _ (start .pre .1) (start .args .al) (start .args .aa)
+    (start .args .bl) (start .args .ba) _ (c .if1 .left)
 
 pub add-through-spec : {M : Type 1} → statement M
 add-through-spec =

@@ -6,8 +6,7 @@ use Rattle.solves.proofs.operator.cross_end.Tie as tie
 
 returns : tie.Need-returns
 returns c =
-    let start = c .before .before .before in
-    end-is _ _ _ _ (start .args .b) (start .args .value) (c .before .add-through .ensures) (c .add-through2 .ensures)
+    end-is _ _ _ _ _ _ (c .before .add-through .ensures) (c .add-through2 .ensures)
 
 pub cross-end-spec : {M : Type 1} → statement M
 cross-end-spec =

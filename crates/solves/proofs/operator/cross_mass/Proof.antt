@@ -8,15 +8,13 @@ use Rattle.solves.proofs.operator.cross_mass.Tie as tie
 returns : tie.Need-returns
 returns c =
     let at-cross-end = c .before .before .before in
-    let start = at-cross-end .before .before in
-    cross-there _ (start .args .a) (start .args .b) zero-is (at-cross-end .cross-end .ensures) (c .before .before .cross-end2 .ensures)
+    cross-there _ _ _ zero-is (at-cross-end .cross-end .ensures) (c .before .before .cross-end2 .ensures)
     (c .before .is-finite .ensures) (c .if1 .taken)
 
 returns-2 : tie.Need-returns-2
 returns-2 c =
     let at-cross-end = c .before .before .before in
-    let start = at-cross-end .before .before in
-    cross-over _ (start .args .a) (start .args .b) zero-is (at-cross-end .cross-end .ensures) (c .before .before .cross-end2 .ensures)
+    cross-over _ _ _ zero-is (at-cross-end .cross-end .ensures) (c .before .before .cross-end2 .ensures)
     (c .before .is-finite .ensures) (c .if1 .left)
 
 pub cross-mass-spec : {M : Type 1} → statement M

@@ -19,7 +19,7 @@ returns c =
     let start = at-transpose .before .before .before in
     let end = at-transpose .transpose .result in
     does-eq (fails _ end (at-done .done .ensures) (c .if1 .taken))
-    (operator-pushes-failed (start .args .t) (start .pre .0) (start .args .input) (start .args .out)
+    (operator-pushes-failed _ (start .pre .0) _ _
     (failed _ end (at-done .done .ensures) (at-transpose .transpose .ensures .0) (c .if1 .taken)))
 
 returns-2 : tie.Need-returns-2
@@ -31,7 +31,7 @@ returns-2 c =
     let start = at-transpose .before .before .before in
     let end = at-scale-all .scale-all .result in
     does-eq (fails _ end (at-done2 .done2 .ensures) (c .if2 .taken))
-    (operator-scales-failed (start .args .t) (start .pre .0) (start .args .input) (start .args .out)
+    (operator-scales-failed _ (start .pre .0) _ _
     (went _ (at-transpose .transpose .result) (at-done .done .ensures) (at-transpose .transpose .ensures .0) (at-scale-all .before .before .if1 .left))
     (failed _ end (at-done2 .done2 .ensures) (at-scale-all .scale-all .ensures) (c .if2 .taken)))
 
@@ -53,7 +53,7 @@ returns-3 c =
     let at-done = at-scale-all .before .before .before in
     let at-transpose = at-done .before .before .before in
     let start = at-transpose .before .before .before in
-    operator-rates (start .args .t) (start .pre .0) (start .args .input) (start .args .out)
+    operator-rates _ (start .pre .0) _ _
     (went _ (at-transpose .transpose .result) (at-done .done .ensures) (at-transpose .transpose .ensures .0) (at-scale-all .before .before .if1 .left))
     (went _ (at-scale-all .scale-all .result) (at-if2 .before .done2 .ensures) (at-scale-all .scale-all .ensures) (at-if2 .if2 .left))
     (c .before .before .rates .ensures)

@@ -10,7 +10,7 @@ returns c =
     let at-pushed = at-store-generalized .before .before in
     let at-load-generalized = at-pushed .before in
     let start = at-load-generalized .before .before .before in
-    into-done _ _ _ _ _ (start .args .body-count) (start .pre .1) (start .pre .2) (at-load-generalized .load-generalized .ensures)
+    into-done _ _ _ _ _ _ (start .pre .1) (start .pre .2) (at-load-generalized .load-generalized .ensures)
     (at-pushed .pushed .ensures) (at-store-generalized .store-generalized .ensures)
 
 pub push-into-spec : {M : Type 1} → statement M

@@ -8,8 +8,7 @@ returns : tie.Need-returns
 returns c =
     let at-push-into2 = c .before .before in
     let at-push-into = at-push-into2 .before .before .before .before in
-    let start = at-push-into .before .before .before in
-    row-then (start .args .body-count) (start .args .row) (start .args .value) _ (at-push-into .push-into .ensures) (at-push-into2 .push-into2 .ensures)
+    row-then _ _ _ _ (at-push-into .push-into .ensures) (at-push-into2 .push-into2 .ensures)
 
 pub push-row-spec : {M : Type 1} → statement M
 push-row-spec =

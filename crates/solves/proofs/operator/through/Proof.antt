@@ -7,8 +7,7 @@ use Rattle.solves.proofs.operator.through.Tie as tie
 returns : tie.Need-returns
 returns c =
     let at-dot = c .before .before .before in
-    let start = at-dot .before in
-    through-is (start .args .mass) _ (start .args .aa) _ (start .args .ba) (at-dot .dot .ensures) (c .before .apply .ensures) (c .dot2 .ensures)
+    through-is _ _ _ _ _ (at-dot .dot .ensures) (c .before .apply .ensures) (c .dot2 .ensures)
 
 pub through-spec : {M : Type 1} → statement M
 through-spec =

@@ -8,8 +8,7 @@ use Rattle.solves.proofs.operator.tolerance_for.Tie as tie
 
 returns : tie.Need-returns
 returns c =
-    let start = c .before .before .before .before in
-    tolerance-stop (start .args .scale) _ (sum-over (c .before .before .dot .ensures) (c .enum-told .given .1))
+    tolerance-stop _ _ (sum-over (c .before .before .dot .ensures) (c .enum-told .given .1))
 
 returns-2 : tie.Need-returns-2
 returns-2 c =

@@ -11,7 +11,7 @@ less-products-requires c κs =
     let at-column-line = at-side-line .before in
     let start = at-column-line .before .before in (
       start .pre .0,
-      column-lies (start .args .i) _ (at-column-line .column-line .ensures) (omega arith) (omega (arith, c .band-end .ensures)),
+      column-lies _ _ (at-column-line .column-line .ensures) (omega arith) (omega (arith, c .band-end .ensures)),
       side-lies _ (at-side-line .side-line .ensures) (omega (arith, c .band-end .ensures)),
     )
 

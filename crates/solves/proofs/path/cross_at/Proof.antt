@@ -10,13 +10,13 @@ load-row-requires : tie.Need-load-row-requires
 load-row-requires c κs =
     let start = c .before .before in
     let pre = start .pre in
-    omega (arith, pre .1 (start .args .i) (pre .2), pre .0 .whole, pre .0 .most, pre .0 .table)
+    omega (arith, pre .1 _ (pre .2), pre .0 .whole, pre .0 .most, pre .0 .table)
 
 load-row-requires-2 : tie.Need-load-row-requires-2
 load-row-requires-2 c κs =
     let start = c .before .before .before .before in
     let pre = start .pre in
-    omega (arith, pre .1 (start .args .j) (pre .3), pre .0 .whole, pre .0 .most, pre .0 .table)
+    omega (arith, pre .1 _ (pre .3), pre .0 .whole, pre .0 .most, pre .0 .table)
 
 cross-mass-requires : tie.Need-cross-mass-requires
 cross-mass-requires c κs =

@@ -12,7 +12,7 @@ less-products-requires c κs =
     let at-band-start = at-row-line .before in
     let start = at-band-start .before .before in (
       start .pre .0,
-      row-lies (start .args .i) _ (at-row-line .row-line .ensures) (omega arith) (omega arith),
+      row-lies _ _ (at-row-line .row-line .ensures) (omega arith) (omega arith),
       side-lies _ (c .side-line .ensures) (omega (arith, at-band-start .band-start .ensures)),
     )
 

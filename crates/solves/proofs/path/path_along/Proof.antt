@@ -23,9 +23,9 @@ returns c =
     let at-path-factored = at-done .before .before .before in
     let start = at-path-factored .before .before .before in
     let end = at-path-factored .path-factored .result in
-    new-ended (vecAt (at-path-factored .path-factored .last .0) SOLUTION (start .args .t .rows)) (c .new .ensures)
+    new-ended (vecAt (at-path-factored .path-factored .last .0) SOLUTION _) (c .new .ensures)
     (does-eq (ap (λ x. ran x 0 0) (fails _ end (at-done .done .ensures) (at-if1 .if1 .taken)))
-    (along-refused (start .args .t) (start .pre .0) (now (start .args .order))
+    (along-refused _ (start .pre .0) (now (start .args .order))
     (failed _ end (at-done .done .ensures) (at-path-factored .path-factored .ensures) (at-if1 .if1 .taken))))
 
 returns-2 : tie.Need-returns-2
@@ -34,8 +34,8 @@ returns-2 c =
     let at-done = at-tolerance-for .before .before .before in
     let at-path-factored = at-done .before .before .before in
     let start = at-path-factored .before .before .before in
-    new-ended (vecAt (at-path-factored .path-factored .last .0) SOLUTION (start .args .t .rows)) (c .new2 .ensures)
-    (along-intolerant (start .args .t) (start .pre .0) (now (start .args .order))
+    new-ended (vecAt (at-path-factored .path-factored .last .0) SOLUTION _) (c .new2 .ensures)
+    (along-intolerant _ (start .pre .0) (now (start .args .order))
     (went _ (at-path-factored .path-factored .result) (at-done .done .ensures) (at-path-factored .path-factored .ensures)
     (at-tolerance-for .before .before .if1 .left))
     (sum-over (at-tolerance-for .tolerance-for .ensures) (c .before .enum-told .given .1) ∙ ap
@@ -56,7 +56,7 @@ returns-3 c =
     let at-if1 = at-tolerance .before .before .before .before in
     let at-path-factored = at-if1 .before .before .before .before in
     let start = at-path-factored .before .before .before in
-    along-whole (start .args .t) (start .pre .0) (now (start .args .order))
+    along-whole _ (start .pre .0) (now (start .args .order))
     (went _ (at-path-factored .path-factored .result) (at-if1 .before .done .ensures) (at-path-factored .path-factored .ensures) (at-if1 .if1 .left))
     (sum-there (at-tolerance .before .before .tolerance-for .ensures) (at-tolerance .tolerance .given .1) ∙ ap
     (λ (x : Float). toleranceFor x (vecAt (at-path-factored .path-factored .last .0) RHS (start .args .t .rows))) tenth-12)

@@ -46,7 +46,7 @@ returns c =
     let start = at-loop .before .before .before in
     let end = at-path-entry .path-entry .result in
     does-eq (fails _ end (at-done .done .ensures) (c .if1 .taken))
-    (entries-stop (start .pre .0) (now (start .args .order)) (start .args .i) _ (at-loop .loop .inv .2) (at-loop .loop .inv .0)
+    (entries-stop (start .pre .0) (now (start .args .order)) _ _ (at-loop .loop .inv .2) (at-loop .loop .inv .0)
     (at-loop-test .loop-test .taken) (failed _ end (at-done .done .ensures) (at-path-entry .path-entry .ensures) (c .if1 .taken)))
 
 loop-again : tie.Need-loop-again Inv-loop μ-loop
@@ -58,7 +58,7 @@ loop-again c =
     let start = at-loop .before .before .before in (
       omega (arith, at-loop .loop .inv .0),
       omega (arith, at-loop-test .loop-test .taken),
-      entries-more (start .pre .0) (now (start .args .order)) (start .args .i) _ (at-loop .loop .inv .2) (at-loop .loop .inv .0)
+      entries-more (start .pre .0) (now (start .args .order)) _ _ (at-loop .loop .inv .2) (at-loop .loop .inv .0)
           (went _ (at-path-entry .path-entry .result) (at-done .done .ensures) (at-path-entry .path-entry .ensures) (c .if1 .left)),
     )
 
@@ -66,7 +66,7 @@ returns-2 : tie.Need-returns-2 Inv-loop μ-loop
 returns-2 c =
     let at-loop = c .before in
     let start = at-loop .before .before .before in
-    entries-end (start .pre .0) (now (start .args .order)) (start .args .i) _ (at-loop .loop .inv .2) (at-loop .loop .inv .1) (c .loop-test .left)
+    entries-end (start .pre .0) (now (start .args .order)) _ _ (at-loop .loop .inv .2) (at-loop .loop .inv .1) (c .loop-test .left)
 
 pub path-row-spec : {M : Type 1} → statement M
 path-row-spec =

@@ -42,7 +42,7 @@ returns c =
     let start = at-forward .before .before .before in
     let end = at-operator .operator .result in
     does-eq (fails _ end (at-done .done .ensures) (c .if1 .taken))
-    (refine-failed (start .args .t) (start .pre .0) (now (start .args .order)) (at-forward .forward .ensures) (at-backward .backward .ensures)
+    (refine-failed _ (start .pre .0) (now (start .args .order)) (at-forward .forward .ensures) (at-backward .backward .ensures)
     (failed _ end (at-done .done .ensures) (at-operator .operator .ensures) (c .if1 .taken)))
 
 returns-2 : tie.Need-returns-2
@@ -52,7 +52,7 @@ returns-2 c =
     let at-backward = at-operator .before .before .before .before in
     let at-forward = at-backward .before .before .before .before in
     let start = at-forward .before .before .before in
-    refine-done (start .args .t) (start .pre .0) (now (start .args .order)) (at-forward .forward .ensures) (at-backward .backward .ensures)
+    refine-done _ (start .pre .0) (now (start .args .order)) (at-forward .forward .ensures) (at-backward .backward .ensures)
     (went _ (at-operator .operator .result) (at-if1 .before .done .ensures) (at-operator .operator .ensures) (at-if1 .if1 .left))
     (c .before .before .difference .ensures)
 

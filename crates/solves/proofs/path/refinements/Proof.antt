@@ -31,8 +31,8 @@ abbrev μ-loop : tie.MeasureT-loop
 loop-holds : tie.Need-loop-holds Inv-loop μ-loop
 loop-holds c =
     let start = c .before in
-    came-none Refining 4 (Refines (start .args .t) (start .pre .0) (now (start .args .order)) (start .args .tolerance) (now (start .args .s))) _
-    (refinedAt (now (start .args .s)) (start .args .t .rows))
+    came-none Refining 4 (Refines _ (start .pre .0) (now (start .args .order)) (start .args .tolerance) (now (start .args .s))) _
+    (refinedAt (now (start .args .s)) _)
 
 refine-requires : tie.Need-refine-requires Inv-loop μ-loop
 refine-requires c κs =
@@ -48,10 +48,10 @@ returns c =
     let start = at-loop .before .before in
     let end = at-refine .refine .result in
     let k = at-loop .loop .k in
-    new-ended (vecAt (at-refine .refine .last .0) SOLUTION (start .args .t .rows)) (c .new .ensures)
+    new-ended (vecAt (at-refine .refine .last .0) SOLUTION _) (c .new .ensures)
     (does-eq (ap (λ x. ran x 0 k) (fails _ end (at-done .done .ensures) (at-if1 .if1 .taken)))
     (does-more refining-work
-    (refined-failed (start .args .t) (start .pre .0) (now (start .args .order)) (start .args .tolerance) _ (at-loop .loop .inv)
+    (refined-failed _ (start .pre .0) (now (start .args .order)) (start .args .tolerance) _ (at-loop .loop .inv)
     (at-refine .before .before .loop-test .taken)
     (failed _ end (at-done .done .ensures) (at-refine .refine .ensures) (at-if1 .if1 .taken)))))
 
@@ -62,9 +62,9 @@ returns-2 c =
     let at-refine = at-done .before .before .before in
     let at-loop = at-refine .before .before .before in
     let start = at-loop .before .before in
-    new-ended (vecAt (at-refine .refine .last .0) SOLUTION (start .args .t .rows)) (c .new2 .ensures)
+    new-ended (vecAt (at-refine .refine .last .0) SOLUTION _) (c .new2 .ensures)
     (does-more refining-work
-    (refined-over (start .args .t) (start .pre .0) (now (start .args .order)) (start .args .tolerance) _ (at-loop .loop .inv)
+    (refined-over _ (start .pre .0) (now (start .args .order)) _ _ (at-loop .loop .inv)
     (at-refine .before .before .loop-test .taken)
     (went _ (at-refine .refine .result) (at-done .done .ensures) (at-refine .refine .ensures)
     (at-residual-test .before .before .if1 .left))
@@ -77,7 +77,7 @@ loop-again c =
     let at-refine = at-done .before .before .before in
     let at-loop = at-refine .before .before .before in
     let start = at-loop .before .before in
-    refined-more (start .args .t) (start .pre .0) (now (start .args .order)) (start .args .tolerance) _ (at-loop .loop .inv)
+    refined-more _ (start .pre .0) (now (start .args .order)) _ _ (at-loop .loop .inv)
     (at-refine .before .before .loop-test .taken)
     (went _ (at-refine .refine .result) (at-done .done .ensures) (at-refine .refine .ensures) (at-residual-test .before .before .if1 .left))
     (at-residual-test .residual-test .result) (at-residual-test .residual-test .ensures) (c .enum-told .given .1)
@@ -86,11 +86,11 @@ returns-3 : tie.Need-returns-3 Inv-loop μ-loop
 returns-3 c =
     let at-loop = c .before .before in
     let start = at-loop .before .before in
-    new-ended (vecAt (at-loop .loop .s) SOLUTION (start .args .t .rows)) (c .new3 .ensures)
+    new-ended (vecAt (at-loop .loop .s) SOLUTION _) (c .new3 .ensures)
     (does-more refining-work
     (came-spent Refining 4
-    (Refines (start .args .t) (start .pre .0) (now (start .args .order)) (start .args .tolerance) (now (start .args .s))) _
-    (refinedAt (now (start .args .s)) (start .args .t .rows)) (at-loop .loop .inv) (c .before .loop-test .left)))
+    (Refines _ (start .pre .0) (now (start .args .order)) (start .args .tolerance) (now (start .args .s))) _
+    (refinedAt (now (start .args .s)) _) (at-loop .loop .inv) (c .before .loop-test .left)))
 
 pub refinements-spec : {M : Type 1} → statement M
 refinements-spec =

@@ -7,8 +7,7 @@ use Rattle.solves.proofs.places.store_generalized.Tie as tie
 returns : tie.Need-returns
 returns c =
     let at-store3 = c .before .before .before .before .before .before in
-    let start = at-store3 .before .before .before in
-    stored-generalized (start .args .place) (start .args .k) (start .args .g) (at-store3 .store3 .ensures) (c .before .before .store32 .ensures)
+    stored-generalized _ _ _ (at-store3 .store3 .ensures) (c .before .before .store32 .ensures)
 
 pub store-generalized-spec : {M : Type 1} → statement M
 store-generalized-spec =

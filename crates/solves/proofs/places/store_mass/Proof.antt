@@ -53,7 +53,7 @@ returns c =
     let at-store32 = c .before .before .before .before .before .before in
     let at-store3 = at-store32 .before .before .before .before in
     let start = at-store3 .before .before .before in
-    stored-mass (now (start .args .s)) (start .args .place) (start .args .k) (start .args .linear) (start .pre) (at-store3 .store3 .ensures)
+    stored-mass _ _ _ _ (start .pre) (at-store3 .store3 .ensures)
     (at-store32 .store32 .ensures) (c .before .before .store33 .ensures)
 
 pub store-mass-spec : {M : Type 1} → statement M

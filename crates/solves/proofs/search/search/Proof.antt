@@ -29,8 +29,8 @@ abbrev μ-loop : tie.MeasureT-loop
 loop-holds : tie.Need-loop-holds Inv-loop μ-loop
 loop-holds c =
     let start = c .before .before in
-    came-none Passing (c .limit .result) (PassAt (start .args .t) (start .pre) (start .args .which) (start .args .tolerance) (now (start .args .s))) _
-    (searchAt (now (start .args .s)) (start .args .t .rows) (start .args .start))
+    came-none Passing (c .limit .result) (PassAt _ (start .pre) (start .args .which) (start .args .tolerance) (now (start .args .s))) _
+    (searchAt (now (start .args .s)) _ _)
 
 search-pass-requires : tie.Need-search-pass-requires Inv-loop μ-loop
 search-pass-requires c κs =
@@ -43,16 +43,16 @@ returns c =
     let at-loop = at-search-pass .before .before .before in
     let at-limit = at-loop .before in
     let start = at-limit .before .before in
-    new-ended (vecAt (at-search-pass .search-pass .last .0) SOLUTION (start .args .t .rows)) (c .new .ensures)
-    (does-is (does-more passing-work (search-over (start .args .t .rows) (at-limit .limit .result)
-    (PassAt (start .args .t) (start .pre) (start .args .which) (start .args .tolerance) (now (start .args .s))) _ (start .args .start)
+    new-ended (vecAt (at-search-pass .search-pass .last .0) SOLUTION _) (c .new .ensures)
+    (does-is (does-more passing-work (search-over _ (at-limit .limit .result)
+    (PassAt _ (start .pre) (start .args .which) (start .args .tolerance) (now (start .args .s))) _ _
     (at-loop .loop .inv) (at-search-pass .before .before .loop-test .taken) (at-search-pass .search-pass .result)
     (does-is (at-search-pass .search-pass .ensures)
-    (pass-kept (start .args .t) (start .pre) (start .args .which) (start .args .tolerance) (at-loop .loop .inv .kept) _))
+    (pass-kept _ (start .pre) (start .args .which) (start .args .tolerance) (at-loop .loop .inv .kept) _))
     (c .before .before .end .given .1)))
     (ap
     (λ (m : ℕ). upTo m nonConvergent
-    (PassAt (start .args .t) (start .pre) (start .args .which) (start .args .tolerance) (now (start .args .s)))
+    (PassAt _ (start .pre) (start .args .which) (start .args .tolerance) (now (start .args .s)))
     (searchAt (now (start .args .s)) (start .args .t .rows) (start .args .start)))
     (at-limit .limit .ensures)))
 
@@ -61,11 +61,11 @@ loop-again c =
     let at-search-pass = c .before .before .before .before .before in
     let at-loop = at-search-pass .before .before .before in
     let start = at-loop .before .before .before in
-    search-again (start .args .t .rows) (at-loop .before .limit .result)
-    (PassAt (start .args .t) (start .pre) (start .args .which) (start .args .tolerance) (now (start .args .s))) _ (start .args .start)
+    search-again _ (at-loop .before .limit .result)
+    (PassAt _ (start .pre) (start .args .which) (start .args .tolerance) (now (start .args .s))) _ _
     (at-loop .loop .inv) (at-search-pass .before .before .loop-test .taken) (at-search-pass .search-pass .result)
     (does-is (at-search-pass .search-pass .ensures)
-    (pass-kept (start .args .t) (start .pre) (start .args .which) (start .args .tolerance) (at-loop .loop .inv .kept) _))
+    (pass-kept _ (start .pre) (start .args .which) (start .args .tolerance) (at-loop .loop .inv .kept) _))
     (c .before .next .given .1)
 
 returns-2 : tie.Need-returns-2 Inv-loop μ-loop
@@ -73,15 +73,15 @@ returns-2 c =
     let at-loop = c .before .before in
     let at-limit = at-loop .before in
     let start = at-limit .before .before in
-    new-ended (vecAt (at-loop .loop .s) SOLUTION (start .args .t .rows)) (c .new2 .ensures)
+    new-ended (vecAt (at-loop .loop .s) SOLUTION _) (c .new2 .ensures)
     (does-is
     (does-more passing-work
     (came-spent Passing (at-limit .limit .result)
-    (PassAt (start .args .t) (start .pre) (start .args .which) (start .args .tolerance) (now (start .args .s))) _
-    (searchAt (now (start .args .s)) (start .args .t .rows) (start .args .start)) (at-loop .loop .inv) (c .before .loop-test .left)))
+    (PassAt _ (start .pre) (start .args .which) (start .args .tolerance) (now (start .args .s))) _
+    (searchAt (now (start .args .s)) _ _) (at-loop .loop .inv) (c .before .loop-test .left)))
     (ap
     (λ (m : ℕ). upTo m nonConvergent
-    (PassAt (start .args .t) (start .pre) (start .args .which) (start .args .tolerance) (now (start .args .s)))
+    (PassAt _ (start .pre) (start .args .which) (start .args .tolerance) (now (start .args .s)))
     (searchAt (now (start .args .s)) (start .args .t .rows) (start .args .start)))
     (at-limit .limit .ensures)))
 

@@ -28,7 +28,7 @@ returns c =
     does-is (c .before .before .least-pass .ensures)
     (sym
     (ap
-    (λ (w : Which). PassAt (start .args .t) (start .pre) w (start .args .tolerance) (now (start .args .s))
+    (λ (w : Which). PassAt _ (start .pre) w (start .args .tolerance) (now (start .args .s))
     (searchAt (now (start .args .s)) (start .args .t .rows) (start .args .rho)))
     (at-enum-told .enum-told .given .1)))
 
@@ -39,7 +39,7 @@ returns-2 c =
     does-is (c .before .before .gradient-pass .ensures)
     (sym
     (ap
-    (λ (w : Which). PassAt (start .args .t) (start .pre) w (start .args .tolerance) (now (start .args .s))
+    (λ (w : Which). PassAt _ (start .pre) w (start .args .tolerance) (now (start .args .s))
     (searchAt (now (start .args .s)) (start .args .t .rows) (start .args .rho)))
     (at-enum-told2 .enum-told2 .given .1)))
 

@@ -22,7 +22,7 @@ returns c =
     let at-clear = at-copy .before .before .before .before in
     let start = at-clear .before .before .before in
     solves-numbered _ (c .before .before .least-squares .result)
-    (linear-least (start .args .t) (start .pre) (start .args .cyclic) (at-clear .clear .ensures) (at-copy .copy .ensures) (at-if1 .if1 .taken)
+    (linear-least _ (start .pre) _ (at-clear .clear .ensures) (at-copy .copy .ensures) (at-if1 .if1 .taken)
     (c .before .before .least-squares .ensures))
 
 path-order-requires : tie.Need-path-order-requires
@@ -50,7 +50,7 @@ returns-2 c =
     let at-clear = at-copy .before .before .before .before in
     let start = at-clear .before .before .before in
     solves-numbered _ (c .before .before .gradients .result)
-    (linear-gradients (start .args .t) (start .pre) (start .args .cyclic) (at-clear .clear .ensures) (at-copy .copy .ensures)
+    (linear-gradients _ (start .pre) _ (at-clear .clear .ensures) (at-copy .copy .ensures)
     (at-path-order .before .if1 .left)
     (order-no (at-path-order .path-order .result) _ (at-path-order .path-order .ensures .is) (not-yes _ (at-if2 .if2 .taken)))
     (c .before .before .gradients .ensures))
@@ -73,7 +73,7 @@ returns-3 c =
     let start = at-clear .before .before .before in
     let found = not-no _ (at-if2 .if2 .left) in
     solves-numbered _ (c .before .before .path-along .result)
-    (linear-path (start .args .t) (start .pre) (start .args .cyclic) (at-clear .clear .ensures) (at-copy .copy .ensures)
+    (linear-path _ (start .pre) _ (at-clear .clear .ensures) (at-copy .copy .ensures)
     (at-path-order .before .if1 .left) (at-path-order .path-order .result .rows)
     (order-yes (at-path-order .path-order .result) _ (at-path-order .path-order .ensures .is) found)
     (c .before .before .path-along .ensures))

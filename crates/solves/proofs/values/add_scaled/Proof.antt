@@ -26,7 +26,7 @@ loop-again c =
     let start = at-loop .before in (
       omega arith,
       simp length-set (omega arith),
-      two-more (λ (p q : Float). p ⊕ start .args .alpha ⊗ q) (start .args .x) (start .args .a) (start .args .b) _
+      two-more (λ (p q : Float). p ⊕ start .args .alpha ⊗ q) _ _ _ _
           (at-loop .loop .inv .2) (omega arith) (omega arith) (start .pre .0 .3) (start .pre .1 .3),
     )
 
@@ -34,7 +34,7 @@ returns : tie.Need-returns Inv-loop μ-loop
 unfolding plus
 returns c =
     let start = c .before .before in
-    two-is (λ (p q : Float). p ⊕ start .args .alpha ⊗ q) (start .args .x) (start .args .a) (start .args .b) _ (c .before .loop .inv .2) (omega arith)
+    two-is (λ (p q : Float). p ⊕ start .args .alpha ⊗ q) _ _ _ _ (c .before .loop .inv .2) (omega arith)
     (c .loop-test .left) (omega arith)
 
 pub add-scaled-spec : {M : Type 1} → statement M

@@ -23,7 +23,7 @@ loop-again c =
     let start = c .before .before .before in (
       omega arith,
       simp length-set (omega arith),
-      copy-more (start .args .from) (c .before .before .loop .inv .2) (omega arith) (omega arith) (start .pre .3),
+      copy-more _ (c .before .before .loop .inv .2) (omega arith) (omega arith) (start .pre .3),
     )
 
 returns : tie.Need-returns Inv-loop μ-loop
