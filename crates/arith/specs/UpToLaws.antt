@@ -9,18 +9,18 @@ use Rattle.arith.specs.Run.{Run, try, tick, failIf, leaveIf, onward, _>>
 -- a loop answered b: one of its turns did, and what every turn keeps held before it
 module _ {A B E : Type 0} (pass : A → Run (Turn A B) E)
     (P : A → Type 0) (keeps : (a b : A) → P a → pass a .ends ≡ go (go b) → P b) where
-  pub record Left (b : B) : Type 0 where
+  pub record LeftWith (b : B) : Type 0 where
     pub before : A
     pub holds : P before
     pub is : pass before .ends ≡ go (stop b)
 
-  pub left : (k : ℕ) (e : E) (a : A) (b : B) → P a → upTo k e pass a .ends ≡ go b → Left b
+  pub left : (k : ℕ) (e : E) (a : A) (b : B) → P a → upTo k e pass a .ends ≡ go b → LeftWith b
   unfolding upTo _>>=_
   left zero e a b p h = absurd (let z : _≡_ {A = ℕ} 0 1 = cc in omega arith)
   left (suc k) e a b p h = by (pass a .ends) refl (λ x q. left k e x b q) h
     where
-      by : (t : Turn (Turn A B) E) → pass a .ends ≡ t → ((x : A) → P x → upTo k e pass x .ends ≡ go b → Left b)
-          → onward (next (upTo k e pass)) t .ends ≡ go b → Left b
+      by : (t : Turn (Turn A B) E) → pass a .ends ≡ t → ((x : A) → P x → upTo k e pass x .ends ≡ go b → LeftWith b)
+          → onward (next (upTo k e pass)) t .ends ≡ go b → LeftWith b
       by (go (go x)) q ih g = ih x (keeps a x p q) g
       by (go (stop x)) q ih g = record { before = a; holds = p; is = q ∙ cc }
       by (stop x) q ih g = absurd (let z : _≡_ {A = ℕ} 0 1 = cc in omega arith)

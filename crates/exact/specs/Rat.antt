@@ -127,6 +127,7 @@ other-way a b t = let h = nleb→lt (a .p * b .d + b .n * a .d) (b .p * a .d + a
 pub ≤q-total : (x y : ℚ) → T (not (leq x y)) → y ≤q x
 ≤q-total = imp₂ (λ x y. not (leq x y)) (λ x y. leq y x) (λ a b t. ≤-mk b a (other-way a b t))
 
+-- x ≤ y exactly where y - x is not negative
 sub-mk : (a b : Fr) → mk a ≤q mk b → qn 0 ≤q mk b -q mk a
 unfolding _+q_ negq
 sub-mk a b t = ≤-mk (whole 0 0) (addF b (negF a)) (omega (arith, mk-≤ a b t))

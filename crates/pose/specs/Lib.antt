@@ -1,1 +1,2 @@
+-- Definitions that a reader must believe: Reply, what `pose` prints on an input.
 pub mod Reply

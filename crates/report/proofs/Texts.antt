@@ -194,32 +194,32 @@ unfolding numberOf
 number-puts x p q = puts-then p q
 
 module _ (n m : ℕ) {out : List ℕ} {at : ℕ} (room : at + 42 ≤ length out) {one : List ℕ} {a : ℕ} (p : Puts out at (decimalOf n) one a) where
-  pub counts-1 : a + 1 ≤ length one
-  counts-1 = left p 20 1 (decimal-length n) (omega arith)
+  pub counts-after-first : a + 1 ≤ length one
+  counts-after-first = left p 20 1 (decimal-length n) (omega arith)
 
   module _ {two : List ℕ} {b : ℕ} (q : Puts one a (32 ∷ []) two b) where
-    pub counts-2 : b + 20 ≤ length two
-    counts-2 = left (puts-then p q) 21 20 (simp length-append (omega (arith, decimal-length n))) (omega arith)
+    pub counts-after-space : b + 20 ≤ length two
+    counts-after-space = left (puts-then p q) 21 20 (simp length-append (omega (arith, decimal-length n))) (omega arith)
 
     module _ {three : List ℕ} {d : ℕ} (r : Puts two b (decimalOf m) three d) where
-      pub counts-3 : d + 1 ≤ length three
-      counts-3 = left (puts-then (puts-then p q) r) 41 1 (simp length-append (omega (arith, decimal-length n, decimal-length m))) (omega arith)
+      pub counts-after-second : d + 1 ≤ length three
+      counts-after-second = left (puts-then (puts-then p q) r) 41 1 (simp length-append (omega (arith, decimal-length n, decimal-length m))) (omega arith)
 
       pub counts-puts : {four : List ℕ} {e : ℕ} → Puts three d (10 ∷ []) four e → Puts out at (countsOf n m) four e
       unfolding countsOf
       counts-puts l = puts-then (puts-then (puts-then p q) r) l
 
 module _ (number n m : ℕ) {out : List ℕ} (room : HEAD-LINE ≤ length out) {one : List ℕ} {a : ℕ} (p : Puts out 0 (78 ∷ 79 ∷ 32 ∷ []) one a) where
-  pub no-1 : a + 20 ≤ length one
-  no-1 = left p 3 20 (omega arith) (omega arith)
+  pub no-after-word : a + 20 ≤ length one
+  no-after-word = left p 3 20 (omega arith) (omega arith)
 
   module _ {two : List ℕ} {b : ℕ} (q : Puts one a (decimalOf number) two b) where
-    pub no-2 : b + 1 ≤ length two
-    no-2 = left (puts-then p q) 23 1 (simp length-append (omega (arith, decimal-length number))) (omega arith)
+    pub no-after-number : b + 1 ≤ length two
+    no-after-number = left (puts-then p q) 23 1 (simp length-append (omega (arith, decimal-length number))) (omega arith)
 
     module _ {three : List ℕ} {d : ℕ} (r : Puts two b (32 ∷ []) three d) where
-      pub no-3 : d + 42 ≤ length three
-      no-3 = left (puts-then (puts-then p q) r) 24 42 (simp length-append (omega (arith, decimal-length number))) (omega arith)
+      pub no-after-space : d + 42 ≤ length three
+      no-after-space = left (puts-then (puts-then p q) r) 24 42 (simp length-append (omega (arith, decimal-length number))) (omega arith)
 
       pub no-puts : {four : List ℕ} {e : ℕ} → Puts three d (countsOf n m) four e → Puts out 0 (noLine number n m) four e
       unfolding noLine
@@ -241,12 +241,12 @@ module _ (number n m : ℕ) {out after : List ℕ} {r : ℕ} where
 
 module _ (bodies : List Float) where
   module _ (i : ℕ) {out : List ℕ} {at : ℕ} (room : at + BODY-LINE ≤ length out) {one : List ℕ} {a : ℕ} (p : Puts out at (decimalOf i) one a) where
-    pub line-1 : a + 221 ≤ length one
-    line-1 = left p 20 221 (decimal-length i) (omega arith)
+    pub line-after-index : a + 221 ≤ length one
+    line-after-index = left p 20 221 (decimal-length i) (omega arith)
 
     module _ {two : List ℕ} {b : ℕ} (q : Puts one a (numbersOf bodies (26 * i) 13) two b) where
-      pub line-2 : b + 1 ≤ length two
-      line-2 = left (puts-then p q) 241 1 (simp length-append (omega (arith, decimal-length i, numbers-length bodies (26 * i) 13))) (omega arith)
+      pub line-after-state : b + 1 ≤ length two
+      line-after-state = left (puts-then p q) 241 1 (simp length-append (omega (arith, decimal-length i, numbers-length bodies (26 * i) 13))) (omega arith)
 
       pub line-puts : {three : List ℕ} {d : ℕ} → Puts two b (10 ∷ []) three d → Puts out at (bodyLine bodies i) three d
       unfolding bodyLine

@@ -32,7 +32,8 @@ twistR x y z w a b c = nat 2 ⊗ (w ⊗ (y ⊗ c ⊖ z ⊗ b) ⊕ (y ⊗ (x ⊗ 
 abbrev pub turnBy : ℚ → ℚ → ℚ → ℚ → ℚ → ℚ → ℚ → ℚ → ℚ
 turnBy i x y z w a b c = a +q twist x y z w a b c *q i
 
--- ---- N (turned - r) as a function of the quaternion, r the first component of the turned vector: it is 0 at (x, y, z, w), and this is half its slope there. Variables: x, y, z, w, a, b, c, r
+-- ---- N (turned - r) as a function of the quaternion, r the first component of the turned vector: it is 0 at (x, y, z, w), and this is half its
+-- slope there. Variables: x, y, z, w, a, b, c, r
 abbrev slopeX : Rx
 slopeX = rv 0 ⊗ rv 4 ⊕ rv 1 ⊗ rv 5 ⊕ rv 2 ⊗ rv 6 ⊖ rv 7 ⊗ rv 0
 

@@ -1,7 +1,7 @@
 -- `put_body`: three pieces one after the other.
 use denote.Ref.{now}
 use native.Mathlib.Omega.{arith}
-use Rattle.report.proofs.Texts.{line-1, line-2, line-puts}
+use Rattle.report.proofs.Texts.{line-after-index, line-after-state, line-puts}
 use borrow.Author.Needs.{needs}
 use Rattle.report.proofs.text.put_body.Statement.{statement}
 use Rattle.report.proofs.text.put_body.Tie as tie
@@ -10,14 +10,14 @@ put-state-requires : tie.Need-put-state-requires
 put-state-requires c κs =
     let at-put-decimal = c .before .before .before in
     let start = at-put-decimal .before .before .before .before in
-    (line-1 (now (start .args .bodies)) (start .args .i) (start .pre .0) (at-put-decimal .put-decimal .ensures), omega arith)
+    (line-after-index (now (start .args .bodies)) (start .args .i) (start .pre .0) (at-put-decimal .put-decimal .ensures), omega arith)
 
 put-requires : tie.Need-put-requires
 put-requires c κs =
     let at-put-state = c .before .before .before .before in
     let at-put-decimal = at-put-state .before .before .before .before in
     let start = at-put-decimal .before .before .before .before in
-    line-2 (now (start .args .bodies)) (start .args .i) (start .pre .0) (at-put-decimal .put-decimal .ensures) (at-put-state .put-state .ensures)
+    line-after-state (now (start .args .bodies)) (start .args .i) (start .pre .0) (at-put-decimal .put-decimal .ensures) (at-put-state .put-state .ensures)
 
 returns : tie.Need-returns
 returns c =

@@ -1,5 +1,5 @@
 -- `put_counts`: four pieces one after the other.
-use Rattle.report.proofs.Texts.{counts-1, counts-2, counts-3, counts-puts}
+use Rattle.report.proofs.Texts.{counts-after-first, counts-after-space, counts-after-second, counts-puts}
 use borrow.Author.Needs.{needs}
 use Rattle.report.proofs.text.put_counts.Statement.{statement}
 use Rattle.report.proofs.text.put_counts.Tie as tie
@@ -8,14 +8,14 @@ put-requires : tie.Need-put-requires
 put-requires c κs =
     let at-put-decimal = c .before .before .before .before in
     let start = at-put-decimal .before .before .before in
-    counts-1 (start .args .nonlinear) (start .args .linear) (start .pre) (at-put-decimal .put-decimal .ensures)
+    counts-after-first (start .args .nonlinear) (start .args .linear) (start .pre) (at-put-decimal .put-decimal .ensures)
 
 put-decimal-requires-2 : tie.Need-put-decimal-requires-2
 put-decimal-requires-2 c κs =
     let at-put = c .before .before .before in
     let at-put-decimal = at-put .before .before .before .before .before in
     let start = at-put-decimal .before .before .before in
-    counts-2 (start .args .nonlinear) (start .args .linear) (start .pre) (at-put-decimal .put-decimal .ensures) (at-put .put .ensures)
+    counts-after-space (start .args .nonlinear) (start .args .linear) (start .pre) (at-put-decimal .put-decimal .ensures) (at-put .put .ensures)
 
 put-requires-2 : tie.Need-put-requires-2
 put-requires-2 c κs =
@@ -23,7 +23,7 @@ put-requires-2 c κs =
     let at-put = at-put-decimal2 .before .before .before .before in
     let at-put-decimal = at-put .before .before .before .before .before in
     let start = at-put-decimal .before .before .before in
-    counts-3 (start .args .nonlinear) (start .args .linear) (start .pre) (at-put-decimal .put-decimal .ensures) (at-put .put .ensures)
+    counts-after-second (start .args .nonlinear) (start .args .linear) (start .pre) (at-put-decimal .put-decimal .ensures) (at-put .put .ensures)
     (at-put-decimal2 .put-decimal2 .ensures)
 
 returns : tie.Need-returns

@@ -1,5 +1,5 @@
 -- `put_no`: four pieces one after the other.
-use Rattle.report.proofs.Texts.{no-1, no-2, no-3, no-puts}
+use Rattle.report.proofs.Texts.{no-after-word, no-after-number, no-after-space, no-puts}
 use borrow.Author.Needs.{needs}
 use Rattle.report.proofs.text.put_no.Statement.{statement}
 use Rattle.report.proofs.text.put_no.Tie as tie
@@ -8,14 +8,15 @@ put-decimal-requires : tie.Need-put-decimal-requires
 put-decimal-requires c κs =
     let at-put = c .before .before .before in
     let start = at-put .before .before .before .before in
-    no-1 (start .args .number) (start .args .nonlinear) (start .args .linear) (start .pre) (at-put .put .ensures)
+    no-after-word (start .args .number) (start .args .nonlinear) (start .args .linear) (start .pre) (at-put .put .ensures)
 
 put-requires-2 : tie.Need-put-requires-2
 put-requires-2 c κs =
     let at-put-decimal = c .before .before .before .before in
     let at-put = at-put-decimal .before .before .before .before in
     let start = at-put .before .before .before .before in
-    no-2 (start .args .number) (start .args .nonlinear) (start .args .linear) (start .pre) (at-put .put .ensures) (at-put-decimal .put-decimal .ensures)
+    no-after-number (start .args .number) (start .args .nonlinear) (start .args .linear) (start .pre) (at-put .put .ensures)
+    (at-put-decimal .put-decimal .ensures)
 
 put-counts-requires : tie.Need-put-counts-requires
 put-counts-requires c κs =
@@ -23,7 +24,7 @@ put-counts-requires c κs =
     let at-put-decimal = at-put2 .before .before .before .before .before in
     let at-put = at-put-decimal .before .before .before .before in
     let start = at-put .before .before .before .before in
-    no-3 (start .args .number) (start .args .nonlinear) (start .args .linear) (start .pre) (at-put .put .ensures)
+    no-after-space (start .args .number) (start .args .nonlinear) (start .args .linear) (start .pre) (at-put .put .ensures)
     (at-put-decimal .put-decimal .ensures) (at-put2 .put2 .ensures)
 
 returns : tie.Need-returns
