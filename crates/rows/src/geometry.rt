@@ -36,7 +36,9 @@ ghost use Rattle.rows.specs.Append.{endsAs, axisAs, relativeAs, rowAs, S
 
 // The doubles of a row, and where its value and its tolerance stand among them.
 pub const ROW: usize = 14;
+
 pub const VALUE: usize = 12;
+
 pub const TOLERANCE: usize = 13;
 
 // The doubles of six rows: no joint has more.
