@@ -21,7 +21,7 @@ use Rattle.arith.specs.Fault.{number, arithmeticOverflow}
 use Rattle.arith.specs.Angle.{PI, TAU, sineSum, cosineSum, halfTurn, doubled, turnOf, sinCosOf}
 use Rattle.arith.specs.Angle.{halfTangent, arcSum, octant, quadrant, facing, angleOf, atan2Of, remTauOf}
 use Rattle.arith.specs.Answered.{sinCosNumber, SinCosAnswered, angleNumber, Atan2Answered}
-use Rattle.arith.specs.declared.angle.Turn.{Turn}
+use Rattle.arith.specs.declared.angle.SineCosine.{SineCosine}
 use Rattle.arith.specs.declared.angle.SinCos.{SinCos}
 use Rattle.arith.specs.declared.angle.SinCos.the-variants as Sines
 use Rattle.arith.specs.declared.angle.Angle.{Angle}
@@ -51,7 +51,7 @@ module _ (x : Float) where
   turn-small zero n h = absurd (n refl)
   turn-small (suc k) n h = cond-yes _ _ h
 
-  pub turn-large : (k : ℕ) {t : Turn} → (k ≡ 0 → ⊥) → Ieee.le x (F 0x3fe0_0000_0000_0000) ≡ false
+  pub turn-large : (k : ℕ) {t : SineCosine} → (k ≡ 0 → ⊥) → Ieee.le x (F 0x3fe0_0000_0000_0000) ≡ false
       → t ≡ turnOf (k - 1) (x ⊗ F 0x3fe0_0000_0000_0000) → doubled t ≡ turnOf k x
   unfolding ofBits round turnOf
   turn-large zero n h e = absurd (n refl)
@@ -63,7 +63,7 @@ pub sines-low : (h : Float) → Ieee.lt h (F 0) ≡ true → Sines.Refused ≡ s
 unfolding ofBits round sinCosOf
 sines-low h p = cond-yes _ _ p
 
-pub sines-in : (h : Float) {t : Turn} → Ieee.lt h (F 0) ≡ false → Ieee.le h (F 0x4010_0000_0000_0000) ≡ true → t ≡ turnOf 3 h → Sines.Value t ≡ sinCosOf h
+pub sines-in : (h : Float) {t : SineCosine} → Ieee.lt h (F 0) ≡ false → Ieee.le h (F 0x4010_0000_0000_0000) ≡ true → t ≡ turnOf 3 h → Sines.Value t ≡ sinCosOf h
 unfolding ofBits round sinCosOf
 sines-in h p q e = ap Sines.Value e ∙ cond-yes _ _ q ∙ cond-no _ _ p
 
@@ -82,7 +82,7 @@ within-four (fin s m e) =
     let low : not (Ieee.lt h (F 0)) ≡ Ieee.le (F 0) h = ap not (lt-val h (F 0) tt tt) ∙ Bool·not-not _ ∙ sym (le-val (F 0) h tt tt) in
     ap (λ (b : Bool). b && test) low
 
-numbered-turn : (a b : Bool) (t : Turn)
+numbered-turn : (a b : Bool) (t : SineCosine)
     → sinCosNumber (cond a Sines.Refused (cond b (Sines.Value t) Sines.Refused)) ≡ cond (not a && b) 0 (number arithmeticOverflow)
 numbered-turn true b t = refl
 numbered-turn false true t = refl

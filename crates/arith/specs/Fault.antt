@@ -5,5 +5,4 @@ pub data Fault : Type 0 where
   nonConvergent arithmeticOverflow : Fault
 
 abbrev pub number : Fault → ℕ
-number nonConvergent = 10
-number arithmeticOverflow = 11
+number fault = elim fault [ nonConvergent ↦ 10 | arithmeticOverflow ↦ 11 ]

@@ -23,12 +23,8 @@ unfoldable pub tab : {A : Type 0} → ℕ → (ℕ → A) → List A  -- the lis
 tab zero f = []
 tab (suc k) f = tab k f ++ (f k ∷ [])
 
--- the list of f(0)? .. f(n - 1)?
-abbrev pub add : {A E : Type 0} → (ℕ → Turn A E) → ℕ → List A → Turn (List A) E
-add {A} {E} f k xs = f k >>= λ x. go (xs ++ (x ∷ []))
-
-abbrev pub each : {A E : Type 0} → ℕ → (ℕ → Turn A E) → Turn (List A) E
-each n f = loop n (add f) []
+abbrev pub each : {A E : Type 0} → ℕ → (ℕ → Turn A E) → Turn (List A) E  -- the list of f(0)? .. f(n - 1)?
+each n f = loop n (λ k xs. f k >>= λ x. go (xs ++ (x ∷ []))) []
 
 abbrev pub returnIf : {E : Type 0} → Bool → E → Turn (Unit {0}) E  -- if test { return e; }
 returnIf test e = cond test (stop e) (go tt)

@@ -6,7 +6,7 @@ use mathlib.Core.List.{List, [], _∷_, _++_}
 use native.Mathlib.Numerals.{add-one}
 use native.Mathlib.Omega.{arith}
 use native.Mathlib.Decide.{ℕ-discrete}
-use Rattle.arith.specs.Flow.{Turn, go, stop, _>>=_, turns, loop, add, each, every}
+use Rattle.arith.specs.Flow.{Turn, go, stop, _>>=_, turns, loop, each, every}
 
 pub turns-none : {A : Type 0} (f : ℕ → A → A) (a : A) → a ≡ turns f 0 a
 unfolding turns
@@ -66,16 +66,16 @@ module _ {A E : Type 0} (f : ℕ → A → Turn A E) (a : A) where
 
 module _ {A E : Type 0} (f : ℕ → Turn A E) where
   pub each-none : go [] ≡ each 0 f
-  each-none = loop-none (add f) []
+  each-none = loop-none _ []
 
   pub each-more : {k : ℕ} {xs : List A} {x : A} → go xs ≡ each k f → go x ≡ f k → go (xs ++ (x ∷ [])) ≡ each (k + 1) f
-  each-more {k} {xs} e h = loop-more (add f) [] e (then-go (λ (y : A). go (xs ++ (y ∷ []))) h)
+  each-more {k} {xs} e h = loop-more _ [] e (then-go (λ (y : A). go (xs ++ (y ∷ []))) h)
 
   pub each-stop : (n : ℕ) {k : ℕ} {xs : List A} {e : E} → k < n → go xs ≡ each k f → stop e ≡ f k → stop e ≡ each n f
-  each-stop n {k} {xs} h p q = loop-stop (add f) [] n h p (then-stop (λ (y : A). go (xs ++ (y ∷ []))) q)
+  each-stop n {k} {xs} h p q = loop-stop _ [] n h p (then-stop (λ (y : A). go (xs ++ (y ∷ []))) q)
 
   pub each-end : {n k : ℕ} {xs : List A} → k ≤ n → n ≤ k → go xs ≡ each k f → go xs ≡ each n f
-  each-end h g e = loop-end (add f) [] h g e
+  each-end h g e = loop-end _ [] h g e
 
 pub not-yes : (b : Bool) → not b ≡ true → b ≡ false
 not-yes true h = sym h

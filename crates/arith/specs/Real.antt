@@ -1,5 +1,5 @@
 -- The operations on doubles under short names, constants, and the definitions of src/number.rt.
-use Rattle.arith.specs.Words.{ℕ, Bool, true, false, cond, Float, nan, inf, fin, binary64, ofBits, round}
+use Rattle.arith.specs.Words.{ℕ, Bool, true, false, cond, Float, nan, inf, fin, binary64, ofBits, round, lt}
 use lib.Ieee as Ieee
 
 infixl 60 _⊕_ _⊖_
@@ -23,14 +23,10 @@ abbrev pub ratio : ℕ → ℕ → Float  -- the double nearest to the fraction 
 ratio p q = round binary64 false p q
 
 unfoldable pub isFinite : Float → Bool  -- no NaN and no infinity
-isFinite nan = false
-isFinite (inf s) = false
-isFinite (fin s m e) = true
+isFinite x = elim x [ nan ↦ false | inf s ↦ false | fin s m e ↦ true ]
 
 unfoldable pub absOf : Float → Float  -- the sign taken away
-absOf nan = nan
-absOf (inf s) = inf false
-absOf (fin s m e) = fin false m e
+absOf x = elim x [ nan ↦ nan | inf s ↦ inf false | fin s m e ↦ fin false m e ]
 
 abbrev pub maxOf : Float → Float → Float  -- the larger of two doubles: a where neither is larger
-maxOf a b = cond (Ieee.lt a b) b a
+maxOf a b = cond (lt a b) b a

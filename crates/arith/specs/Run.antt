@@ -1,7 +1,5 @@
--- A run with its two counters. `Run A E` is a Turn that counted: `go a` or `stop e`, with the nonlinear passes begun and the linear passes
--- counted on the way.
--- In a `do` block of a file that imports these `_>>=_` and `_>>_`, `x ← e` is `let x = e?` and the counts add up; a failure leaves with the
--- counts as they stand.
+-- A run with its two counters. `Run A E` is a Turn that counted: `go a` or `stop e`, with the nonlinear and the linear passes so far.
+-- In a `do` block of a file that imports these `_>>=_` and `_>>_`, `x ← e` is `let x = e?` and the counts add up; a failure keeps them.
 use Rattle.arith.specs.Words.{ℕ, zero, suc, _+_, Bool, cond}
 use Rattle.arith.specs.Flow.{Turn, go, stop}
 
@@ -25,16 +23,14 @@ ok a = try (go a)
 abbrev pub fail : {A E : Type 0} → E → Run A E
 fail e = try (stop e)
 
--- nonlinear_iterations += 1, linear_iterations += 1
-abbrev pub begin : {E : Type 0} → Run (Unit {0}) E
+abbrev pub begin : {E : Type 0} → Run (Unit {0}) E  -- nonlinear_iterations += 1
 begin = ran (go tt) 1 0
 
-abbrev pub tick : {E : Type 0} → Run (Unit {0}) E
+abbrev pub tick : {E : Type 0} → Run (Unit {0}) E  -- linear_iterations += 1
 tick = ran (go tt) 0 1
 
 abbrev pub onward : {A B E : Type 0} → (A → Run B E) → Turn A E → Run B E
-onward f (go a) = f a
-onward f (stop e) = fail e
+onward f t = elim t [ go a ↦ f a | stop e ↦ fail e ]
 
 infixl 10 _>>=_ _>>_
 unfoldable pub _>>=_ : {A B E : Type 0} → Run A E → (A → Run B E) → Run B E
@@ -46,8 +42,7 @@ r >> s = r >>= λ _. s
 unfoldable pub failIf : {E : Type 0} → Bool → E → Run (Unit {0}) E  -- if test { return Err(e); }
 failIf test e = cond test (fail e) (ok tt)
 
--- how a pass ends: the next one starts from a, or the loop is left with b
-abbrev pub again : {A B E : Type 0} → A → Run (Turn A B) E
+abbrev pub again : {A B E : Type 0} → A → Run (Turn A B) E  -- how a pass ends: the next one starts from a, or the loop is left with b
 again a = ok (go a)
 
 abbrev pub leave : {A B E : Type 0} → B → Run (Turn A B) E
@@ -57,8 +52,7 @@ unfoldable pub leaveIf : {A B E : Type 0} → Bool → B → Run (Turn A B) E �
 leaveIf test b rest = cond test (leave b) rest
 
 abbrev pub next : {A B E : Type 0} → (A → Run B E) → Turn A B → Run B E
-next f (go a) = f a
-next f (stop b) = ok b
+next f t = elim t [ go a ↦ f a | stop b ↦ ok b ]
 
 unfoldable pub upTo : {A B E : Type 0} → ℕ → E → (A → Run (Turn A B) E) → A → Run B E  -- for _ in 0..most { pass } Err(e)
 upTo zero e pass a = fail e

@@ -15,13 +15,13 @@ pub(crate) const TAU: f64 = 6.283185307179586;
 const HALF_PI: f64 = 1.5707963267948966;
 
 // Sine s and cosine c of one angle.
-pub struct Turn {
+pub struct SineCosine {
     pub s: f64,
     pub c: f64,
 }
 
 pub enum SinCos {
-    Value(Turn),
+    Value(SineCosine),
     // The angle is below 0, above 4 or not finite: refusal 11.
     Refused,
 }
@@ -67,28 +67,28 @@ fn cosine_sum(x: f64) -> f64
 }
 
 // The sums at an angle of at most 1/2.
-fn half_turn(x: f64) -> Turn
+fn half_turn(x: f64) -> SineCosine
     ensures { λ r. ⌜ r ≡ halfTurn x ⌝ }
 {
-    Turn {
+    SineCosine {
         s: sine_sum(x),
         c: cosine_sum(x),
     }
 }
 
 // Twice the angle, both from the old sine and cosine.
-fn doubled(t: Turn) -> Turn
+fn doubled(t: SineCosine) -> SineCosine
     ensures { λ r. ⌜ r ≡ doubled t ⌝ }
 {
     let d = 2.0 * t.s;
-    Turn {
+    SineCosine {
         s: d * t.c,
         c: 1.0 - d * t.s,
     }
 }
 
 // The angle halved until it is at most 0.5, but at most `halvings` times; each halving is undone by a doubling.
-fn halved(halvings: usize, x: f64) -> Turn
+fn halved(halvings: usize, x: f64) -> SineCosine
     ensures { λ r. ⌜ r ≡ turnOf halvings x ⌝ }
 {
     if halvings == 0 {

@@ -29,7 +29,7 @@ use Rattle.rows.specs.declared.body.BodyAnswer.{BodyAnswer}
 use Rattle.rows.specs.declared.body.DriftPass.{DriftPass}
 use Rattle.rows.specs.declared.body.DriftPass.the-variants as Passes
 use Rattle.rows.specs.declared.End.the-variants as Ends
-use Rattle.rows.specs.Fault.{nonConvergent, arithmeticOverflow, Result, vectorOr, tryFinite, tryLength, tryRotate, try}
+use Rattle.rows.specs.Fault.{nonConvergent, arithmeticOverflow, Result, vectorOr, tryFinite, tryLength, tryRotate, orLeave}
 use Rattle.rows.specs.Body.{worldCenterOfMassOf, newOf, inverseAngularMassOf, omegaOf, withMomenta, placedAt, kickOf, anchorOf, integrate}
 use Rattle.rows.specs.Body.{passOf, settled, driftOf, originOf, stateOf, sameVec3, sameQuat, stateWith}
 use Rattle.rows.specs.Unit.{UnitOf, tryRotateAsUnit, integrateAsUnit, inFrame, worldCenterAsUnit}
@@ -207,42 +207,42 @@ module _ (self : MomentumBody) (dt : Float) (omega : Vec3) where
   -- what `passOf` does with the next omega
   abbrev ending : Vec3 → Turn Vec3 (Result Quat)
   ending next = do
-    residual ← try (tryLength (subOf next omega))
-    size ← try (tryLength next)
+    residual ← orLeave (tryLength (subOf next omega))
+    size ← orLeave (tryLength next)
     _ ← returnIf (nearOf residual size) (integrate (self .rotation) next dt)
     go next
 
   pub pass-half-lost : over ≡ integrate (self .rotation) omega (dt ⊗ ratio 1 2) → stop over ≡ passOf self dt omega
   unfolding passOf
-  pass-half-lost h = then-stop _ (ap try h)
+  pass-half-lost h = then-stop _ (ap orLeave h)
 
   module _ {half : Quat} {b : MomentumBody} (hh : go half ≡ integrate (self .rotation) omega (dt ⊗ ratio 1 2))
       (eb : b ≡ placedAt self (self .center) half) where
     pub pass-omega-lost : over ≡ omegaOf b → stop over ≡ passOf self dt omega
     unfolding passOf
-    pass-omega-lost h = then-stop _ (ap try (h ∙ ap omegaOf eb)) ∙ then-go _ (ap try hh)
+    pass-omega-lost h = then-stop _ (ap orLeave (h ∙ ap omegaOf eb)) ∙ then-go _ (ap orLeave hh)
 
     module _ {next d : Vec3} (hn : go next ≡ omegaOf b) (ed : d ≡ subOf next omega) where
       after-omega : {r : Turn Vec3 (Result Quat)} → r ≡ ending next → r ≡ passOf self dt omega
       unfolding passOf
-      after-omega e = e ∙ then-go _ (ap try (hn ∙ ap omegaOf eb)) ∙ then-go _ (ap try hh)
+      after-omega e = e ∙ then-go _ (ap orLeave (hn ∙ ap omegaOf eb)) ∙ then-go _ (ap orLeave hh)
 
       pub pass-residual-lost : over ≡ tryLength d → stop over ≡ passOf self dt omega
-      pass-residual-lost h = after-omega (then-stop _ (ap try (h ∙ ap tryLength ed)))
+      pass-residual-lost h = after-omega (then-stop _ (ap orLeave (h ∙ ap tryLength ed)))
 
       module _ {o : OptionF64} {residual : Float} (eo : o ≡ checkedLengthOf d) (so : o ≡ Number.Some residual) where
         hr : go residual ≡ tryLength (subOf next omega)
         hr = number-go arithmeticOverflow eo so ∙ ap tryLength ed
 
         pub pass-size-lost : over ≡ tryLength next → stop over ≡ passOf self dt omega
-        pass-size-lost h = after-omega (then-stop _ (ap try h) ∙ then-go _ (ap try hr))
+        pass-size-lost h = after-omega (then-stop _ (ap orLeave h) ∙ then-go _ (ap orLeave hr))
 
         module _ {size : Float} (hs : go size ≡ tryLength next) where
           after-test : {t : Bool} {r : Turn Vec3 (Result Quat)} → near residual size ≡ t
               → r ≡ (returnIf t (integrate (self .rotation) next dt) >>= λ _. go next) → r ≡ passOf self dt omega
           after-test h e =
               e ∙ after-omega (ap (λ (t : Bool). returnIf t (integrate (self .rotation) next dt) >>= λ _. go next) (sym h ∙ near-is residual size)
-              ∙ then-go _ (ap try hs) ∙ then-go _ (ap try hr))
+              ∙ then-go _ (ap orLeave hs) ∙ then-go _ (ap orLeave hr))
 
           pub pass-settles : {unit : Quat} {r : Turn Vec3 (Result Quat)} → UnitOf (self .rotation) unit → near residual size ≡ true
               → r ≡ stop (integrateAsUnit unit next dt) → r ≡ passOf self dt omega

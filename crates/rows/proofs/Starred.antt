@@ -19,7 +19,7 @@ use Rattle.vectors.specs.declared.matrix.Mat3.{Mat3}
 use Rattle.vectors.specs.declared.matrix.Inverted.{Inverted}
 use Rattle.vectors.specs.declared.quaternion.Quat.{Quat}
 use Rattle.vectors.specs.Vector.{vec, zeroVec, axisX, axisY, axisZ, normalizeBy, checkedLengthOf}
-use Rattle.vectors.specs.Matrix.{columnOf, fromCols, correctionOf, placeOf, factorRowOf, factorOf, factorSpdOf, solveOf, done, solveSpdOf, inverseSpdOf}
+use Rattle.vectors.specs.Matrix.{columnOf, fromCols, correctionOf, entryOf, factorRowOf, factorOf, factorSpdOf, factorSolveOf, done, solveSpdOf, inverseSpdOf}
 use Rattle.vectors.specs.Quaternion.{quat, rotateVectorOf}
 use Rattle.rows.specs.declared.body.MomentumBody.{MomentumBody}
 use Rattle.rows.specs.declared.geometry.Kind.the-variants.{Distance}
@@ -126,6 +126,6 @@ right (line ∷ lines) = same (line .0) (line .1) && right lines
 
 starred : T (right table)
 unfolding right same numbers writeEqualityRows endsOf toleranceOf distanceRow anchorOf tryFinite rotateVectorOf normalizeBy checkedLengthOf
-    correctionOf placeOf factorRowOf factorOf factorSpdOf solveOf solveSpdOf inverseSpdOf turns loop _>>=_ horner arcSum halfTangent octant quadrant
+    correctionOf entryOf factorRowOf factorOf factorSpdOf factorSolveOf solveSpdOf inverseSpdOf turns loop _>>=_ horner arcSum halfTangent octant quadrant
     facing angleOf atan2Of hypotOf scaledRoot sqrt roundRoot root rootIn isFinite absOf add sub mul div neg lt le eq round toBits ofBits
 starred = tt

@@ -1,11 +1,9 @@
 -- body.rs: a body with its momenta, as the solver moves it.
-use Rattle.rows.specs.Words.{_^_, cond, Bool, not, _&&_, Float, Turn, go, stop, _>>=_, loop, returnIf, _⊕_, _⊗_, _⊘_, ratio, Vec3, Quat, addOf, subOf}
-use Rattle.rows.specs.Words.{scaleOf, divOf, conjugateOf, isNormalizedOf, integrateOf, Mat3, applyOf, RigidBody, BodyState, MomentumBody}
-use lib.Ieee as Ieee
-use Rattle.rows.specs.Fault.{nonConvergent, arithmeticOverflow, Result, quatOr, tryFinite, tryLength, tryRotate, try}
+use Rattle.rows.specs.Words.{_^_, Bool, cond, not, _&&_, Float, eq, le, _⊕_, _⊗_, _⊘_, ratio, Turn, go, stop, _>>=_, loop, returnIf, Vec3, Quat, Mat3}
+use Rattle.rows.specs.Words.{addOf, subOf, scaleOf, divOf, conjugateOf, isNormalizedOf, integrateOf, applyOf, RigidBody, BodyState, MomentumBody}
+use Rattle.rows.specs.Fault.{nonConvergent, arithmeticOverflow, Result, quatOr, tryFinite, tryLength, tryRotate, orLeave}
 
--- the body and the state with these parts
-abbrev pub bodyWith : Vec3 → Quat → Vec3 → Vec3 → Float → Vec3 → Mat3 → MomentumBody
+abbrev pub bodyWith : Vec3 → Quat → Vec3 → Vec3 → Float → Vec3 → Mat3 → MomentumBody  -- the body and the state with these parts
 bodyWith center rotation momentum spin mass local inverse =
     record { center = center; rotation = rotation; momentum = momentum; spin = spin; mass = mass; «center_of_mass» = local; «inverse_inertia» = inverse }
 
@@ -17,8 +15,7 @@ worldCenterOfMassOf origin rotation centerOfMass = do
   turned ← tryRotate rotation centerOfMass
   tryFinite (addOf turned origin)
 
--- fn new. That the inertia has an inverse is tested before any body is made (refusal 7).
-unfoldable pub newOf : RigidBody → Mat3 → Result MomentumBody
+unfoldable pub newOf : RigidBody → Mat3 → Result MomentumBody  -- fn new; that the inertia has an inverse was tested before (refusal 7)
 newOf body inverse = do
   localOmega ← tryRotate (conjugateOf (body .rotation)) (body .«angular_velocity»)
   spin ← tryRotate (body .rotation) (applyOf (body .inertia) localOmega)
@@ -34,8 +31,7 @@ inverseAngularMassOf self spin = do
 abbrev pub omegaOf : MomentumBody → Result Vec3  -- fn omega
 omegaOf self = inverseAngularMassOf self (self .spin)
 
--- the body with other momenta, and at another place
-abbrev pub withMomenta : MomentumBody → Vec3 → Vec3 → MomentumBody
+abbrev pub withMomenta : MomentumBody → Vec3 → Vec3 → MomentumBody  -- the body with other momenta, and at another place
 withMomenta self momentum spin = bodyWith (self .center) (self .rotation) momentum spin (self .mass) (self .«center_of_mass») (self .«inverse_inertia»)
 
 abbrev pub placedAt : MomentumBody → Vec3 → Quat → MomentumBody
@@ -55,19 +51,17 @@ anchorOf self local = do
 abbrev pub integrate : Quat → Vec3 → Float → Result Quat  -- rotation.integrate_world_angular_velocity(omega, dt)?
 integrate rotation omega dt = quatOr arithmeticOverflow (integrateOf rotation omega dt)
 
--- one pass of the loop, from the rotation at entry: the next omega, or the loop is left with the rotation at the end of the step
-unfoldable pub passOf : MomentumBody → Float → Vec3 → Turn Vec3 (Result Quat)
+unfoldable pub passOf : MomentumBody → Float → Vec3 → Turn Vec3 (Result Quat)  -- a pass of the loop: the next omega, or the rotation at the end
 passOf self dt omega = do
-  half ← try (integrate (self .rotation) omega (dt ⊗ ratio 1 2))
-  next ← try (omegaOf (placedAt self (self .center) half))
-  residual ← try (tryLength (subOf next omega))
-  size ← try (tryLength next)
-  _ ← returnIf (Ieee.le residual (ratio 1 (10 ^ 14) ⊗ (ratio 1 1 ⊕ size))) (integrate (self .rotation) next dt)
+  half ← orLeave (integrate (self .rotation) omega (dt ⊗ ratio 1 2))
+  next ← orLeave (omegaOf (placedAt self (self .center) half))
+  residual ← orLeave (tryLength (subOf next omega))
+  size ← orLeave (tryLength next)
+  _ ← returnIf (le residual (ratio 1 (10 ^ 14) ⊗ (ratio 1 1 ⊕ size))) (integrate (self .rotation) next dt)
   go next
 
 abbrev pub settled : Turn Vec3 (Result Quat) → Result Quat  -- after MAX_ITERATIONS passes: Err(NonConvergent)
-settled (go omega) = stop nonConvergent
-settled (stop rotation) = rotation
+settled passes = elim passes [ go omega ↦ stop nonConvergent | stop rotation ↦ rotation ]
 
 unfoldable pub driftOf : MomentumBody → Float → Result MomentumBody  -- fn drift
 driftOf self dt = do
@@ -76,12 +70,11 @@ driftOf self dt = do
   rotation ← settled (loop 32 (λ k. passOf self dt) omega)
   go (placedAt self center rotation)
 
--- transform == other
-abbrev pub sameVec3 : Vec3 → Vec3 → Bool
-sameVec3 v w = Ieee.eq (v .x) (w .x) && Ieee.eq (v .y) (w .y) && Ieee.eq (v .z) (w .z)
+abbrev pub sameVec3 : Vec3 → Vec3 → Bool  -- transform == other
+sameVec3 v w = eq (v .x) (w .x) && eq (v .y) (w .y) && eq (v .z) (w .z)
 
 abbrev pub sameQuat : Quat → Quat → Bool
-sameQuat p q = Ieee.eq (p .x) (q .x) && Ieee.eq (p .y) (q .y) && Ieee.eq (p .z) (q .z) && Ieee.eq (p .w) (q .w)
+sameQuat p q = eq (p .x) (q .x) && eq (p .y) (q .y) && eq (p .z) (q .z) && eq (p .w) (q .w)
 
 unfoldable pub originOf : MomentumBody → Result Vec3  -- the origin, as Transform::new and set_transform take it
 originOf self = do
@@ -91,8 +84,7 @@ originOf self = do
   _ ← worldCenterOfMassOf origin (self .rotation) (self .«center_of_mass»)
   go origin
 
--- fn state: the transform keeps its old bits where the new one compares equal (set_transform)
-unfoldable pub stateOf : MomentumBody → BodyState → Result BodyState
+unfoldable pub stateOf : MomentumBody → BodyState → Result BodyState  -- fn state: the transform keeps its old bits where the new one compares equal
 stateOf self old = do
   origin ← originOf self
   linear ← tryFinite (divOf (self .momentum) (self .mass))

@@ -5,18 +5,14 @@ pub use Rattle.arith.specs.Fault.{Fault, nonConvergent, arithmeticOverflow, num
 abbrev pub Result : Type 0 → Type 0
 Result A = Turn A Fault
 
--- .ok_or(fault)
-abbrev pub vectorOr : Fault → OptionVec3 → Result Vec3
-vectorOr fault (OptionVec3.Some v) = go v
-vectorOr fault OptionVec3.None = stop fault
+abbrev pub vectorOr : Fault → OptionVec3 → Result Vec3  -- .ok_or(fault)
+vectorOr fault option = elim option [ OptionVec3.Some v ↦ go v | OptionVec3.None ↦ stop fault ]
 
 abbrev pub numberOr : Fault → OptionF64 → Result Float
-numberOr fault (OptionF64.Some x) = go x
-numberOr fault OptionF64.None = stop fault
+numberOr fault option = elim option [ OptionF64.Some x ↦ go x | OptionF64.None ↦ stop fault ]
 
 abbrev pub quatOr : Fault → OptionQuat → Result Quat
-quatOr fault (OptionQuat.Some q) = go q
-quatOr fault OptionQuat.None = stop fault
+quatOr fault option = elim option [ OptionQuat.Some q ↦ go q | OptionQuat.None ↦ stop fault ]
 
 unfoldable pub tryFinite : Vec3 → Result Vec3  -- fn finite
 tryFinite value = cond (finiteOf value) (go value) (stop arithmeticOverflow)
@@ -27,6 +23,5 @@ tryLength value = numberOr arithmeticOverflow (checkedLengthOf value)
 abbrev pub tryRotate : Quat → Vec3 → Result Vec3  -- fn rotate
 tryRotate rotation value = vectorOr arithmeticOverflow (rotateVectorOf rotation value)
 
-abbrev pub try : {A B : Type 0} → Result A → Turn A (Result B)  -- e? in a function whose loop a Result leaves
-try (go a) = go a
-try (stop fault) = stop (stop fault)
+abbrev pub orLeave : {A B : Type 0} → Result A → Turn A (Result B)  -- e? in a function whose loop a Result leaves
+orLeave result = elim result [ go a ↦ go a | stop fault ↦ stop (stop fault) ]

@@ -1,10 +1,8 @@
 -- geometry.rs: the equality rows of a joint between two bodies.
-use Rattle.rows.specs.Words.{_^_, cond, Bool, not, _&&_, true, false, _||_, List, [], _∷_, _++_, Float, binary64, neg, go, stop, _>>=_, returnIf, _⊕_}
-use Rattle.rows.specs.Words.{_⊗_, _⊘_, ratio, _⊖_, isFinite, absOf, maxOf, sqrt, PI, atan2Of, remTauOf, Angle, Vec3, Quat, addOf, subOf, scaleOf, vec}
-use Rattle.rows.specs.Words.{zeroVec, axisX, axisY, axisZ, negOf, dotOf, crossOf, tryNormalizeOf, conjugateOf, productOf, quatTryNormalizeOf}
-use Rattle.rows.specs.Words.{MomentumBody, Point, Line, Plane, Turning, Motions, Rod, Frame, Linear, Joint, EqualityRow, Ends, Axes, Cone, Relative}
-use Rattle.rows.specs.Words.{Swing}
-use lib.Ieee as Ieee
+use Rattle.rows.specs.Words.{_^_, List, [], _∷_, Bool, cond, not, _&&_, _||_, true, false, Float, binary64, neg, eq, le, _⊕_, _⊖_, _⊗_, _⊘_, ratio}
+use Rattle.rows.specs.Words.{isFinite, absOf, maxOf, sqrt, go, stop, _>>=_, returnIf, PI, atan2Of, remTauOf, _++_, Angle, Vec3, Quat, addOf, subOf}
+use Rattle.rows.specs.Words.{scaleOf, vec, zeroVec, axisX, axisY, axisZ, negOf, dotOf, crossOf, tryNormalizeOf, conjugateOf, productOf}
+use Rattle.rows.specs.Words.{quatTryNormalizeOf, MomentumBody, Linear, Turning, Motions, Joint, EqualityRow, Ends, Axes, Cone, Relative, Swing}
 use Rattle.rows.specs.Fault.{Fault, nonConvergent, arithmeticOverflow, Result, vectorOr, quatOr, tryFinite, tryLength, tryRotate}
 use Rattle.rows.specs.Body.{anchorOf}
 use Rattle.rows.specs.Motions.{motionsOf}
@@ -12,8 +10,7 @@ use Rattle.rows.specs.Motions.{motionsOf}
 abbrev pub epsilon : Float  -- f64::EPSILON
 epsilon = ratio 1 (2 ^ 52)
 
--- the locals pa, pb, delta, pa - a.center, pb - b.center, frame_a and frame_b
-unfoldable pub endsOf : Joint → MomentumBody → MomentumBody → Result Ends
+unfoldable pub endsOf : Joint → MomentumBody → MomentumBody → Result Ends  -- the locals pa, pb, delta, pa - a.center, pb - b.center, frame_a, frame_b
 endsOf joint a b = do
   pa ← anchorOf a (joint .«frame_a» .«local_anchor»)
   pb ← anchorOf b (joint .«frame_b» .«local_anchor»)
@@ -28,8 +25,7 @@ toleranceOf pa pb = do
   lb ← tryLength pb
   go (maxOf (ratio 32 1 ⊗ epsilon ⊗ (la ⊕ lb)) (ratio 1 (10 ^ 13)))
 
--- a row between the bodies of the joint: linear and angular of a, then of b
-abbrev pub rowWith : Joint → Vec3 → Vec3 → Vec3 → Vec3 → Float → Float → EqualityRow
+abbrev pub rowWith : Joint → Vec3 → Vec3 → Vec3 → Vec3 → Float → Float → EqualityRow  -- between the joint's bodies: linear and angular of a, then of b
 rowWith j la aa lb ab value tolerance =
     record { a = j .«body_a»; b = j .«body_b»; «linear_a» = la; «angular_a» = aa; «linear_b» = lb; «angular_b» = ab; value = value; tolerance = tolerance }
 
@@ -55,9 +51,9 @@ abbrev pub rowIf : Bool → Result EqualityRow → Result (List EqualityRow)  --
 rowIf locked row = cond locked (row >>= λ r. go (r ∷ [])) (go [])
 
 abbrev pub axesOf : Linear → Axes  -- linear: the axes of frame a along which the anchors' difference is held
-axesOf Point = record { x = true; y = true; z = true }
-axesOf Line = record { x = true; y = true; z = false }
-axesOf Plane = record { x = false; y = false; z = true }
+axesOf Linear.Point = record { x = true; y = true; z = true }
+axesOf Linear.Line = record { x = true; y = true; z = false }
+axesOf Linear.Plane = record { x = false; y = false; z = true }
 
 unfoldable pub linearRows : Linear → Joint → Ends → Result (List EqualityRow)  -- the loop over linear
 linearRows linear joint e = do
@@ -66,18 +62,17 @@ linearRows linear joint e = do
   z ← rowIf (axesOf linear .z) (linearRow joint e axisZ)
   go ((x ++ y) ++ z)
 
--- limit == 0.0, and cone.twist_limit.lower == cone.twist_limit.upper
-abbrev pub swingLocked : Float → Bool
-swingLocked limit = Ieee.eq limit (ratio 0 1)
+abbrev pub swingLocked : Float → Bool  -- limit == 0.0, and below cone.twist_limit.lower == cone.twist_limit.upper
+swingLocked limit = eq limit (ratio 0 1)
 
 abbrev pub twistLocked : Cone → Bool
-twistLocked cone = Ieee.eq (cone .«twist_lower») (cone .«twist_upper»)
+twistLocked cone = eq (cone .«twist_lower») (cone .«twist_upper»)
 
 abbrev pub anyLocked : Cone → Bool
 anyLocked cone = swingLocked (cone .«swing_x») || swingLocked (cone .«swing_y») || twistLocked cone
 
 abbrev pub halfTurned : Cone → Float → Bool
-halfTurned cone normSquared = Ieee.le normSquared (ratio 64 1 ⊗ epsilon ⊗ (ratio 64 1 ⊗ epsilon)) && anyLocked cone
+halfTurned cone normSquared = le normSquared (ratio 64 1 ⊗ epsilon ⊗ (ratio 64 1 ⊗ epsilon)) && anyLocked cone
 
 unfoldable pub relativeOf : Cone → Quat → Quat → Result Relative  -- if let Some(cone): the relative rotation, norm_squared and norm
 relativeOf cone frameA frameB = do
@@ -86,8 +81,7 @@ relativeOf cone frameA frameB = do
   _ ← returnIf (halfTurned cone normSquared) nonConvergent
   go (record { rotation = q; «norm_squared» = normSquared; norm = sqrt binary64 normSquared })
 
--- (numerator, gradient, scalar), axis 0 and axis 1
-abbrev pub swingX : Quat → Swing
+abbrev pub swingX : Quat → Swing  -- (numerator, gradient, scalar), axis 0 and axis 1
 swingX q = record { numerator = q .w ⊗ q .x ⊖ q .z ⊗ q .y; gradient = vec (q .w) (neg (q .z)) (neg (q .y)); scalar = q .x }
 
 abbrev pub swingY : Quat → Swing
@@ -111,8 +105,7 @@ swingRow joint frameA r swing =
     gradientRow joint frameA q gradient scalar value
 
 abbrev pub angleOr : Fault → Angle → Result Float  -- atan2, whose refusal is 11
-angleOr fault (Angle.Value angle) = go angle
-angleOr fault Angle.Refused = stop fault
+angleOr fault angle = elim angle [ Angle.Value x ↦ go x | Angle.Refused ↦ stop fault ]
 
 unfoldable pub twistRow : Joint → Quat → Relative → Float → Result EqualityRow  -- if cone.twist_limit.lower == cone.twist_limit.upper
 twistRow joint frameA r lower = do
@@ -120,7 +113,7 @@ twistRow joint frameA r lower = do
   half ← angleOr arithmeticOverflow (atan2Of (q .z) (q .w))
   let value = remTauOf (ratio 2 1 ⊗ half ⊖ lower ⊕ PI) ⊖ PI
   let gradient = scaleOf axisZ (ratio 2 1 ⊗ q .w ⊘ r .«norm_squared»)
-  _ ← returnIf (Ieee.le (PI ⊖ ratio 1 (10 ^ 10)) (absOf value)) nonConvergent
+  _ ← returnIf (le (PI ⊖ ratio 1 (10 ^ 10)) (absOf value)) nonConvergent
   gradientRow joint frameA q gradient (neg (ratio 2 1) ⊗ q .z ⊘ r .«norm_squared») value
 
 unfoldable pub coneRows : Joint → Ends → Cone → Result (List EqualityRow)
@@ -135,7 +128,7 @@ unfoldable pub alignedOf : Quat → Quat → Result Vec3  -- else if align: b's 
 alignedOf frameA frameB = do
   z ← tryRotate frameB axisZ
   za ← tryRotate frameA axisZ
-  _ ← returnIf (Ieee.le (dotOf za z) (ratio 1 (10 ^ 10))) nonConvergent
+  _ ← returnIf (le (dotOf za z) (ratio 1 (10 ^ 10))) nonConvergent
   go z
 
 unfoldable pub alignRow : Joint → Quat → Vec3 → Vec3 → Result EqualityRow
@@ -152,9 +145,7 @@ alignRows joint e = do
   go (x ∷ y ∷ [])
 
 abbrev pub turningRows : Turning → Joint → Ends → Result (List EqualityRow)
-turningRows Turning.Free joint e = go []
-turningRows Turning.Align joint e = alignRows joint e
-turningRows (Turning.Cone cone) joint e = coneRows joint e cone
+turningRows turns joint e = elim turns [ Turning.Free ↦ go [] | Turning.Align ↦ alignRows joint e | Turning.Cone cone ↦ coneRows joint e cone ]
 
 unfoldable pub finiteValues : List EqualityRow → Bool  -- out[..count].iter().all(|row| row.value.is_finite())
 finiteValues [] = true
@@ -168,11 +159,10 @@ frameRows linear turning joint e = do
   go (along ++ angular)
 
 abbrev pub motionRows : Motions → Joint → Ends → Result (List EqualityRow)  -- match joint.joint
-motionRows (Rod length) joint e = distanceRow joint e length >>= λ row. go (row ∷ [])
-motionRows (Frame linear turning) joint e = frameRows linear turning joint e
+motionRows (Motions.Rod length) joint e = distanceRow joint e length >>= λ row. go (row ∷ [])
+motionRows (Motions.Frame linear turning) joint e = frameRows linear turning joint e
 
--- fn write_equality_rows: the rows that it leaves in out, as many as it counts
-unfoldable pub writeEqualityRows : Joint → MomentumBody → MomentumBody → Result (List EqualityRow)
+unfoldable pub writeEqualityRows : Joint → MomentumBody → MomentumBody → Result (List EqualityRow)  -- the rows that it leaves in out
 writeEqualityRows joint a b = do
   e ← endsOf joint a b
   motionRows (motionsOf (joint .kind)) joint e

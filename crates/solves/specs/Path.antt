@@ -1,9 +1,8 @@
 -- solver.rs, fn path_solve up to its refinements. A path's Schur matrix is block tridiagonal once its rows are ordered along the path, and a
 -- Cholesky factor of band 12 solves it.
-use Rattle.solves.specs.Words.{ℕ, _+_, _*_, _-_, min, List, [], _∷_, _++_, Bool, false, cond, not, _||_, true, _&&_, length, getD, set, replicate, eqb}
-use Rattle.solves.specs.Words.{Float, binary64, _⊕_, _⊖_, _⊗_, _⊘_, ratio, isFinite, sqrt, go, stop, _>>=_, turns, loop, tab, each, returnIf, Turn, at}
-use Rattle.solves.specs.Words.{EqualityRow, nonConvergent, Result, MassResponse}
-use lib.Ieee as Ieee
+use Rattle.solves.specs.Words.{ℕ, _+_, _*_, _-_, min, List, [], _∷_, _++_, Bool, true, false, cond, not, _&&_, _||_, length, getD, set, replicate, eqb}
+use Rattle.solves.specs.Words.{Float, binary64, le, _⊕_, _⊖_, _⊗_, _⊘_, ratio, isFinite, sqrt, go, stop, _>>=_, turns, loop, tab, each, returnIf, Turn}
+use Rattle.solves.specs.Words.{at, EqualityRow, nonConvergent, Result, MassResponse}
 use Rattle.solves.specs.System.{System, rowsIn}
 use Rattle.solves.specs.Solver.{rowIn, operator, crossMass, difference}
 
@@ -14,15 +13,13 @@ abbrev pub none : ℕ  -- no block: usize::MAX in the Rust. There are at most 96
 none = 96
 
 -- ---- self.path_blocks: runs of rows on one pair of bodies; a and b are the bodies of the rows
--- row i joins another pair than the row before it
-unfoldable pub begins : List ℕ → List ℕ → ℕ → Bool
+unfoldable pub begins : List ℕ → List ℕ → ℕ → Bool  -- row i joins another pair than the row before it
 begins a b i = eqb i 0 || not (eqb (index a i) (index a (i - 1)) && eqb (index b i) (index b (i - 1)))
 
 unfoldable pub pathStarts : List ℕ → List ℕ → ℕ → List ℕ  -- the first row of each block
 pathStarts a b n = turns (λ i starts. cond (begins a b i) (starts ++ (i ∷ [])) starts) n []
 
--- ---- self.path_edges: two places for each body; a third block on a body declines the path
-unfoldable pub addEdge : ℕ → ℕ → List ℕ → Turn (List ℕ) (Unit {0})
+unfoldable pub addEdge : ℕ → ℕ → List ℕ → Turn (List ℕ) (Unit {0})  -- self.path_edges: two places a body; a third block on a body declines the path
 addEdge body block edges =
     cond (eqb (index edges (2 * body)) none) (go (set edges (2 * body) block))
     (cond (eqb (index edges (2 * body + 1)) none) (go (set edges (2 * body + 1) block))
@@ -43,8 +40,7 @@ follows block previous = not (eqb block none) && not (eqb block previous)
 unfoldable pub nextBlock : ℕ → ℕ → ℕ → ℕ  -- .find(follows)
 nextBlock x y previous = cond (follows x previous) x (cond (follows y previous) y none)
 
--- ---- self.path_order, and self.path_visited
-pub record Seen : Type 0 where
+pub record Seen : Type 0 where  -- self.path_order, and self.path_visited
   pub order : List ℕ
   pub visited : List Bool
 
@@ -56,10 +52,8 @@ pub record Walk : Type 0 where
 abbrev pub run : ℕ → ℕ → List ℕ  -- from..to
 run from to = tab (to - from) (λ k. from + k)
 
--- after as many turns as there are blocks the next one was visited
-abbrev pub walked : Turn Walk (Turn Seen (Unit {0})) → Turn Seen (Unit {0})
-walked (go w) = stop tt
-walked (stop seen) = seen
+abbrev pub walked : Turn Walk (Turn Seen (Unit {0})) → Turn Seen (Unit {0})  -- after as many turns as there are blocks the next one was visited
+walked turns = elim turns [ go w ↦ stop tt | stop seen ↦ seen ]
 
 module _ (a b : List ℕ) (n : ℕ) (starts edges : List ℕ) where
   -- one turn of the loop along a path: a visited block declines, and where no block follows the walk is at its end
@@ -94,9 +88,7 @@ pathOrder a b n = do
   _ ← returnIf (not (eqb (length (seen .order)) n)) tt
   go (seen .order)
 
--- ---- the factor: self.path_scale and self.path_band, twelve doubles a row, one row after the other
--- path_band[i][d]
-abbrev pub cell : List Float → ℕ → ℕ → Float
+abbrev pub cell : List Float → ℕ → ℕ → Float  -- path_band[i][d]: twelve doubles a row, one row after the other
 cell band i d = at band (12 * i + d)
 
 abbrev pub bandStart : ℕ → ℕ  -- i.saturating_sub(BAND_WIDTH - 1)
@@ -105,11 +97,10 @@ bandStart i = i - 11
 abbrev pub lessProducts : (ℕ → Float) → (ℕ → Float) → ℕ → Float → Float  -- for t in 0..terms { value -= x(t) * y(t); }
 lessProducts x y terms value = turns (λ t value. value ⊖ x t ⊗ y t) terms value
 
--- for k in band_start..j { value -= path_band[i][i - k] * path_band[j][j - k]; }
-unfoldable pub reduced : List Float → ℕ → ℕ → Float → Float
+unfoldable pub reduced : List Float → ℕ → ℕ → Float → Float  -- for k in band_start..j { value -= path_band[i][i - k] * path_band[j][j - k]; }
 reduced band i j value = lessProducts (λ t. cell band i (i - (bandStart i + t))) (λ t. cell band j (j - (bandStart i + t))) (j - bandStart i) value
 
-pub record Factor : Type 0 where
+pub record Factor : Type 0 where  -- self.path_scale and self.path_band
   pub scale : List Float
   pub band : List Float
 
@@ -120,7 +111,7 @@ module _ (rows : List EqualityRow) (masses : List MassResponse) (order : List �
   unfoldable pub scaleAt : ℕ → Result Float
   scaleAt i = do
     value ← crossMass (rowOf i) (rowOf i) masses
-    _ ← returnIf (Ieee.le value (ratio 0 1)) nonConvergent
+    _ ← returnIf (le value (ratio 0 1)) nonConvergent
     go (sqrt binary64 value)
 
   abbrev pub pathScale : ℕ → Result (List Float)
@@ -131,7 +122,7 @@ module _ (rows : List EqualityRow) (masses : List MassResponse) (order : List �
     entry ← crossMass (rowOf i) (rowOf j) masses
     let value : Float = reduced band i j (entry ⊘ (at scale i ⊗ at scale j)) in
         cond (eqb j i)
-        (cond (not (isFinite value) || Ieee.le value (ratio 0 1)) (stop nonConvergent) (go (set band (12 * i) (sqrt binary64 value))))
+        (cond (not (isFinite value) || le value (ratio 0 1)) (stop nonConvergent) (go (set band (12 * i) (sqrt binary64 value))))
         (go (set band (12 * i + (i - j)) (value ⊘ cell band j 0)))
 
   unfoldable pub pathRow : List Float → ℕ → List Float → Result (List Float)  -- for j in band_start..=i
@@ -146,13 +137,11 @@ module _ (rows : List EqualityRow) (masses : List MassResponse) (order : List �
     band ← pathFactor scale n
     go (record { scale = scale; band = band })
 
--- ---- the solves of the factor; y is self.path_rhs
--- for j in band_start..i { value -= path_band[i][i - j] * path_rhs[j]; }
-unfoldable pub forwardSum : List Float → List Float → ℕ → Float → Float
+-- y is self.path_rhs
+unfoldable pub forwardSum : List Float → List Float → ℕ → Float → Float  -- for j in band_start..i { value -= path_band[i][i - j] * path_rhs[j]; }
 forwardSum band y i value = lessProducts (λ t. cell band i (i - (bandStart i + t))) (λ t. at y (bandStart i + t)) (i - bandStart i) value
 
--- for j in i + 1..n.min(i + BAND_WIDTH) { value -= path_band[j][j - i] * path_rhs[j]; }
-unfoldable pub backwardSum : ℕ → List Float → List Float → ℕ → Float → Float
+unfoldable pub backwardSum : ℕ → List Float → List Float → ℕ → Float → Float  -- for j in i + 1..n.min(i + BAND_WIDTH) { value -= .. * path_rhs[j]; }
 backwardSum n band y i value = lessProducts (λ t. cell band (i + 1 + t) (i + 1 + t - i)) (λ t. at y (i + 1 + t)) (min n (i + 12) - (i + 1)) value
 
 pub record Back : Type 0 where
@@ -175,13 +164,11 @@ module _ (n : ℕ) (order : List ℕ) (scale band : List Float) where
   unfoldable pub backward : List Float → List Float → List Float
   backward y solution = turns backwardTurn n (record { y = y; solution = solution }) .solution
 
--- ---- fn path_solve: one refinement
 pub record Refined : Type 0 where
   pub solution : List Float
   pub residual : List Float
 
--- the factor's solution of the residual, added to the solution, and the residual again
-unfoldable pub refine : System → List Float → List ℕ → Factor → Refined → Result Refined
+unfoldable pub refine : System → List Float → List ℕ → Factor → Refined → Result Refined  -- the factor's solution of the residual is added
 refine system rhs order factor s =
     let n : ℕ = rowsIn system in let y : List Float = forward n order (factor .scale) (factor .band) (s .residual) in
     let solution : List Float = backward n order (factor .scale) (factor .band) y (s .solution) in do

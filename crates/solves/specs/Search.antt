@@ -1,25 +1,22 @@
 -- least_squares, path_solve and linear_solve of solver.rs, pass by pass. In a `do` block `x ← e` is `let x = e?` with the passes that it counted;
 -- `try` marks what counts none, `tick` is `self.linear_iterations += 1`.
-use Rattle.solves.specs.Words.{ℕ, _+_, _*_, _^_, List, Bool, cond, replicate, Float, binary64, _⊘_, ratio, sqrt, go, stop, Turn, nonConvergent}
-use lib.Ieee as Ieee
+use Rattle.solves.specs.Words.{ℕ, _+_, _*_, _^_, List, Bool, cond, replicate, Float, binary64, le, _⊘_, ratio, sqrt, go, stop, Turn, nonConvergent}
 use Rattle.arith.specs.Run.{_>>=_, _>>_, try, tick, failIf, again, leaveIf, upTo}
 use Rattle.solves.specs.System.{System, rowsIn, sideOf, Counting}
 use Rattle.solves.specs.Solver.{operator, dot, plus, minus, within, toleranceFor, Search, prepare, trueResidual, scaledSquare, nextDirection, advance}
 use Rattle.solves.specs.Path.{Factor, Refined, pathOrder, pathFactored, refine}
 
--- the most passes over n rows, of least squares and of the gradients
-abbrev pub leastMost : ℕ → ℕ
+abbrev pub leastMost : ℕ → ℕ  -- the most passes over n rows, of least squares and of the gradients
 leastMost n = 4 * n + 64
 
 abbrev pub gradientMost : ℕ → ℕ
 gradientMost n = 2 * n + 32
 
--- ---- fn least_squares: a pass is counted when it was gone through whole
-unfoldable pub leastPass : System → Float → Search → Counting (Turn Search (List Float))
-leastPass system tolerance s = leaveIf (Ieee.le (sqrt binary64 (s .rho)) tolerance) (s .solution) do
+unfoldable pub leastPass : System → Float → Search → Counting (Turn Search (List Float))  -- fn least_squares: counted when it was gone through whole
+leastPass system tolerance s = leaveIf (le (sqrt binary64 (s .rho)) tolerance) (s .solution) do
   product ← try (operator system (s .direction))
   denominator ← try (dot product product)
-  failIf (Ieee.le denominator (ratio 0 1)) nonConvergent
+  failIf (le denominator (ratio 0 1)) nonConvergent
   let alpha = s .rho ⊘ denominator
   let residual = minus (s .residual) alpha product
   normal ← try (operator system residual)
@@ -35,7 +32,7 @@ leastSquares system rhs solution residual = do
   upTo (leastMost (rowsIn system)) nonConvergent (leastPass system tolerance)
       (record { solution = solution; residual = residual; direction = normal; rho = norm })
 
--- ---- fn linear_solve, the diagonal-scaled conjugate gradients: the second half of a pass, which is done or takes the next direction
+-- fn linear_solve, the conjugate gradients: the second half of a pass, which is done or takes the next direction
 unfoldable pub settle : System → List Float → List Float → Float → Search → Counting (Turn Search (List Float))
 settle system rhs diagonal tolerance s = do
   tested ← try (trueResidual system rhs tolerance (s .solution) (s .residual))
@@ -59,7 +56,7 @@ gradients system rhs solution residual = do
   upTo (gradientMost (rowsIn system)) nonConvergent (gradientPass system rhs (p .diagonal) tolerance)
       (record { solution = solution; residual = residual; direction = p .direction; rho = p .rho })
 
--- ---- fn path_solve, along an order of the rows: a refinement is counted once its residual is known
+-- fn path_solve, along an order of the rows: a refinement is counted once its residual is known
 unfoldable pub refinement : System → List Float → List ℕ → Factor → Float → Refined → Counting (Turn Refined (List Float))
 refinement system rhs order factor tolerance s = do
   next ← try (refine system rhs order factor s)
@@ -73,14 +70,12 @@ pathAlong system rhs solution order = do
   tolerance ← try (toleranceFor (ratio 1 (10 ^ 12)) rhs)
   upTo 4 nonConvergent (refinement system rhs order factor tolerance) (record { solution = solution; residual = rhs })
 
--- ---- which solve is begun: from the bodies that the rows join alone
-pub data Choice : Type 0 where
+pub data Choice : Type 0 where  -- which solve is begun: from the bodies that the rows join alone
   byLeastSquares byGradients : Choice
   byPath : List ℕ → Choice
 
 abbrev pub ordered : Turn (List ℕ) (Unit {0}) → Choice  -- a third block on a body, or a ring of blocks, declines the path
-ordered (go order) = byPath order
-ordered (stop _) = byGradients
+ordered path = elim path [ go order ↦ byPath order | stop _ ↦ byGradients ]
 
 unfoldable pub choose : Bool → List ℕ → List ℕ → ℕ → Choice
 choose cyclic a b n = cond cyclic byLeastSquares (ordered (pathOrder a b n))
@@ -90,8 +85,7 @@ solveBy byLeastSquares system rhs solution = leastSquares system rhs solution rh
 solveBy (byPath order) system rhs solution = pathAlong system rhs solution order
 solveBy byGradients system rhs solution = gradients system rhs solution rhs
 
--- fn linear_solve: from a solution of zeros, with the right side as residual
-unfoldable pub linearSolve : Bool → System → List Float → Counting (List Float)
+unfoldable pub linearSolve : Bool → System → List Float → Counting (List Float)  -- from a solution of zeros, with the right side as residual
 linearSolve cyclic system rhs =
     let choice : Choice = choose cyclic (sideOf (λ r. r .a) (system .rows)) (sideOf (λ r. r .b) (system .rows)) (rowsIn system) in
     solveBy choice system rhs (replicate (rowsIn system) (ratio 0 1))

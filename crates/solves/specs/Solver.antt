@@ -1,10 +1,8 @@
--- solver.rs below `solve`, what counts no pass: over plain values (rows, mass responses, lists of doubles), in the Rust's names and order of
--- operations. Sums start from +0 and go from the left. `Result A` is the Rust's Result, and in a `do` block `x ← e` is `let x = e?`.
--- The path of joints is in Path.antt, what counts its passes in Search.antt.
-use Rattle.solves.specs.Words.{ℕ, List, [], _∷_, _++_, Bool, false, cond, not, _||_, length, getD, set, replicate, eqb, Float, nan, binary64, _⊕_, _⊖_}
-use Rattle.solves.specs.Words.{_⊗_, _⊘_, ratio, isFinite, sqrt, go, stop, _>>=_, turns, loop, tab, each, returnIf, Vec3, zeroVec, dotOf, addOf, scaleOf}
-use Rattle.solves.specs.Words.{at, applyOf, EqualityRow, nonConvergent, arithmeticOverflow, Result, tryFinite, MassResponse, Generalized}
-use lib.Ieee as Ieee
+-- solver.rs below `solve`, what counts no pass: over plain values, in the Rust's names and order of operations; sums start from +0 and go from the
+-- left. In a `do` block `x ← e` is `let x = e?`. The path of joints is in Path.antt, what counts its passes in Search.antt.
+use Rattle.solves.specs.Words.{ℕ, List, [], _∷_, _++_, Bool, false, cond, not, _||_, length, getD, set, replicate, eqb, Float, nan, binary64, le, _⊕_}
+use Rattle.solves.specs.Words.{_⊖_, _⊗_, _⊘_, ratio, isFinite, sqrt, go, stop, _>>=_, turns, loop, tab, each, returnIf, Vec3, zeroVec, dotOf, addOf}
+use Rattle.solves.specs.Words.{scaleOf, at, applyOf, EqualityRow, nonConvergent, arithmeticOverflow, Result, tryFinite, MassResponse, Generalized}
 use Rattle.solves.specs.System.{System, rowsIn}
 
 -- rows[i], generalized[i], masses[i]; past the end, where no index below goes, nothing that is a number
@@ -24,15 +22,13 @@ massIn masses i = getD masses i (record { linear = nan; angular = record { colum
 abbrev pub tryNumber : Float → Result Float  -- value.is_finite().then_some(value).ok_or(ArithmeticOverflow)
 tryNumber value = cond (isFinite value) (go value) (stop arithmeticOverflow)
 
--- ---- fn dot: the first n products, summed
-abbrev pub sumProducts : List Float → List Float → ℕ → Float
+abbrev pub sumProducts : List Float → List Float → ℕ → Float  -- fn dot: the first n products, summed
 sumProducts a b n = turns (λ k sum. sum ⊕ at a k ⊗ at b k) n (ratio 0 1)
 
 unfoldable pub dot : List Float → List Float → Result Float
 dot a b = tryNumber (sumProducts a b (length a))
 
--- ---- fn transpose: body[0] = finite(body[0] + linear * value)?; body[1] = finite(body[1] + angular * value)?
-unfoldable pub pushed : Generalized → Vec3 → Vec3 → Float → Result Generalized
+unfoldable pub pushed : Generalized → Vec3 → Vec3 → Float → Result Generalized  -- fn transpose: body[0] = finite(body[0] + linear * value)?; ..
 pushed body linear angular value = do
   l ← tryFinite (addOf (body .linear) (scaleOf linear value))
   a ← tryFinite (addOf (body .angular) (scaleOf angular value))
@@ -54,8 +50,7 @@ noShare = record { linear = zeroVec; angular = zeroVec }
 unfoldable pub transpose : List EqualityRow → List Float → ℕ → Result (List Generalized)
 transpose rows values bodyCount = loop (length rows) (λ k out. pushRow (rowIn rows k) (at values k) out) (replicate bodyCount noShare)
 
--- ---- fn operator: value[0] = finite(value[0] * mass.linear)?; value[1] = finite(mass.angular * value[1])?
-unfoldable pub scaled : Generalized → MassResponse → Result Generalized
+unfoldable pub scaled : Generalized → MassResponse → Result Generalized  -- fn operator: value[0] = finite(value[0] * mass.linear)?; ..
 scaled value mass = do
   l ← tryFinite (scaleOf (value .linear) (mass .linear))
   a ← tryFinite (applyOf (mass .angular) (value .angular))
@@ -69,8 +64,7 @@ rate row a b =
     dotOf (row .«linear_a») (a .linear) ⊕ dotOf (row .«angular_a») (a .angular)
     ⊕ dotOf (row .«linear_b») (b .linear) ⊕ dotOf (row .«angular_b») (b .angular)
 
--- a = generalized[row.a]; b = generalized[row.b]; the rate, if finite
-abbrev pub rates : List EqualityRow → ℕ → List Generalized → Result (List Float)
+abbrev pub rates : List EqualityRow → ℕ → List Generalized → Result (List Float)  -- a = generalized[row.a]; b = generalized[row.b]; the rate, if finite
 rates rows n moved = each n λ k. tryNumber (rate (rowIn rows k) (generalizedIn moved (rowIn rows k .a)) (generalizedIn moved (rowIn rows k .b)))
 
 unfoldable pub operator : System → List Float → Result (List Float)
@@ -80,8 +74,7 @@ operator system input = do
   moved ← scaleAll generalized (system .masses) bodyCount
   rates (system .rows) (rowsIn system) moved
 
--- ---- fn cross_mass: mass.linear * al.dot(bl) + aa.dot(mass.angular * ba)
-unfoldable pub through : MassResponse → Vec3 → Vec3 → Vec3 → Vec3 → Float
+unfoldable pub through : MassResponse → Vec3 → Vec3 → Vec3 → Vec3 → Float  -- fn cross_mass: mass.linear * al.dot(bl) + aa.dot(mass.angular * ba)
 through mass al aa bl ba = mass .linear ⊗ dotOf al bl ⊕ dotOf aa (applyOf (mass .angular) ba)
 
 abbrev pub addThrough : List MassResponse → ℕ → Vec3 → Vec3 → ℕ → Vec3 → Vec3 → Float → Float  -- if ai == bi { value += .. }
@@ -97,8 +90,7 @@ crossMass a b masses = tryNumber
     (crossEnd masses (a .b) (a .«linear_b») (a .«angular_b») b
     (crossEnd masses (a .a) (a .«linear_a») (a .«angular_a») b (ratio 0 1)))
 
--- ---- loops over whole vectors: x[i] += alpha * d[i], x[i] -= alpha * d[i], a[i] - b[i]
-unfoldable pub plus : List Float → Float → List Float → List Float
+unfoldable pub plus : List Float → Float → List Float → List Float  -- x[i] += alpha * d[i], x[i] -= alpha * d[i], a[i] - b[i]
 plus x alpha d = tab (length x) (λ i. at x i ⊕ alpha ⊗ at d i)
 
 unfoldable pub minus : List Float → Float → List Float → List Float
@@ -110,22 +102,20 @@ difference a b = tab (length a) (λ i. at a i ⊖ at b i)
 unfoldable pub within : List Float → Float → Result Bool  -- dot(&residual, &residual)?.sqrt() <= tolerance
 within residual tolerance = do
   square ← dot residual residual
-  go (Ieee.le (sqrt binary64 square) tolerance)
+  go (le (sqrt binary64 square) tolerance)
 
 unfoldable pub toleranceFor : Float → List Float → Result Float  -- scale * (1.0 + dot(&rhs, &rhs)?.sqrt())
 toleranceFor scale rhs = do
   square ← dot rhs rhs
   go (scale ⊗ (ratio 1 1 ⊕ sqrt binary64 square))
 
--- ---- what goes from pass to pass: self.solution, self.residual, self.direction, and `norm` in least squares, `rho` in the gradients.
-pub record Search : Type 0 where
+pub record Search : Type 0 where  -- what goes from pass to pass; rho is `norm` in least squares
   pub solution : List Float
   pub residual : List Float
   pub direction : List Float
   pub rho : Float
 
--- ---- fn linear_solve: the diagonal-scaled conjugate gradients
-unfoldable pub diagonalOf : EqualityRow → MassResponse → MassResponse → Float
+unfoldable pub diagonalOf : EqualityRow → MassResponse → MassResponse → Float  -- fn linear_solve, from here: the diagonal-scaled conjugate gradients
 diagonalOf row ma mb =
     ma .linear ⊗ dotOf (row .«linear_a») (row .«linear_a»)
     ⊕ dotOf (row .«angular_a») (applyOf (ma .angular) (row .«angular_a»))
@@ -142,7 +132,7 @@ prepareRow system residual i p = do
   let row = rowIn (system .rows) i
   let d = diagonalOf row (massIn (system .masses) (row .a)) (massIn (system .masses) (row .b))
   let x = at residual i ⊘ d
-  _ ← returnIf (not (isFinite d) || Ieee.le d (ratio 0 1)) nonConvergent
+  _ ← returnIf (not (isFinite d) || le d (ratio 0 1)) nonConvergent
   go (record { diagonal = p .diagonal ++ (d ∷ []); direction = p .direction ++ (x ∷ []); rho = p .rho ⊕ at residual i ⊗ x })
 
 unfoldable pub prepare : System → List Float → Result Prepared
@@ -172,6 +162,6 @@ unfoldable pub advance : System → Search → Result Search  -- the first half 
 advance system s = do
   product ← operator system (s .direction)
   curvature ← dot (s .direction) product
-  _ ← returnIf (Ieee.le curvature (ratio 0 1) || not (isFinite (s .rho))) nonConvergent
+  _ ← returnIf (le curvature (ratio 0 1) || not (isFinite (s .rho))) nonConvergent
   let alpha = s .rho ⊘ curvature
   go (record { solution = plus (s .solution) alpha (s .direction); residual = minus (s .residual) alpha product; direction = s .direction; rho = s .rho })

@@ -1,10 +1,6 @@
--- The names that the definitions here use of the toolchain, of the crates beneath and of the code's types, passed on: nothing is defined here.
-pub use Prim.Native.Nat.{ℕ, _+_, _*_, _-_, min, _^_}
-pub use mathlib.Core.List.{List, [], _∷_, _++_}
-pub use mathlib.Core.Bool.{Bool, false, cond, not, _||_, true, _&&_}
-pub use lib.ListN.{length, getD, set, replicate}
-pub use lib.Dec.{eqb}
-pub use lib.Ieee.{Float, nan, binary64}
+-- The names that the definitions use of the toolchain, of the crates beneath and of the code's types, passed on.
+pub use Rattle.arith.specs.Words.{ℕ, _+_, _*_, _-_, _^_, min, List, [], _∷_, _++_, Bool, true, false, cond, not, _&&_, _||_, length, getD, set, replicate, eqb}
+pub use Rattle.arith.specs.Words.{Float, nan, binary64, le}
 pub use Rattle.arith.specs.Real.{_⊕_, _⊖_, _⊗_, _⊘_, ratio, isFinite}
 pub use Rattle.arith.specs.Root.{sqrt}
 pub use Rattle.arith.specs.Flow.{go, stop, _>>=_, turns, loop, tab, each, returnIf, Turn}

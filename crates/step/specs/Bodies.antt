@@ -1,10 +1,9 @@
 -- The parts of `solve` in solver.rs that count no pass: what stands before the first pass, candidates, their rows and rates, states.
 -- `Result A` is the Rust's Result, and in a `do` block `x ← e` is `let x = e?`. Bodies and rows are in rows/specs, the linear solves in solves/specs.
-use Rattle.step.specs.Words.{ℕ, _^_, List, [], _++_, Bool, cond, _&&_, length, getD, Float, nan, tab, every, go, stop, _>>=_, loop, each, ratio, isFinite}
-use Rattle.step.specs.Words.{absOf, _⊕_, _⊘_, quat, toMat3Of, inverseSpdOf, finiteMat, matProductOf, transposeOf, at, dotOf, divOf, RigidBody, Joint}
-use Rattle.step.specs.Words.{BodyState, MomentumBody, EqualityRow, arithmeticOverflow, Result, bodyWith, newOf, omegaOf, kickOf, driftOf, stateWith}
-use Rattle.step.specs.Words.{stateOf, writeEqualityRows, System, Generalized, MassResponse, noVec, rowIn, generalizedIn, tryNumber, transpose}
-use lib.Ieee as Ieee
+use Rattle.step.specs.Words.{ℕ, _^_, List, [], _++_, Bool, cond, _&&_, length, getD, Float, nan, neg, le, tab, every, go, stop, _>>=_, loop, each, ratio}
+use Rattle.step.specs.Words.{isFinite, absOf, _⊕_, _⊘_, quat, toMat3Of, inverseSpdOf, finiteMat, matProductOf, transposeOf, at, dotOf, divOf, RigidBody}
+use Rattle.step.specs.Words.{BodyState, MomentumBody, Joint, EqualityRow, arithmeticOverflow, Result, bodyWith, newOf, omegaOf, kickOf, driftOf}
+use Rattle.step.specs.Words.{stateWith, stateOf, writeEqualityRows, System, Generalized, MassResponse, noVec, rowIn, generalizedIn, tryNumber, transpose}
 use Rattle.step.specs.Records.{recordWith}
 use Rattle.step.specs.Checks.{jointIn}
 
@@ -24,8 +23,7 @@ recordIn bodies k = getD bodies k (recordWith noVec (quat nan nan nan nan) noVec
 abbrev pub stateIn : List BodyState → ℕ → BodyState
 stateIn states k = getD states k (stateWith noVec (quat nan nan nan nan) noVec noVec)
 
--- ---- what stands before the first pass: scratch.start.push(MomentumBody::new(body.body())?)
-unfoldable pub startBodies : List RigidBody → Result (List MomentumBody)
+unfoldable pub startBodies : List RigidBody → Result (List MomentumBody)  -- scratch.start.push(MomentumBody::new(body.body())?)
 startBodies bodies = each (length bodies) (λ k. newOf (recordIn bodies k) (inverseSpdOf (recordIn bodies k .inertia) .inverse))
 
 abbrev pub jointRows : List Joint → List MomentumBody → ℕ → Result (List EqualityRow)
@@ -55,23 +53,21 @@ startOf job bodies = do
   masses ← prepareMasses start
   go (record { bodies = start; system = record { rows = rows; masses = masses } })
 
--- ---- for iteration in 0..32: scratch.candidate and scratch.rows
-pub record Found : Type 0 where
+pub record Found : Type 0 where  -- for iteration in 0..32: scratch.candidate and scratch.rows
   pub candidate : List MomentumBody
   pub rows : List EqualityRow
 
 abbrev pub kickAndDrift : Float → MomentumBody → Generalized → Result MomentumBody  -- body.kick(kick[0], kick[1])?; body.drift(dt)?;
 kickAndDrift dt body kick = kickOf body (kick .linear) (kick .angular) >>= λ kicked. driftOf kicked dt
 
--- the candidates are the starting bodies, kicked and drifted
-unfoldable pub moveBodies : Float → List MomentumBody → List Generalized → Result (List MomentumBody)
+unfoldable pub moveBodies : Float → List MomentumBody → List Generalized → Result (List MomentumBody)  -- the starting bodies, kicked and drifted
 moveBodies dt start generalized = each (length start) (λ k. kickAndDrift dt (bodyIn start k) (generalizedIn generalized k))
 
 unfoldable pub rowsMet : List EqualityRow → Bool  -- scratch.rows.iter().all(|row| row.value.abs() <= row.tolerance)
-rowsMet rows = every (length rows) (λ k. Ieee.le (absOf (rowIn rows k .value)) (rowIn rows k .tolerance))
+rowsMet rows = every (length rows) (λ k. le (absOf (rowIn rows k .value)) (rowIn rows k .tolerance))
 
 unfoldable pub rhsOf : Float → List EqualityRow → List Float  -- *rhs = -row.value / dt
-rhsOf dt rows = tab (length rows) (λ k. Ieee.neg (rowIn rows k .value) ⊘ dt)
+rhsOf dt rows = tab (length rows) (λ k. neg (rowIn rows k .value) ⊘ dt)
 
 unfoldable pub addImpulses : List Float → List Float → Result (List Float)  -- *impulse += delta, if finite
 addImpulses impulses solution = each (length impulses) (λ k. tryNumber (at impulses k ⊕ at solution k))
@@ -83,8 +79,7 @@ candidateOf job start impulses = do
   rows ← writeRows (job .joints) (job .count) candidate
   go (record { candidate = candidate; rows = rows })
 
--- ---- for _ in 0..3: fn velocity
-unfoldable pub velocityOf : EqualityRow → MomentumBody → MomentumBody → Result Float
+unfoldable pub velocityOf : EqualityRow → MomentumBody → MomentumBody → Result Float  -- for _ in 0..3: fn velocity
 velocityOf row a b = do
   wa ← omegaOf a
   wb ← omegaOf b
@@ -93,22 +88,20 @@ velocityOf row a b = do
 
 unfoldable pub velocityRhs : List EqualityRow → List MomentumBody → Result (List Float)  -- *rhs = -velocity(*row, &scratch.candidate)?
 velocityRhs rows candidate = each (length rows) (λ k.
-    velocityOf (rowIn rows k) (bodyIn candidate (rowIn rows k .a)) (bodyIn candidate (rowIn rows k .b)) >>= λ value. go (Ieee.neg value))
+    velocityOf (rowIn rows k) (bodyIn candidate (rowIn rows k .a)) (bodyIn candidate (rowIn rows k .b)) >>= λ value. go (neg value))
 
 unfoldable pub compatibleOf : List Float → Bool  -- scratch.rhs.iter().all(|value| value.abs() <= 1.0e-12)
-compatibleOf rhs = every (length rhs) (λ k. Ieee.le (absOf (at rhs k)) (ratio 1 (10 ^ 12)))
+compatibleOf rhs = every (length rhs) (λ k. le (absOf (at rhs k)) (ratio 1 (10 ^ 12)))
 
 unfoldable pub kickBodies : List MomentumBody → List Generalized → Result (List MomentumBody)  -- body.kick(kick[0], kick[1])?
 kickBodies candidate generalized = each (length candidate) (λ k.
     kickOf (bodyIn candidate k) (generalizedIn generalized k .linear) (generalizedIn generalized k .angular))
 
--- the candidates kicked by a solution, along their own rows
-unfoldable pub reactionOf : List EqualityRow → List MomentumBody → List Float → Result (List MomentumBody)
+unfoldable pub reactionOf : List EqualityRow → List MomentumBody → List Float → Result (List MomentumBody)  -- kicked by a solution, along their rows
 reactionOf rows candidate solution = do
   generalized ← transpose rows solution (length candidate)
   kickBodies candidate generalized
 
--- ---- after both loops: scratch.states.push(body.state(*original.body())?)
-unfoldable pub statesOf : List RigidBody → List MomentumBody → Result (List BodyState)
+unfoldable pub statesOf : List RigidBody → List MomentumBody → Result (List BodyState)  -- scratch.states.push(body.state(*original.body())?)
 statesOf bodies candidate = each (length candidate) (λ k. stateOf (bodyIn candidate k)
     (stateWith (recordIn bodies k .origin) (recordIn bodies k .rotation) (recordIn bodies k .«linear_velocity») (recordIn bodies k .«angular_velocity»)))

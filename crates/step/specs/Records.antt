@@ -1,8 +1,7 @@
 -- The record of a body: 26 doubles, namely origin 3, rotation 4, linear velocity 3, angular velocity 3, mass, local centre of mass 3, inertia 9 by columns.
 use Rattle.step.specs.Words.{ℕ, _+_, _*_, _/_, List, length, Float, tab, Quat, Mat3, quat, fromCols, Vec3, at, vec3At, RigidBody}
 
--- its doubles, those of them that move, and the doubles of scratch that a step asks for (SPECIFICATION §6.1 and §7)
-abbrev pub RECORD : ℕ
+abbrev pub RECORD : ℕ  -- its doubles, those of them that move, and the doubles of scratch that a step asks for (SPECIFICATION §6.1 and §7)
 RECORD = 26
 
 abbrev pub MOVING : ℕ
@@ -17,8 +16,7 @@ quatAt s i = quat (at s i) (at s (i + 1)) (at s (i + 2)) (at s (i + 3))
 abbrev pub matAt : List Float → ℕ → Mat3
 matAt s i = fromCols (vec3At s i) (vec3At s (i + 3)) (vec3At s (i + 6))
 
--- the record with these parts, and the one that begins at i
-abbrev pub recordWith : Vec3 → Quat → Vec3 → Vec3 → Float → Vec3 → Mat3 → RigidBody
+abbrev pub recordWith : Vec3 → Quat → Vec3 → Vec3 → Float → Vec3 → Mat3 → RigidBody  -- the record with these parts, and the one that begins at i
 recordWith origin rotation v w mass local inertia =
     record { origin = origin; rotation = rotation; «linear_velocity» = v; «angular_velocity» = w; mass = mass; «center_of_mass» = local; inertia = inertia }
 

@@ -2,7 +2,7 @@
 -- In a `do` block `x ← e` is `let x = e?` with the passes that it counted; `try` marks what counts none, `begin` is `nonlinear_iterations = iteration + 1`.
 -- Bodies.antt has the parts that count nothing, solves/specs/Search.antt the linear solves.
 use Rattle.step.specs.Words.{ℕ, _/_, _%_, List, [], _++_, _∷_, Bool, cond, length, drop, replicate, Float, ltb, leb, tab, every, go, stop, Turn, ratio}
-use Rattle.step.specs.Words.{at, RigidBody, Joint, BodyState, MomentumBody, arithmeticOverflow, Fault, nonConvergent, System, rowsIn, Counting}
+use Rattle.step.specs.Words.{at, RigidBody, BodyState, MomentumBody, Joint, arithmeticOverflow, Fault, nonConvergent, System, rowsIn, Counting}
 use Rattle.step.specs.Words.{linearSolve, Outcome}
 use Rattle.arith.specs.Run.{_>>=_, _>>_, try, begin, again, leaveIf, upTo}
 use Rattle.step.specs.Records.{RECORD, MOVING, SCRATCH, bodyCount, recordsOf}

@@ -8,7 +8,7 @@ use native.Mathlib.Omega.{arith}
 use native.Mathlib.Decide.{ℕ-discrete}
 use lib.ListN.{length, getD, length-append, List·getD-append}
 use lib.Seq.{getD-at}
-use Rattle.arith.specs.Flow.{Turn, go, loop, add, each}
+use Rattle.arith.specs.Flow.{Turn, go, loop, _>>=_, each}
 use Rattle.arith.specs.Run.{Run, leaveIf}
 use Rattle.rows.specs.Laws.Results.{step, go-same}
 
@@ -21,7 +21,7 @@ pub each-at : {A E : Type 0} (n : ℕ) (f : ℕ → Turn A E) (xs : List A) → 
 unfolding loop
 each-at zero f xs h = subst (Listed zero f) (go-same [] xs h) (record { size = refl; at = λ none k l. absurd (omega arith) })
 each-at {A} {E} (suc n) f xs h =
-    let r₁ = step (each n f) (add f n) xs h in
+    let r₁ = step (each n f) (λ ys. f n >>= λ x. go (ys ++ (x ∷ []))) xs h in
     let r₂ = step (f n) (λ (x : A). go (r₁ .0 ++ (x ∷ []))) xs (r₁ .2) in
     subst (Listed (suc n) f) (go-same (r₁ .0 ++ (r₂ .0 ∷ [])) xs (r₂ .2)) (more (r₁ .0) (r₂ .0) (each-at n f (r₁ .0) (r₁ .1)) (r₂ .1))
   where

@@ -18,7 +18,7 @@ use Rattle.vectors.specs.declared.matrix.Factored.{Factored}
 use Rattle.vectors.specs.declared.matrix.Solved.{Solved}
 use Rattle.vectors.specs.declared.matrix.Inverted.{Inverted}
 use Rattle.vectors.specs.Vector.{vec, axisX, axisY, axisZ, divOf, finiteOf}
-use Rattle.vectors.specs.Matrix.{Cells, cell, put, turned, columnOf, fromCols, matOf, zeroMat, finiteMat, matLargestOf, divided, notSymmetric, correctionOf, aboveZero, placed, placeOf, factorOf, unfactored, factoredWith, factorSpdOf, forwardOf, backwardOf, unsolved, solveOf, done, solvedBy, solveSpdOf, uninverted, inverseSpdOf}
+use Rattle.vectors.specs.Matrix.{Cells, cell, put, transposed, columnOf, fromCols, matOf, zeroMat, finiteMat, matLargestOf, divided, notSymmetric, correctionOf, aboveZero, entered, entryOf, factorOf, unfactored, factoredWith, factorSpdOf, forwardOf, backwardOf, unsolved, factorSolveOf, done, solvedBy, solveSpdOf, uninverted, inverseSpdOf}
 use Rattle.vectors.specs.Answered.{ranOf}
 
 -- ---- column
@@ -46,18 +46,18 @@ module _ (a b c : Bool) {p : Bool} (ep : p ≡ a) where
 
 -- ---- one place of the factor
 module _ (n : Cells) (row column : ℕ) (l : Cells) {p : Float} (ep : p ≡ correctionOf l row column) where
-  place-is : placed l row column (cell n row column ⊖ p) ≡ placeOf n row column l
-  unfolding placeOf
-  place-is = ap (λ (z : Float). placed l row column (cell n row column ⊖ z)) ep
+  place-is : entered l row column (cell n row column ⊖ p) ≡ entryOf n row column l
+  unfolding entryOf
+  place-is = ap (λ (z : Float). entered l row column (cell n row column ⊖ z)) ep
 
   module _ (h : row ≡ column) {t : Bool} (et : t ≡ aboveZero (cell n row column ⊖ p)) where
-    pub place-root : t ≡ true → {r : Float} → r ≡ sqrt binary64 (cell n row column ⊖ p) → go (put l row column r) ≡ placeOf n row column l
+    pub place-root : t ≡ true → {r : Float} → r ≡ sqrt binary64 (cell n row column ⊖ p) → go (put l row column r) ≡ entryOf n row column l
     place-root ht er = ap (λ (z : Float). go (put l row column z)) er ∙ (simp (eq-eqb _ _ h, sym et ∙ ht) at place-is)
 
-    pub place-not : t ≡ false → stop l ≡ placeOf n row column l
+    pub place-not : t ≡ false → stop l ≡ entryOf n row column l
     place-not ht = simp (eq-eqb _ _ h, sym et ∙ ht) at place-is
 
-  pub place-below : (row ≡ column → ⊥) → go (put l row column ((cell n row column ⊖ p) ⊘ cell l column column)) ≡ placeOf n row column l
+  pub place-below : (row ≡ column → ⊥) → go (put l row column ((cell n row column ⊖ p) ⊘ cell l column column)) ≡ entryOf n row column l
   place-below h = simp (ne-eqb _ _ h) at place-is
 
 -- the answer taken apart
@@ -79,17 +79,17 @@ module _ (m : Mat3) {b : Bool} (eb : b ≡ finiteMat m) where
     unfolding factorSpdOf
     factor-zero h er = cc
 
-    module _ (hs : Ieee.eq s o ≡ false) {t n : Cells} (et : t ≡ turned (m .columns)) (en : n ≡ divided t s) {y : Bool} (ey : y ≡ not (notSymmetric n)) where
+    module _ (hs : Ieee.eq s o ≡ false) {t n : Cells} (et : t ≡ transposed (m .columns)) (en : n ≡ divided t s) {y : Bool} (ey : y ≡ not (notSymmetric n)) where
       finite : not (finiteMat m) ≡ false
       finite = sym (ap not eb) ∙ hb
 
       not-zero : Ieee.eq (matLargestOf m) (ratio 0 1) ≡ false
       not-zero = sym (ap (λ (z : Float). Ieee.eq z o) es ∙ ap (Ieee.eq (matLargestOf m)) eo) ∙ hs
 
-      normalized-is : n ≡ divided (turned (m .columns)) (matLargestOf m)
-      normalized-is = en ∙ ap (λ (t : Cells). divided t s) et ∙ ap (divided (turned (m .columns))) es
+      normalized-is : n ≡ divided (transposed (m .columns)) (matLargestOf m)
+      normalized-is = en ∙ ap (λ (t : Cells). divided t s) et ∙ ap (divided (transposed (m .columns))) es
 
-      test-is : not y ≡ notSymmetric (divided (turned (m .columns)) (matLargestOf m))
+      test-is : not y ≡ notSymmetric (divided (transposed (m .columns)) (matLargestOf m))
       test-is = ap not ey ∙ Bool·not-not _ ∙ ap notSymmetric normalized-is
 
       pub factor-uneven : not y ≡ true → {r : Factored} → r ≡ unfactored NotSymmetric → r ≡ factorSpdOf m
@@ -101,12 +101,12 @@ module _ (m : Mat3) {b : Bool} (eb : b ≡ finiteMat m) where
         unfolding factorSpdOf
         whole =
             ap (factoredWith s) (ef ∙ ap (λ (n : Cells). factorOf n (zeroMat .columns)) normalized-is)
-            ∙ ap (λ (s : Float). factoredWith s (factorOf (divided (turned (m .columns)) (matLargestOf m)) (zeroMat .columns))) es
+            ∙ ap (λ (s : Float). factoredWith s (factorOf (divided (transposed (m .columns)) (matLargestOf m)) (zeroMat .columns))) es
             ∙ cond-no _ _ (sym test-is ∙ hy)
             ∙ cond-no _ _ not-zero
             ∙ cond-no _ _ finite
 
-        pub factor-done : f ≡ true → {p : Mat3} → p ≡ matOf (turned l) → record { outcome = Done; factor = record { lower = p; scale = s } } ≡ factorSpdOf m
+        pub factor-done : f ≡ true → {p : Mat3} → p ≡ matOf (transposed l) → record { outcome = Done; factor = record { lower = p; scale = s } } ≡ factorSpdOf m
         factor-done h ep =
             ap (λ (p : Mat3). record { outcome = Done; factor = record { lower = p; scale = s } }) ep
             ∙ sym (ap (λ (b : Bool). factoredWith s (ranOf b l)) h) ∙ whole
@@ -116,7 +116,7 @@ module _ (m : Mat3) {b : Bool} (eb : b ≡ finiteMat m) where
 
 -- ---- solve_spd, once the matrix is factored
 module _ (g : Factored) (rhs : Vec3) {b : Bool} (eb : b ≡ done (g .outcome)) {r : Solved} where
-  pub spd-done : b ≡ true → r ≡ solveOf (g .factor) rhs → r ≡ solvedBy g rhs
+  pub spd-done : b ≡ true → r ≡ factorSolveOf (g .factor) rhs → r ≡ solvedBy g rhs
   spd-done h er = cc
 
   pub spd-not : b ≡ false → r ≡ unsolved (g .outcome) → r ≡ solvedBy g rhs
@@ -154,21 +154,21 @@ module _ (m : Mat3) {x : Solved} (ex : x ≡ solveSpdOf m axisX) {a : Bool} (ea 
 
 -- ---- solve
 module _ (factor : Cholesky3) (rhs : Vec3) {b : Bool} (eb : b ≡ finiteOf rhs) where
-  pub solve-wild : not b ≡ true → {r : Solved} → r ≡ unsolved NonFiniteInput → r ≡ solveOf factor rhs
-  unfolding solveOf
+  pub solve-wild : not b ≡ true → {r : Solved} → r ≡ unsolved NonFiniteInput → r ≡ factorSolveOf factor rhs
+  unfolding factorSolveOf
   solve-wild h er = cc
 
   module _ (hb : not b ≡ false) {n : Vec3} (en : n ≡ divOf rhs (factor .scale)) {f : Bool} (ef : f ≡ finiteOf n) where
-    pub solve-large : not f ≡ true → {r : Solved} → r ≡ unsolved ResultOutOfRange → r ≡ solveOf factor rhs
-    unfolding solveOf
+    pub solve-large : not f ≡ true → {r : Solved} → r ≡ unsolved ResultOutOfRange → r ≡ factorSolveOf factor rhs
+    unfolding factorSolveOf
     solve-large h er = cc
 
-    module _ (hf : not f ≡ false) {l : Cells} (el : l ≡ turned (factor .lower .columns)) {y x : Vec3}
+    module _ (hf : not f ≡ false) {l : Cells} (el : l ≡ transposed (factor .lower .columns)) {y x : Vec3}
         (ey : y ≡ forwardOf l n) (ex : x ≡ backwardOf l y) {g : Bool} (eg : g ≡ finiteOf x) where
-      pub solve-done : g ≡ true → record { outcome = Done; solution = x } ≡ solveOf factor rhs
-      unfolding solveOf
+      pub solve-done : g ≡ true → record { outcome = Done; solution = x } ≡ factorSolveOf factor rhs
+      unfolding factorSolveOf
       solve-done h = cc
 
-      pub solve-far : g ≡ false → {r : Solved} → r ≡ unsolved ResultOutOfRange → r ≡ solveOf factor rhs
-      unfolding solveOf
+      pub solve-far : g ≡ false → {r : Solved} → r ≡ unsolved ResultOutOfRange → r ≡ factorSolveOf factor rhs
+      unfolding factorSolveOf
       solve-far h er = cc

@@ -13,7 +13,7 @@ use mathlib.Core.Path.{_≡_, refl, sym, ap, _∙_}
 use mathlib.Core.Bool.{Bool, true, false, not, cond, _&&_, Bool·beq}
 use Rattle.arith.specs.Real.{_⊕_, _⊖_, _⊗_, F, ratio, isFinite}
 use Rattle.arith.specs.Angle.{sinCosOf}
-use Rattle.arith.specs.declared.angle.Turn.{Turn}
+use Rattle.arith.specs.declared.angle.SineCosine.{SineCosine}
 use Rattle.arith.specs.declared.angle.SinCos.{SinCos}
 use Rattle.arith.specs.declared.angle.SinCos.the-variants.{Value, Refused}
 use Rattle.vectors.specs.declared.vector.Vec3.{Vec3}
@@ -166,7 +166,7 @@ module _ (r : Vec3) {b : Bool} (eb : b ≡ finiteOf r) where
         unfolding deltaOf
         delta-refused h = cc
 
-        pub delta-turn : {t : Turn} {w : Vec3} → o ≡ Value t → w ≡ divOf r a → Some (quat (w .x ⊗ t .s) (w .y ⊗ t .s) (w .z ⊗ t .s) (t .c)) ≡ deltaOf r
+        pub delta-turn : {t : SineCosine} {w : Vec3} → o ≡ Value t → w ≡ divOf r a → Some (quat (w .x ⊗ t .s) (w .y ⊗ t .s) (w .z ⊗ t .s) (t .c)) ≡ deltaOf r
         unfolding deltaOf
         delta-turn h e = cc
 

@@ -1,7 +1,6 @@
 -- quaternion.rs: quaternions (x, y, z, w) as rotations.
-use Rattle.vectors.specs.Words.{_^_, Bool, cond, not, _&&_, _||_, true, false, Float, _⊕_, _⊖_, _⊗_, _⊘_, ratio, isFinite, absOf, maxOf, hypotOf}
-use Rattle.vectors.specs.Words.{sinCosOf, SinCos, Vec3, OptionVec3, Mat3, Quat, OptionQuat, OptionMat3}
-use lib.Ieee as Ieee
+use Rattle.vectors.specs.Words.{_^_, Bool, cond, not, _&&_, _||_, true, false, Float, neg, lt, le, _⊕_, _⊖_, _⊗_, _⊘_, ratio, isFinite, absOf, maxOf}
+use Rattle.vectors.specs.Words.{hypotOf, SinCos, sinCosOf, Vec3, OptionVec3, Mat3, Quat, OptionQuat, OptionMat3}
 use Rattle.vectors.specs.Vector.{vec, crossOf, addOf, scaleOf, divOf, finiteOf, lengthOf, normalizeBy}
 use Rattle.vectors.specs.Matrix.{fromCols, zeroMat}
 
@@ -9,7 +8,7 @@ abbrev pub quat : Float → Float → Float → Float → Quat
 quat x y z w = record { x = x; y = y; z = z; w = w }
 
 abbrev pub conjugateOf : Quat → Quat
-conjugateOf q = quat (Ieee.neg (q .x)) (Ieee.neg (q .y)) (Ieee.neg (q .z)) (q .w)
+conjugateOf q = quat (neg (q .x)) (neg (q .y)) (neg (q .z)) (q .w)
 
 abbrev pub productOf : Quat → Quat → Quat  -- Quat * Quat
 productOf a b =
@@ -37,7 +36,7 @@ abbrev pub quatTryNormalizeOf : Quat → OptionQuat
 quatTryNormalizeOf q = normalizeBy quatFiniteOf quatLargestOf quatDivOf quatLengthOf OptionQuat.None OptionQuat.Some q
 
 unfoldable pub isNormalizedOf : Quat → Bool  -- refusal 6's test of a rotation (SPECIFICATION §5): the squares sum to 1 within 2^-44
-isNormalizedOf q = quatFiniteOf q && Ieee.le (absOf (quatLengthSquaredOf q ⊖ ratio 1 1)) (ratio 1 (2 ^ 44))
+isNormalizedOf q = quatFiniteOf q && le (absOf (quatLengthSquaredOf q ⊖ ratio 1 1)) (ratio 1 (2 ^ 44))
 
 abbrev pub turnedOf : Quat → Vec3 → Vec3  -- v + (u × v) (2 w) + (u × (u × v)) 2, u the first three of q
 turnedOf q v =
@@ -48,8 +47,7 @@ abbrev pub rotatedOf : Quat → Vec3 → OptionVec3
 rotatedOf rotation v = let turned = turnedOf rotation v in cond (finiteOf turned) (OptionVec3.Some turned) OptionVec3.None
 
 abbrev pub rotatedBy : Vec3 → OptionQuat → OptionVec3
-rotatedBy v (OptionQuat.Some rotation) = rotatedOf rotation v
-rotatedBy v OptionQuat.None = OptionVec3.None
+rotatedBy v unit = elim unit [ OptionQuat.Some rotation ↦ rotatedOf rotation v | OptionQuat.None ↦ OptionVec3.None ]
 
 unfoldable pub rotateVectorOf : Quat → Vec3 → OptionVec3
 rotateVectorOf q v = cond (not (finiteOf v)) OptionVec3.None (rotatedBy v (quatTryNormalizeOf q))
@@ -68,14 +66,12 @@ columnsFor OptionQuat.None = record { some = false; matrix = zeroMat }
 unfoldable pub toMat3Of : Quat → OptionMat3
 toMat3Of q = columnsFor (quatTryNormalizeOf q)
 
--- ---- integrate_world_angular_velocity: the turn below 1e-8 radians
-abbrev pub smallTurn : Vec3 → Float → Quat
+abbrev pub smallTurn : Vec3 → Float → Quat  -- integrate_world_angular_velocity, from here: the turn below 1e-8 radians
 smallTurn r angle =
     let factor = ratio 1 2 ⊖ angle ⊗ angle ⊘ ratio 48 1 in
     quat (r .x ⊗ factor) (r .y ⊗ factor) (r .z ⊗ factor) (ratio 1 1 ⊖ angle ⊗ angle ⊘ ratio 8 1)
 
--- the turn about an axis by the sine and cosine of half its angle; nothing where those are refused
-abbrev pub turnAbout : Vec3 → SinCos → OptionQuat
+abbrev pub turnAbout : Vec3 → SinCos → OptionQuat  -- about an axis, by the sine and cosine of half the angle; nothing where those are refused
 turnAbout axis (SinCos.Value t) = OptionQuat.Some (quat (axis .x ⊗ t .s) (axis .y ⊗ t .s) (axis .z ⊗ t .s) (t .c))
 turnAbout axis SinCos.Refused = OptionQuat.None
 
@@ -84,7 +80,7 @@ deltaOf r =
     let angle = lengthOf r in
     cond (not (finiteOf r)) OptionQuat.None
     (cond (not (isFinite angle)) OptionQuat.None
-    (cond (Ieee.lt angle (ratio 1 (10 ^ 8))) (OptionQuat.Some (smallTurn r angle))
+    (cond (lt angle (ratio 1 (10 ^ 8))) (OptionQuat.Some (smallTurn r angle))
     (turnAbout (divOf r angle) (sinCosOf (angle ⊗ ratio 1 2)))))
 
 abbrev pub integrated : OptionQuat → OptionQuat → OptionQuat  -- delta? * rotation?, normalized

@@ -1,20 +1,17 @@
 -- vector.rs: vectors of three doubles, by component, sums from the left.
-use Rattle.vectors.specs.Words.{ℕ, _+_, List, Bool, cond, not, _&&_, _||_, Float, nan, getD, _⊕_, _⊖_, _⊗_, _⊘_, ratio, isFinite, absOf, maxOf, hypotOf}
-use Rattle.vectors.specs.Words.{Vec3, OptionVec3, OptionF64}
-use lib.Ieee as Ieee
+use Rattle.vectors.specs.Words.{ℕ, _+_, List, Bool, cond, not, _&&_, _||_, Float, nan, neg, eq, getD, _⊕_, _⊖_, _⊗_, _⊘_, ratio, isFinite, absOf, maxOf}
+use Rattle.vectors.specs.Words.{hypotOf, Vec3, OptionVec3, OptionF64}
 
 abbrev pub vec : Float → Float → Float → Vec3
 vec x y z = record { x = x; y = y; z = z }
 
--- of a slice of doubles: s[i], and the vector that begins there
-abbrev pub at : List Float → ℕ → Float
+abbrev pub at : List Float → ℕ → Float  -- of a slice of doubles: s[i], and the vector that begins there
 at s i = getD s i nan
 
 abbrev pub vec3At : List Float → ℕ → Vec3
 vec3At s i = vec (at s i) (at s (i + 1)) (at s (i + 2))
 
--- Vec3::ZERO, X, Y, Z
-abbrev pub zeroVec : Vec3
+abbrev pub zeroVec : Vec3  -- Vec3::ZERO, X, Y, Z
 zeroVec = vec (ratio 0 1) (ratio 0 1) (ratio 0 1)
 
 abbrev pub axisX : Vec3
@@ -45,7 +42,7 @@ abbrev pub divOf : Vec3 → Float → Vec3
 divOf v k = vec (v .x ⊘ k) (v .y ⊘ k) (v .z ⊘ k)
 
 abbrev pub negOf : Vec3 → Vec3
-negOf v = vec (Ieee.neg (v .x)) (Ieee.neg (v .y)) (Ieee.neg (v .z))
+negOf v = vec (neg (v .x)) (neg (v .y)) (neg (v .z))
 
 abbrev pub finiteOf : Vec3 → Bool
 finiteOf v = isFinite (v .x) && isFinite (v .y) && isFinite (v .z)
@@ -61,8 +58,8 @@ unfoldable pub normalizeBy : {A O : Type 0} → (A → Bool) → (A → Float) �
 normalizeBy finite largest div length none some v =
     let scale = largest v in let scaled = div v scale in let len = length scaled in
     cond (not (finite v)) none
-    (cond (Ieee.eq scale (ratio 0 1)) none
-    (cond (not (isFinite len) || Ieee.eq len (ratio 0 1)) none
+    (cond (eq scale (ratio 0 1)) none
+    (cond (not (isFinite len) || eq len (ratio 0 1)) none
     (some (div scaled len))))
 
 abbrev pub tryNormalizeOf : Vec3 → OptionVec3

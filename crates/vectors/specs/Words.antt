@@ -1,16 +1,11 @@
--- The names that the definitions here use of the toolchain, of the crates beneath and of the code's types, passed on: nothing is defined here.
-pub use Prim.Native.Nat.{ℕ, _+_, _^_}
-pub use mathlib.Core.List.{List, [], _∷_}
-pub use mathlib.Core.Bool.{Bool, cond, not, _&&_, _||_, true, false}
-pub use lib.Ieee.{Float, nan, binary64}
-pub use lib.ListN.{getD, set}
-pub use lib.Dec.{eqb}
+-- The names that the definitions use of the toolchain, of the crate beneath and of the code's types, passed on here and to the crates above.
+pub use Rattle.arith.specs.Words.{ℕ, _+_, _^_, List, [], _∷_, Bool, cond, not, _&&_, _||_, true, false, Float, nan, binary64, neg, eq, lt, le, getD, set, eqb}
 pub use Rattle.arith.specs.Real.{_⊕_, _⊖_, _⊗_, _⊘_, ratio, isFinite, absOf, maxOf}
 pub use Rattle.arith.specs.Hypot.{hypotOf}
 pub use Rattle.arith.specs.Root.{sqrt}
-pub use Rattle.arith.specs.Flow.{Turn, go, stop, turns, loop}
-pub use Rattle.arith.specs.Angle.{sinCosOf}
+pub use Rattle.arith.specs.Flow.{Turn, go, stop, _>>=_, turns, loop, returnIf}
 pub use Rattle.arith.specs.declared.angle.SinCos.{SinCos}
+pub use Rattle.arith.specs.Angle.{PI, sinCosOf, atan2Of, remTauOf}
 pub use Rattle.vectors.specs.declared.vector.Vec3.{Vec3}
 pub use Rattle.vectors.specs.declared.vector.OptionVec3.{OptionVec3}
 pub use Rattle.vectors.specs.declared.vector.OptionF64.{OptionF64}

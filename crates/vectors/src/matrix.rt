@@ -9,9 +9,9 @@ ghost use mathlib.Core.Path.{_≡_};
 ghost use mathlib.Core.Bool.{not};
 ghost use Prim.Native.Nat.{_<_, min};
 ghost use Rattle.vectors.specs.Matrix as Matrix;
-ghost use Rattle.vectors.specs.Matrix.{matOf, zeroMat, fromCols, turned, transposeOf, finiteMat, applyOf, matProductOf};
-ghost use Rattle.vectors.specs.Matrix.{solvedBy, factorSpdOf, matLargestOf, columnOf, solveOf, notSymmetric, correctionOf};
-ghost use Rattle.vectors.specs.Matrix.{aboveZero, placeOf, factorRowOf, factorOf, forwardOf, backwardOf};
+ghost use Rattle.vectors.specs.Matrix.{matOf, zeroMat, fromCols, transposed, transposeOf, finiteMat, applyOf, matProductOf};
+ghost use Rattle.vectors.specs.Matrix.{solvedBy, factorSpdOf, matLargestOf, columnOf, factorSolveOf, notSymmetric, correctionOf};
+ghost use Rattle.vectors.specs.Matrix.{aboveZero, entryOf, factorRowOf, factorOf, forwardOf, backwardOf};
 ghost use Rattle.vectors.specs.Answered.{ranOf};
 ghost use Rattle.vectors.specs.Matrix.{inverseSpdOf};
 
@@ -79,15 +79,15 @@ impl Mat3 {
     }
 
     fn from_rows(rows: [[f64; 3]; 3]) -> Mat3
-        ensures { λ r. ⌜ r ≡ matOf (turned rows) ⌝ }
+        ensures { λ r. ⌜ r ≡ matOf (transposed rows) ⌝ }
     {
-        Mat3::new(turned(rows))
+        Mat3::new(transposed(rows))
     }
 
     fn to_rows(self) -> [[f64; 3]; 3]
-        ensures { λ r. ⌜ r ≡ turned (self .columns) ⌝ }
+        ensures { λ r. ⌜ r ≡ transposed (self .columns) ⌝ }
     {
-        turned(self.to_columns())
+        transposed(self.to_columns())
     }
 
     // The column of an index; an index above 2 has the last.
@@ -112,7 +112,7 @@ impl Mat3 {
     pub fn transpose(self) -> Mat3
         ensures { λ r. ⌜ r ≡ transposeOf self ⌝ }
     {
-        Mat3::new(turned(self.to_columns()))
+        Mat3::new(transposed(self.to_columns()))
     }
 
     pub fn is_finite(self) -> bool
@@ -203,7 +203,7 @@ impl Factored {
 impl Cholesky3 {
     // Forward and back substitution.
     fn solve(self, rhs: Vec3) -> Solved
-        ensures { λ r. ⌜ r ≡ solveOf self rhs ⌝ }
+        ensures { λ r. ⌜ r ≡ factorSolveOf self rhs ⌝ }
     {
         if !rhs.is_finite() {
             return unsolved(CholeskyOutcome::NonFiniteInput);
@@ -246,8 +246,8 @@ fn unsolved(outcome: CholeskyOutcome) -> Solved
 }
 
 // Columns from rows, or rows from columns.
-fn turned(c: [[f64; 3]; 3]) -> [[f64; 3]; 3]
-    ensures { λ r. ⌜ r ≡ Matrix.turned c ⌝ }
+fn transposed(c: [[f64; 3]; 3]) -> [[f64; 3]; 3]
+    ensures { λ r. ⌜ r ≡ Matrix.transposed c ⌝ }
 {
     [
         [c[0][0], c[1][0], c[2][0]],
@@ -315,7 +315,7 @@ fn above_zero(x: f64) -> bool
 // One place of the factor, after those before it. False for a pivot that is not finite and above 0.
 fn place(n: &[[f64; 3]; 3], lower: &mut [[f64; 3]; 3], row: usize, column: usize) -> bool
     requires { ⌜ (row < 3) × (column < 3) ⌝ }
-    ensures { λ r. ⌜ ranOf r (now (lower .exit)) ≡ placeOf (now (n .entry)) row column (now (lower .entry)) ⌝ }
+    ensures { λ r. ⌜ ranOf r (now (lower .exit)) ≡ entryOf (now (n .entry)) row column (now (lower .entry)) ⌝ }
 {
     let value = n[row][column] - correction(lower, row, column);
     if row == column {

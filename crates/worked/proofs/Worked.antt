@@ -17,7 +17,7 @@ use Rattle.arith.specs.Run as Run
 use Rattle.vectors.specs.declared.quaternion.Quat.{Quat}
 use Rattle.vectors.specs.Vector.{zeroVec, normalizeBy, checkedLengthOf}
 use Rattle.vectors.specs.Matrix as Matrix
-use Rattle.vectors.specs.Matrix.{triple, matProductOf, correctionOf, placeOf, factorRowOf, factorOf, factorSpdOf, solveSpdOf, inverseSpdOf}
+use Rattle.vectors.specs.Matrix.{triple, matProductOf, correctionOf, entryOf, factorRowOf, factorOf, factorSpdOf, solveSpdOf, inverseSpdOf}
 use Rattle.vectors.specs.Quaternion.{quat, isNormalizedOf, rotateVectorOf, toMat3Of, deltaOf, integrateOf}
 use Rattle.rows.specs.declared.geometry.Kind.{Kind}
 use Rattle.rows.specs.declared.geometry.Kind.the-variants.{Hinge, Distance}
@@ -58,7 +58,7 @@ Works plan outcome nonlinear linear bodies =
 refusal : Plan → Outcome
 unfolding refusalOf sizesOr bodiesOr jointsOr
     isNormalizedOf
-    correctionOf placeOf factorRowOf factorOf factorSpdOf Matrix.solveOf solveSpdOf inverseSpdOf
+    correctionOf entryOf factorRowOf factorOf factorSpdOf Matrix.factorSolveOf solveSpdOf inverseSpdOf
     sqrt roundRoot root rootIn
     _>>=_ turns loop every isFinite absOf add sub mul div neg lt le eq round
 refusal plan = refusalOf (plan .bodies) (plan .joints) (length (plan .joints)) (plan .dt) SCRATCH
@@ -74,7 +74,7 @@ unfolding startBodies writeRows massResponse prepareMasses startOf moveBodies ro
     endsOf toleranceOf distanceRow linearRow linearRows alignedOf alignRows frameRows writeEqualityRows
     worldCenterOfMassOf newOf inverseAngularMassOf kickOf anchorOf passOf driftOf originOf stateOf tryFinite
     isNormalizedOf rotateVectorOf toMat3Of deltaOf integrateOf
-    matProductOf correctionOf placeOf factorRowOf factorOf factorSpdOf Matrix.solveOf solveSpdOf inverseSpdOf
+    matProductOf correctionOf entryOf factorRowOf factorOf factorSpdOf Matrix.factorSolveOf solveSpdOf inverseSpdOf
     normalizeBy checkedLengthOf
     factorial horner sineSum cosineSum halfTurn doubled turnOf sinCosOf
     hypotOf scaledRoot sqrt roundRoot root rootIn

@@ -25,20 +25,20 @@ use Rattle.exact.specs.Check.{Fx, fv, fc, _+f_, _-f_, _*f_, run, exact, Bd, bd,
 use Rattle.exact.specs.Given.{given}
 use Rattle.exact.specs.Relative.{Near, tiny}
 use Rattle.arith.specs.Real.{_⊗_ as _·_, ratio}
-use Rattle.arith.specs.Angle.{factorial, horner, plus, minus, sineSum, cosineSum, halfTurn, doubled, turnOf, sinCosOf}
+use Rattle.arith.specs.Angle.{factorial, horner, part, negPart, sineSum, cosineSum, halfTurn, doubled, turnOf, sinCosOf}
 use Rattle.arith.specs.ExactSums.{factorial-pos, sineSum41, cosineSum42}
 use Rattle.arith.specs.Laws.Magnitude.{lt-no}
 use Rattle.arith.specs.Laws.ExactSums.{sineR, cosineR, sine-poly, cosine-poly}
-use Rattle.arith.specs.declared.angle.Turn.{Turn}
+use Rattle.arith.specs.declared.angle.SineCosine.{SineCosine}
 use Rattle.arith.specs.declared.angle.SinCos.the-variants as Sines
 
 -- ---- the computations as expressions for the checker
 -- 1 / k! and -1 / k!
 abbrev plusE : ℕ → Fx
-plusE k = fc (plus (factorial k)) (record { p = 1; n = 0; d = factorial k; dp = factorial-pos k })
+plusE k = fc (part (factorial k)) (record { p = 1; n = 0; d = factorial k; dp = factorial-pos k })
 
 abbrev minusE : ℕ → Fx
-minusE k = fc (minus (factorial k)) (record { p = 0; n = 1; d = factorial k; dp = factorial-pos k })
+minusE k = fc (negPart (factorial k)) (record { p = 0; n = 1; d = factorial k; dp = factorial-pos k })
 
 wholeE : ℕ → Fx
 wholeE n = fc (ratio n 1) (whole n 0)
@@ -226,7 +226,7 @@ X-xm x k a b = go (min-or xmax (mag (bx k)))
     go (inr e) = subst (Abs x) (sym e) b
 
 -- t is near the exact sine and cosine of the angle halved k times and doubled i times
-abbrev Turned : ℚ → ℕ → ℕ → Turn → Type 0
+abbrev Turned : ℚ → ℕ → ℕ → SineCosine → Type 0
 Turned h k i t = Rel (t .s) (S h k i) (db k i .0) × Rel (t .c) (C h k i) (db k i .1)
 
 start : (h : ℚ) (x : Float) (k : ℕ) → k ≤ 3 → Abs (X h k) xmax → Rel x (X h k) (bx k) → Turned h k 0 (halfTurn x)
@@ -240,7 +240,7 @@ start h x k l m r =
           (sound (x ∷ []) (X h k ∷ []) (β₀ k) g (cosineE (fv 0)) (known (X h k ∷ []) (cosineE (fv 0)) tt) (and-r (ok (db k 0 .0)) (ok (db k 0 .1)) o)),
     )
 
-again : (h : ℚ) (t : Turn) (k i : ℕ) → k ≤ 3 → suc i ≤ 3 → Turned h k i t → Turned h k (suc i) (doubled t)
+again : (h : ℚ) (t : SineCosine) (k i : ℕ) → k ≤ 3 → suc i ≤ 3 → Turned h k i t → Turned h k (suc i) (doubled t)
 unfolding S C db chk free doubled
 again h t k i l m a =
     let β : List (ℕ × ℕ) = one-of (db k i .0) ∷ one-of (db k i .1) ∷ [] in
@@ -252,7 +252,7 @@ again h t k i l m a =
     )
 
 -- ---- `turnOf`: it stops at K halvings in all, and doubles as often as it halved
-record Stops (h : ℚ) (k : ℕ) (t : Turn) : Type 0 where
+record Stops (h : ℚ) (k : ℕ) (t : SineCosine) : Type 0 where
   K : ℕ
   i : ℕ
   sum : i + k ≡ K
@@ -263,7 +263,7 @@ record Stops (h : ℚ) (k : ℕ) (t : Turn) : Type 0 where
 stops-here : (h : ℚ) (x : Float) (k : ℕ) → k ≤ 3 → Abs (X h k) xmax → Rel x (X h k) (bx k) → Stops h k (halfTurn x)
 stops-here h x k l m r = record { K = k; i = 0; sum = zero-add k; few = l; angle = m; turned = start h x k l m r }
 
-stops-later : (h : ℚ) (t : Turn) (k : ℕ) → Stops h (suc k) t → Stops h k (doubled t)
+stops-later : (h : ℚ) (t : SineCosine) (k : ℕ) → Stops h (suc k) t → Stops h k (doubled t)
 stops-later h t k s = record {
   K = s .K;
   i = suc (s .i);
@@ -319,7 +319,7 @@ done h k e p t m f A =
     (ringQ (f ∷ g ∷ y ∷ []) ((rv 0 ⊖ rv 1) ⊕ (rv 1 ⊖ rv 2)) (rv 0 ⊖ rv 2) tt) (abs-add (f -q g) (g -q y) N N A B')
 
 -- ---- the law
-pub record SinesNear (x : ℚ) (t : Turn) : Type 0 where
+pub record SinesNear (x : ℚ) (t : SineCosine) : Type 0 where
   pub sine-finite : T (finite (t .s))
   pub cosine-finite : T (finite (t .c))
   pub sine : Near (mk (tiny 40)) (val (t .s)) (sineSum41 x)
@@ -388,16 +388,16 @@ sin-cos-accepts h f a b =
     ap (λ c. cond c Sines.Refused (cond (le h (ratio 4 1)) (Sines.Value (turnOf 3 h)) Sines.Refused)) p
     ∙ ap (λ c. cond c (Sines.Value (turnOf 3 h)) Sines.Refused) q
 
-no-value : (t : Turn) → Sines.Refused ≡ Sines.Value t → ⊥
+no-value : (t : SineCosine) → Sines.Refused ≡ Sines.Value t → ⊥
 no-value t e = let z : _≡_ {A = ℕ} 0 1 = cc in omega arith
 
-pub record Accepted (h : Float) (t : Turn) : Type 0 where
+pub record Accepted (h : Float) (t : SineCosine) : Type 0 where
   pub is-finite : T (finite h)
   pub low : qn 0 ≤q val h
   pub high : val h ≤q qn 4
   pub is : turnOf 3 h ≡ t
 
-pub sin-cos-accepted : (h : Float) (t : Turn) → sinCosOf h ≡ Sines.Value t → Accepted h t
+pub sin-cos-accepted : (h : Float) (t : SineCosine) → sinCosOf h ≡ Sines.Value t → Accepted h t
 unfolding sinCosOf
 sin-cos-accepted h t e = go (lt h (ratio 0 1)) (le h (ratio 4 1)) refl refl e
   where
@@ -415,5 +415,5 @@ sin-cos-accepted h t e = go (lt h (ratio 0 1)) (le h (ratio 4 1)) refl refl e
         }
 
 -- ---- for every angle that `sinCosOf` accepts
-pub sin-cos-near : (h : Float) (t : Turn) → sinCosOf h ≡ Sines.Value t → SinesNear (val h) t
+pub sin-cos-near : (h : Float) (t : SineCosine) → sinCosOf h ≡ Sines.Value t → SinesNear (val h) t
 sin-cos-near h t e = let a = sin-cos-accepted h t e in subst (SinesNear (val h)) (a .is) (turn-near h (a .is-finite) (a .low) (a .high))

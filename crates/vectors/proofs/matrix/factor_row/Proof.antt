@@ -5,12 +5,12 @@ use native.Mathlib.Omega.{arith}
 use Rattle.arith.specs.Flow.{go, loop}
 use Rattle.arith.specs.FlowLaws.{loop-none, loop-more, loop-stop, loop-end}
 use Rattle.vectors.proofs.MatrixWays.{was-yes, was-no}
-use Rattle.vectors.specs.Matrix.{placeOf, factorRowOf}
+use Rattle.vectors.specs.Matrix.{entryOf, factorRowOf}
 use Rattle.vectors.proofs.matrix.factor_row.Statement.{statement}
 use Rattle.vectors.proofs.matrix.factor_row.Tie as tie
 
 abbrev Inv-loop : tie.InvT-loop
-Inv-loop n lower₀ row column₀ column-end lower column = (column ≤ row + 1) × (go lower ≡ loop column (placeOf n row) lower₀)
+Inv-loop n lower₀ row column₀ column-end lower column = (column ≤ row + 1) × (go lower ≡ loop column (entryOf n row) lower₀)
 
 abbrev μ-loop : tie.MeasureT-loop
 μ-loop n lower₀ row column₀ column-end lower column = row + 1 - column

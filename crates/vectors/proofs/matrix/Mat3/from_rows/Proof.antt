@@ -4,7 +4,7 @@ use Rattle.vectors.proofs.matrix.Mat3.from_rows.Statement.{statement}
 use Rattle.vectors.proofs.matrix.Mat3.from_rows.Tie as tie
 
 returns : tie.Need-returns
-returns c = simp (c .new .ensures, c .before .turned .ensures)
+returns c = simp (c .new .ensures, c .before .transposed .ensures)
 
 pub from-rows-spec : {M : Type 1} → statement M
 from-rows-spec =

@@ -4,7 +4,7 @@ use Rattle.vectors.proofs.matrix.Mat3.transpose.Statement.{statement}
 use Rattle.vectors.proofs.matrix.Mat3.transpose.Tie as tie
 
 returns : tie.Need-returns
-returns c = simp (c .new .ensures, c .before .turned .ensures, c .before .before .to-columns .ensures)
+returns c = simp (c .new .ensures, c .before .transposed .ensures, c .before .before .to-columns .ensures)
 
 pub transpose-spec : {M : Type 1} → statement M
 transpose-spec =
