@@ -11,9 +11,7 @@ abbrev pub stateWith : Vec3 → Quat → Vec3 → Vec3 → BodyState
 stateWith origin rotation linear angular = record { origin = origin; rotation = rotation; «linear_velocity» = linear; «angular_velocity» = angular }
 
 unfoldable pub worldCenterOfMassOf : Vec3 → Quat → Vec3 → Result Vec3  -- rigid_body.rs, fn world_center_of_mass_for
-worldCenterOfMassOf origin rotation centerOfMass = do
-  turned ← tryRotate rotation centerOfMass
-  tryFinite (addOf turned origin)
+worldCenterOfMassOf origin rotation centerOfMass = tryRotate rotation centerOfMass >>= λ turned. tryFinite (addOf turned origin)
 
 unfoldable pub newOf : RigidBody → Mat3 → Result MomentumBody  -- fn new; that the inertia has an inverse was tested before (refusal 7)
 newOf body inverse = do
@@ -24,9 +22,8 @@ newOf body inverse = do
   go (bodyWith center (body .rotation) momentum spin (body .mass) (body .«center_of_mass») inverse)
 
 unfoldable pub inverseAngularMassOf : MomentumBody → Vec3 → Result Vec3  -- fn inverse_angular_mass
-inverseAngularMassOf self spin = do
-  local ← tryRotate (conjugateOf (self .rotation)) spin
-  tryRotate (self .rotation) (applyOf (self .«inverse_inertia») local)
+inverseAngularMassOf self spin =
+    tryRotate (conjugateOf (self .rotation)) spin >>= λ local. tryRotate (self .rotation) (applyOf (self .«inverse_inertia») local)
 
 abbrev pub omegaOf : MomentumBody → Result Vec3  -- fn omega
 omegaOf self = inverseAngularMassOf self (self .spin)
@@ -44,9 +41,7 @@ kickOf self linear angular = do
   go (withMomenta self momentum spin)
 
 unfoldable pub anchorOf : MomentumBody → Vec3 → Result Vec3  -- fn anchor
-anchorOf self local = do
-  arm ← tryRotate (self .rotation) (subOf local (self .«center_of_mass»))
-  tryFinite (addOf (self .center) arm)
+anchorOf self local = tryRotate (self .rotation) (subOf local (self .«center_of_mass»)) >>= λ arm. tryFinite (addOf (self .center) arm)
 
 abbrev pub integrate : Quat → Vec3 → Float → Result Quat  -- rotation.integrate_world_angular_velocity(omega, dt)?
 integrate rotation omega dt = quatOr arithmeticOverflow (integrateOf rotation omega dt)

@@ -93,9 +93,8 @@ localOf q gradient scalar =
     scaleOf (subOf (addOf (scaleOf gradient (q .w)) (crossOf vector gradient)) (scaleOf vector scalar)) (ratio 1 2)
 
 unfoldable pub gradientRow : Joint → Quat → Quat → Vec3 → Float → Float → Result EqualityRow
-gradientRow joint frameA q gradient scalar value = do
-  angular ← tryRotate frameA (localOf q gradient scalar)
-  go (turning joint (negOf angular) angular value)
+gradientRow joint frameA q gradient scalar value =
+    tryRotate frameA (localOf q gradient scalar) >>= λ angular. go (turning joint (negOf angular) angular value)
 
 unfoldable pub swingRow : Joint → Quat → Relative → Swing → Result EqualityRow  -- a pass of the loop over swing_limit
 swingRow joint frameA r swing =
@@ -163,6 +162,4 @@ motionRows (Motions.Rod length) joint e = distanceRow joint e length >>= λ row.
 motionRows (Motions.Frame linear turning) joint e = frameRows linear turning joint e
 
 unfoldable pub writeEqualityRows : Joint → MomentumBody → MomentumBody → Result (List EqualityRow)  -- the rows that it leaves in out
-writeEqualityRows joint a b = do
-  e ← endsOf joint a b
-  motionRows (motionsOf (joint .kind)) joint e
+writeEqualityRows joint a b = endsOf joint a b >>= motionRows (motionsOf (joint .kind)) joint

@@ -39,15 +39,13 @@ settle system rhs diagonal tolerance s = do
   leaveIf (tested .solved) (s .solution) do
     let next = scaledSquare (tested .residual) diagonal
     let direction = nextDirection (tested .residual) diagonal (next ⊘ s .rho) (s .direction)
-    tick
-    again (record { solution = s .solution; residual = tested .residual; direction = direction; rho = next })
+    tick >> again (record { solution = s .solution; residual = tested .residual; direction = direction; rho = next })
 
 unfoldable pub gradientPass : System → List Float → List Float → Float → Search → Counting (Turn Search (List Float))
 gradientPass system rhs diagonal tolerance s = do
   near ← try (within (s .residual) tolerance)
   leaveIf near (s .solution) do
-    moved ← try (advance system s)
-    settle system rhs diagonal tolerance moved
+    try (advance system s) >>= settle system rhs diagonal tolerance
 
 unfoldable pub gradients : System → List Float → List Float → List Float → Counting (List Float)
 gradients system rhs solution residual = do

@@ -35,9 +35,7 @@ pushed body linear angular value = do
   go (record { linear = l; angular = a })
 
 unfoldable pub pushInto : ℕ → Vec3 → Vec3 → Float → List Generalized → Result (List Generalized)  -- out[index]
-pushInto index linear angular value out = do
-  body ← pushed (generalizedIn out index) linear angular value
-  go (set out index body)
+pushInto index linear angular value out = pushed (generalizedIn out index) linear angular value >>= λ body. go (set out index body)
 
 unfoldable pub pushRow : EqualityRow → Float → List Generalized → Result (List Generalized)
 pushRow row value out =
@@ -100,14 +98,10 @@ unfoldable pub difference : List Float → List Float → List Float
 difference a b = tab (length a) (λ i. at a i ⊖ at b i)
 
 unfoldable pub within : List Float → Float → Result Bool  -- dot(&residual, &residual)?.sqrt() <= tolerance
-within residual tolerance = do
-  square ← dot residual residual
-  go (le (sqrt binary64 square) tolerance)
+within residual tolerance = dot residual residual >>= λ square. go (le (sqrt binary64 square) tolerance)
 
 unfoldable pub toleranceFor : Float → List Float → Result Float  -- scale * (1.0 + dot(&rhs, &rhs)?.sqrt())
-toleranceFor scale rhs = do
-  square ← dot rhs rhs
-  go (scale ⊗ (ratio 1 1 ⊕ sqrt binary64 square))
+toleranceFor scale rhs = dot rhs rhs >>= λ square. go (scale ⊗ (ratio 1 1 ⊕ sqrt binary64 square))
 
 pub record Search : Type 0 where  -- what goes from pass to pass; rho is `norm` in least squares
   pub solution : List Float

@@ -98,9 +98,7 @@ kickBodies candidate generalized = each (length candidate) (λ k.
     kickOf (bodyIn candidate k) (generalizedIn generalized k .linear) (generalizedIn generalized k .angular))
 
 unfoldable pub reactionOf : List EqualityRow → List MomentumBody → List Float → Result (List MomentumBody)  -- kicked by a solution, along their rows
-reactionOf rows candidate solution = do
-  generalized ← transpose rows solution (length candidate)
-  kickBodies candidate generalized
+reactionOf rows candidate solution = transpose rows solution (length candidate) >>= kickBodies candidate
 
 unfoldable pub statesOf : List RigidBody → List MomentumBody → Result (List BodyState)  -- scratch.states.push(body.state(*original.body())?)
 statesOf bodies candidate = each (length candidate) (λ k. stateOf (bodyIn candidate k)

@@ -9,7 +9,7 @@ use Rattle.exact.specs.Rat.{ℚ, qn, leq, _*q_, _-q_, _≤q_, _<q_, ≤q-sub, s
 use Rattle.exact.specs.Ring.{var, con, _:-_, _:*_, same, ring}
 use Rattle.exact.specs.Abs.{T-not}
 use Rattle.exact.specs.RingQ.{rv, _⊕_, _⊖_, _⊗_, sameQ, ringQ}
-use Rattle.arith.specs.Real.{_⊖_ as _less_, ratio, absOf}
+use Rattle.arith.specs.Real.{_⊖_ as _⊖ᶠ_, ratio, absOf}
 use Rattle.vectors.specs.declared.quaternion.Quat.{Quat}
 use Rattle.vectors.specs.Vector.{finiteOf}
 use Rattle.vectors.specs.Quaternion.{quatFiniteOf, quatLengthSquaredOf, isNormalizedOf}
@@ -51,7 +51,7 @@ N-product-above a b p q = subst (λ (n : ℚ). qn 0 <q n) (sym (N-product a b)) 
 -- ---- a frame that passed its test
 normalized-finite : (q : Quat) → T (isNormalizedOf q) → T (quatFiniteOf q)
 unfolding isNormalizedOf
-normalized-finite q t = both (quatFiniteOf q) (le (absOf (quatLengthSquaredOf q less ratio 1 1)) (ratio 1 (2 ^ 44))) t .0
+normalized-finite q t = both (quatFiniteOf q) (le (absOf (quatLengthSquaredOf q ⊖ᶠ ratio 1 1)) (ratio 1 (2 ^ 44))) t .0
 
 normalized-above : (q : Quat) → T (isNormalizedOf q) → qn 0 <q N (quaternion q)
 normalized-above q t = norm-pos (N (quaternion q)) (own-near q (unit-quat q t) .size)

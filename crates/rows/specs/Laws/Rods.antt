@@ -16,7 +16,7 @@ use Rattle.exact.specs.Val.{val}
 use Rattle.exact.specs.Compare.{le-val}
 use Rattle.exact.specs.Check.{own}
 use Rattle.exact.specs.Hypot.{hyp-fits}
-use Rattle.arith.specs.Real.{_⊖_ as _less_, ratio, absOf}
+use Rattle.arith.specs.Real.{_⊖_ as _⊖ᶠ_, ratio, absOf}
 use Rattle.vectors.specs.declared.vector.Vec3.{Vec3}
 use Rattle.vectors.specs.Vector.{lengthOf}
 use Rattle.vectors.specs.Laws.Tests.{both, abs-limit, finite-between}
@@ -192,7 +192,7 @@ module _ (delta : Vec3) (d : Vector) (D : IsV delta d dTop dErr) where
         (squares wide (2 ^ 238) (2 ^ 239 + (2 ^ 238 + 0)) (2 ^ 243) (wide-sides .2) (wide-sides .3) l x y z (d .x) (d .y) (d .z) x-wide y-wide z-wide
         (D .x-is .2) (D .y-is .2) (D .z-is .2) (W .side .near))
 
-pub rod-met : (delta : Vec3) (d : Vector) (L v t : Float) → Fits3 delta → IsV delta d dTop dErr → lengthOf delta less L ≡ v
+pub rod-met : (delta : Vec3) (d : Vector) (L v t : Float) → Fits3 delta → IsV delta d dTop dErr → lengthOf delta ⊖ᶠ L ≡ v
     → T (finite L) → mk eighth ≤q val L → T (finite t) → Abs (val t) tolTop → T (le (absOf v) t) → Bounded (val L) (d · d)
 rod-met delta d L v t F D e fL lo ft ht k =
     let l = lengthOf delta in
