@@ -4,8 +4,8 @@ use libc::STDOUT_FILENO;
 use step::layout::SCRATCH;
 use streams::Got;
 
-// What a turn came to: a plan was answered, the file had ended, or it went no further.
-enum Turn {
+// What a round came to: a plan was answered, the file had ended, or it went no further.
+enum Round {
     Answered,
     Over,
     Unread,
@@ -19,7 +19,7 @@ fn joined(low: u8, high: u8) -> usize
 }
 
 // Reads and answers one plan.
-fn next(fd: i32) -> Turn {
+fn next(fd: i32) -> Round {
     let mut length = [0u8; 2];
     let got = streams::read_all(fd, &mut length);
     let last = got.last;
@@ -32,36 +32,36 @@ fn next(fd: i32) -> Turn {
 }
 
 // The file may end before a plan, and nowhere else.
-fn stopped(last: Got, count: usize) -> Turn {
+fn stopped(last: Got, count: usize) -> Round {
     if streams::failed(last) {
-        return Turn::Unread;
+        return Round::Unread;
     }
     if count == 0 {
-        return Turn::Over;
+        return Round::Over;
     }
-    Turn::Unread
+    Round::Unread
 }
 
-fn answer(fd: i32, file: &mut [u8]) -> Turn {
+fn answer(fd: i32, file: &mut [u8]) -> Round {
     let mut scratch = [0.0f64; SCRATCH];
     let mut out = [0u8; 4096];
     let got = streams::read_all(fd, file);
     if got.count < file.len() {
-        return Turn::Unread;
+        return Round::Unread;
     }
     let n = report::pose(file, &mut scratch, &mut out);
     if io::write_all(STDOUT_FILENO, &out[..n]) {
-        return Turn::Answered;
+        return Round::Answered;
     }
-    Turn::Unwritten
+    Round::Unwritten
 }
 
 // Nothing says that the file ends, so the loop counts its turns down.
-fn replay(fd: i32) -> Turn {
+fn replay(fd: i32) -> Round {
     let mut turns = u64::MAX;
     while turns > 0 {
         match next(fd) {
-            Turn::Answered => {
+            Round::Answered => {
                 turns -= 1;
             }
             end => {
@@ -69,7 +69,7 @@ fn replay(fd: i32) -> Turn {
             }
         }
     }
-    Turn::Over
+    Round::Over
 }
 
 fn main() {
@@ -82,8 +82,8 @@ fn main() {
     let end = replay(fd);
     libc::close(fd);
     match end {
-        Turn::Unread => streams::complain(b"replay: plans.bin could not be read to its end\n"),
-        Turn::Unwritten => streams::complain(b"replay: an answer could not be written whole\n"),
+        Round::Unread => streams::complain(b"replay: plans.bin could not be read to its end\n"),
+        Round::Unwritten => streams::complain(b"replay: an answer could not be written whole\n"),
         _ => {}
     }
 }
