@@ -43,5 +43,5 @@ returns-2 c =
 pub unsigned-remainder-spec : {M : Type 1} → statement M
 unsigned-remainder-spec =
     tie.close (tie.spec
-    (λ c. small _ (held (c .before)) (c .before .pre) (c .if1 .taken)) (λ c κs. search needs) (λ c. search no-nan) (λ c. search needs) sub-n (λ c κs. search needs)
-    int-to-float-result returns-2 (λ c. search no-finite))
+    (λ c. small _ (held (c .before)) (c .before .pre) (c .if1 .taken)) (λ c κs. search needs) (λ c. search no-nan)
+    (λ c. search needs) sub-n (λ c κs. search needs) int-to-float-result returns-2 (λ c. search no-finite))

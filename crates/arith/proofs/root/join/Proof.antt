@@ -1,8 +1,7 @@
 -- `root::join` meets its contract, by the laws of `RootBits`.
-use Prim.Native.Nat.{_+_, _-_, _*_, _/_}
 use native.Mathlib.Nat.{lt-of-lt-of-le}
 use lib.Dec.{lit≤}
-use Rattle.arith.specs.Laws.RootBits.{Joined, join-even, join-odd}
+use Rattle.arith.specs.Laws.RootBits.{join-even, join-odd}
 use borrow.Author.Needs.{needs}
 use Rattle.arith.proofs.root.join.Statement.{statement}
 use Rattle.arith.proofs.root.join.Tie as tie
