@@ -54,9 +54,10 @@ module _ (plan : Plan) (scratch : List Float) (few : plan .«body_count» ≤ 16
         puts-as (step-text e same) (report-puts n (s .nonlinear) (s .linear) b out fit h)
 
 -- ---- a file
-posed-by : (file : List ℕ) (scratch : List Float) {reading : Reading} → reading ≡ readOf file emptyOf → posedBy reading scratch ≡ poseOf file scratch
+posed-by : (file : List ℕ) (scratch : List Float) {reading : Reading} {empty : Plan} → reading ≡ readOf file empty → empty ≡ emptyOf
+    → posedBy reading scratch ≡ poseOf file scratch
 unfolding poseOf
-posed-by file scratch e = ap (λ (x : Reading). posedBy x scratch) e
+posed-by file scratch e i = ap (λ (x : Reading). posedBy x scratch) (e ∙ ap (readOf file) i)
 
 module _ (file : List ℕ) (scratch : List Float) (out : List ℕ) where
   -- what `pose` ensures of its answer r, and of the scratch and of out as it leaves them
@@ -82,16 +83,16 @@ module _ (file : List ℕ) (scratch : List Float) (out : List ℕ) where
           ),
         )
 
-    module _ {reading : Reading} {n : ℕ} (e : reading ≡ readOf file emptyOf) (i : n ≡ numberOf (reading .outcome)) where
+    module _ {reading : Reading} {empty : Plan} {n : ℕ} (e : reading ≡ readOf file empty) (f : empty ≡ emptyOf) (i : n ≡ numberOf (reading .outcome)) where
       pub poses-read : n ≡ 0 → Puts out 0 (posedAfter (stepOf (reading .plan) scratch) .text) after r
           → left ≡ posedAfter (stepOf (reading .plan) scratch) .scratch → Poses left after r
       poses-read z h l =
           let way : posedAfter (stepOf (reading .plan) scratch) ≡ posedBy reading scratch = simp (eq-eqb _ _ (sym i ∙ z)) in
-          poses-some (way ∙ posed-by file scratch e) h l
+          poses-some (way ∙ posed-by file scratch e f) h l
 
       pub poses-refused : (n ≡ 0 → ⊥) → Reports n 0 0 [] out after r → left ≡ scratch → Poses left after r
       poses-refused z h l =
           let way : record { text = reportOf (numberOf (reading .outcome)) 0 0 []; scratch = scratch } ≡ posedBy reading scratch =
           simp (ne-eqb _ _ (λ q. z (i ∙ q))) in
           let fit : roomOf [] ≤ length out = omega arith in
-          poses-some (way ∙ posed-by file scratch e) (puts-as (ap (λ (k : ℕ). reportOf k 0 0 []) i) (report-puts n 0 0 [] out fit h)) l
+          poses-some (way ∙ posed-by file scratch e f) (puts-as (ap (λ (k : ℕ). reportOf k 0 0 []) i) (report-puts n 0 0 [] out fit h)) l

@@ -110,6 +110,10 @@ module _ {out : List ℕ} {at : ℕ} {s now : List ℕ} {a : ℕ} (p : Puts out 
             ∙ written-more out at s fits t;
       }
 
+-- what is left after a text of at most m, where there were m + k
+left : {out : List ℕ} {at : ℕ} {s now : List ℕ} {a : ℕ} → Puts out at s now a → (m k : ℕ) → length s ≤ m → at + (m + k) ≤ length out → a + k ≤ length now
+left p m k h g = omega (arith, p .ends, same-length p)
+
 -- ---- digits
 -- more than k + 1 digits make a number no smaller than b ^ k
 module _ (b least n k : ℕ) (pos : 1 ≤ b) (h : Fewest b least n k) where
@@ -173,27 +177,24 @@ module _ (n : ℕ) {k : ℕ} {t : List ℕ} (h : n < 2 ^ 64) (g : Fewest 10 1 n 
   pub decimal-text : t ≡ decimalOf n
   decimal-text = e ∙ decimal-is n k h g
 
-  pub decimal-short : length t ≤ 20
-  decimal-short = omega (arith, ap length decimal-text, decimal-length n)
+  pub decimal-room : (out : List ℕ) (at : ℕ) → at + 20 ≤ length out → at + length t ≤ length out
+  decimal-room out at room = omega (arith, ap length decimal-text, decimal-length n)
 
 module _ (x : Float) {n k : ℕ} {t : List ℕ} (h : n < 2 ^ 64) (i : n ≡ toBits binary64 x) (g : Fewest 16 16 n k) (e : t ≡ digits 16 k n) where
   pub hex-text : t ≡ hexOf x
   hex-text = e ∙ hex-is x n k h i g
 
-  pub hex-short : length t ≡ 16
-  hex-short = ap length hex-text ∙ hex-length x
+  module _ {out : List ℕ} {at : ℕ} {one : List ℕ} {a : ℕ} (p : Puts out at (32 ∷ []) one a) where
+    pub hex-room : at + 17 ≤ length out → a + length t ≤ length one
+    hex-room room = omega (arith, ap length hex-text, hex-length x, left p 1 16 (omega arith) room)
+
+    pub hex-puts : {two : List ℕ} {r : ℕ} → Puts one a t two r → Puts out at (numberOf x) two r
+    unfolding numberOf
+    hex-puts q = puts-then p (puts-as hex-text q)
 
 -- ---- the pieces in their order, with the room that each leaves
--- what is left after a text of at most m, where there were m + k
-pub left : {out : List ℕ} {at : ℕ} {s now : List ℕ} {a : ℕ} → Puts out at s now a → (m k : ℕ) → length s ≤ m → at + (m + k) ≤ length out → a + k ≤ length now
-left p m k h g = omega (arith, p .ends, same-length p)
 
-pub number-puts : (x : Float) {out : List ℕ} {at : ℕ} {one two : List ℕ} {a r : ℕ} → Puts out at (32 ∷ []) one a → Puts one a (hexOf x) two r
-    → Puts out at (numberOf x) two r
-unfolding numberOf
-number-puts x p q = puts-then p q
-
-module _ (n m : ℕ) {out : List ℕ} {at : ℕ} (room : at + 42 ≤ length out) {one : List ℕ} {a : ℕ} (p : Puts out at (decimalOf n) one a) where
+module _ (n : ℕ) {out : List ℕ} {at : ℕ} (room : at + 42 ≤ length out) {one : List ℕ} {a : ℕ} (p : Puts out at (decimalOf n) one a) where
   pub counts-after-first : a + 1 ≤ length one
   counts-after-first = left p 20 1 (decimal-length n) (omega arith)
 
@@ -201,7 +202,7 @@ module _ (n m : ℕ) {out : List ℕ} {at : ℕ} (room : at + 42 ≤ length out)
     pub counts-after-space : b + 20 ≤ length two
     counts-after-space = left (puts-then p q) 21 20 (simp length-append (omega (arith, decimal-length n))) (omega arith)
 
-    module _ {three : List ℕ} {d : ℕ} (r : Puts two b (decimalOf m) three d) where
+    module _ (m : ℕ) {three : List ℕ} {d : ℕ} (r : Puts two b (decimalOf m) three d) where
       pub counts-after-second : d + 1 ≤ length three
       counts-after-second = left (puts-then (puts-then p q) r) 41 1 (simp length-append (omega (arith, decimal-length n, decimal-length m))) (omega arith)
 
@@ -209,11 +210,11 @@ module _ (n m : ℕ) {out : List ℕ} {at : ℕ} (room : at + 42 ≤ length out)
       unfolding countsOf
       counts-puts l = puts-then (puts-then (puts-then p q) r) l
 
-module _ (number n m : ℕ) {out : List ℕ} (room : HEAD-LINE ≤ length out) {one : List ℕ} {a : ℕ} (p : Puts out 0 (78 ∷ 79 ∷ 32 ∷ []) one a) where
+module _ {out : List ℕ} (room : HEAD-LINE ≤ length out) {one : List ℕ} {a : ℕ} (p : Puts out 0 (78 ∷ 79 ∷ 32 ∷ []) one a) where
   pub no-after-word : a + 20 ≤ length one
   no-after-word = left p 3 20 (omega arith) (omega arith)
 
-  module _ {two : List ℕ} {b : ℕ} (q : Puts one a (decimalOf number) two b) where
+  module _ (number : ℕ) {two : List ℕ} {b : ℕ} (q : Puts one a (decimalOf number) two b) where
     pub no-after-number : b + 1 ≤ length two
     no-after-number = left (puts-then p q) 23 1 (simp length-append (omega (arith, decimal-length number))) (omega arith)
 
@@ -221,14 +222,14 @@ module _ (number n m : ℕ) {out : List ℕ} (room : HEAD-LINE ≤ length out) {
       pub no-after-space : d + 42 ≤ length three
       no-after-space = left (puts-then (puts-then p q) r) 24 42 (simp length-append (omega (arith, decimal-length number))) (omega arith)
 
-      pub no-puts : {four : List ℕ} {e : ℕ} → Puts three d (countsOf n m) four e → Puts out 0 (noLine number n m) four e
+      pub no-puts : (n m : ℕ) {four : List ℕ} {e : ℕ} → Puts three d (countsOf n m) four e → Puts out 0 (noLine number n m) four e
       unfolding noLine
-      no-puts l = puts-then (puts-then (puts-then p q) r) l
+      no-puts n m l = puts-then (puts-then (puts-then p q) r) l
 
-module _ (n m : ℕ) {out : List ℕ} (room : HEAD-LINE ≤ length out) {one : List ℕ} {a : ℕ} (p : Puts out 0 (79 ∷ 75 ∷ 32 ∷ []) one a) where
-  pub ok-puts : {two : List ℕ} {b : ℕ} → Puts one a (countsOf n m) two b → Puts out 0 (okLine n m) two b
-  unfolding okLine
-  ok-puts q = puts-then p q
+pub ok-puts : (n m : ℕ) {out one two : List ℕ} {a b : ℕ} → Puts out 0 (79 ∷ 75 ∷ 32 ∷ []) one a → Puts one a (countsOf n m) two b
+    → Puts out 0 (okLine n m) two b
+unfolding okLine
+ok-puts n m p q = puts-then p q
 
 module _ (number n m : ℕ) {out after : List ℕ} {r : ℕ} where
   pub head-ok : number ≡ 0 → Puts out 0 (okLine n m) after r → Puts out 0 (headLine number n m) after r

@@ -91,9 +91,9 @@ module _ {A O : Type 0} (finite : A → Bool) (largest : A → Float) (div : A �
       unfolding normalizeBy
       normalize-flat h g = cc
 
-      pub normalize-some : not f ≡ false → Ieee.eq l o ≡ false → {r : A} → r ≡ div w l → some r ≡ answer
+      pub normalize-some : not f ≡ false → Ieee.eq l o ≡ false → {r : A} → r ≡ div w l → {x : O} → x ≡ some r → x ≡ answer
       unfolding normalizeBy
-      normalize-some h g er = cc
+      normalize-some h g er ex = cc
 
 -- ---- checked_length
 module _ (v : Vec3) {l : Float} (el : l ≡ lengthOf v) {b : Bool} (eb : b ≡ isFinite l) where

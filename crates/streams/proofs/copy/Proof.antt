@@ -1,5 +1,5 @@
 -- `copy`: after i turns i bytes are copied.
-use Prim.Native.Nat.{ℕ, _+_, _-_, _≤_, zero-le}
+use Prim.Native.Nat.{ℕ, _+_, _-_, _≤_, _<_, zero-le}
 use native.Mathlib.Omega.{arith}
 use native.Mathlib.Numerals.{add-one}
 use mathlib.Core.Path.{_≡_, refl, sym, ap, _∙_}
@@ -9,35 +9,23 @@ use lib.Seq.{paste, paste-zero, paste-suc}
 use Rattle.streams.proofs.copy.Statement.{statement}
 use Rattle.streams.proofs.copy.Tie as tie
 
+module _ (to : List ℕ) (at : ℕ) (from : List ℕ) (n i : ℕ) {now : List ℕ} where
+  more : n ≤ length from → at + n ≤ length to → i < n → now ≡ paste to at from i → set now (at + i) (getD from i 0) ≡ paste to at from (i + 1)
+  more h g l e =
+      ap (λ (d : List ℕ). set d (at + i) (getD from i 0)) e ∙ paste-suc to at from i 0 (omega arith) (omega arith) ∙ ap (paste to at from) (sym (add-one i))
+
+  all : i ≤ n → n ≤ i → now ≡ paste to at from i → now ≡ paste to at from n
+  all h g e = let same : i ≡ n = omega arith in e ∙ ap (paste to at from) same
+
 abbrev Inv-loop : tie.InvT-loop
 Inv-loop from n to₀ at i₀ to i = (length to ≡ length to₀) × (i ≤ n) × (to ≡ paste to₀ at from i)
 
 abbrev μ-loop : tie.MeasureT-loop
 μ-loop from n to₀ at i₀ to i = n - i
 
-loop-holds : tie.Need-loop-holds Inv-loop μ-loop
-loop-holds c = let a = c .args in (refl, zero-le, paste-zero (a .to .now) (a .at) (a .from .now))
-
-loop-again : tie.Need-loop-again Inv-loop μ-loop
-loop-again c =
-    let l = c .before .before .loop in
-    let a = c .before .before .before .args in (
-      simp length-set (l .inv .0),
-      omega arith,
-      ap (λ (d : List ℕ). set d (a .at + l .i) (getD (a .from .now) (l .i) 0)) (l .inv .2)
-          ∙ paste-suc (a .to .now) (a .at) (a .from .now) (l .i) 0 (omega arith) (omega arith)
-          ∙ ap (paste (a .to .now) (a .at) (a .from .now)) (sym (add-one (l .i))),
-    )
-
-returns : tie.Need-returns Inv-loop μ-loop
-returns c =
-    let l = c .before .loop in
-    let a = c .before .before .args in
-    let all : l .i ≡ a .n = omega arith in
-    l .inv .2 ∙ ap (paste (a .to .now) (a .at) (a .from .now)) all
-
 pub copy-spec : {M : Type 1} → statement M
 copy-spec =
     tie.close (tie.spec
-    Inv-loop μ-loop loop-holds (λ c. omega arith) (λ c. omega arith) (λ c. omega arith) (λ c. omega arith)
-    (λ c. omega arith) loop-again (λ c. omega arith) returns)
+    Inv-loop μ-loop (λ c. (refl, zero-le, search paste-zero)) (λ c. omega arith) (λ c. omega arith) (λ c. omega arith)
+    (λ c. omega arith) (λ c. omega arith) (λ c. (simp length-set (c .before .before .loop .inv .0), omega arith, search more))
+    (λ c. omega arith) (λ c. search all))

@@ -14,7 +14,7 @@ returns c =
     let at-start = at-guess .before .before in
     let held : T (fits binary64 (at-start .args .x)) = subst T (sym (at-start .good .1 .0 .1)) tt in
     let guessed : T (fits binary64 (at-guess .guess .result)) = subst T (sym (at-guess .guess .ok)) tt in
-    root-of-digits (at-start .args .x) (at-guess .guess .result) held guessed
+    root-of-digits _ _ held guessed
     (at-check .before .before .if3 .taken) (at-check .before .if4 .taken) (at-check .is-nearest .ensures (c .if5 .taken))
 
 pub root-near-one-spec : {M : Type 1} → statement M

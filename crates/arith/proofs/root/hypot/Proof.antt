@@ -14,25 +14,9 @@ returns-2 c =
     c .infinity2 .ensures ∙ hypot-second _ _ (at-if1 .before .is-finite .ensures)
     (at-if1 .if1 .left) (c .before .before .is-finite2 .ensures) (c .before .if2 .taken)
 
-returns-3 : tie.Need-returns-3
-returns-3 c =
-    let at-abs = c .before .before .before in
-    let at-if1 = at-abs .before .before .before in
-    hypot-less _ _ (at-if1 .before .is-finite .ensures) (at-if1 .if1 .left) (at-abs .before .before .is-finite2 .ensures)
-    (at-abs .before .if2 .left) (at-abs .abs .ensures) (c .before .before .abs2 .ensures) (c .before .if3 .taken)
-    (c .scaled-root .ensures)
-
-returns-4 : tie.Need-returns-4
-returns-4 c =
-    let at-abs = c .before .before .before in
-    let at-if1 = at-abs .before .before .before in
-    hypot-more _ _ (at-if1 .before .is-finite .ensures) (at-if1 .if1 .left) (at-abs .before .before .is-finite2 .ensures)
-    (at-abs .before .if2 .left) (at-abs .abs .ensures) (c .before .before .abs2 .ensures) (c .before .if3 .left)
-    (c .scaled-root2 .ensures)
-
 pub hypot-spec : {M : Type 1} → statement M
 hypot-spec =
     tie.close (tie.spec
     (λ c κs. search needs) (λ c κs. search needs) returns (λ c κs. search needs) (λ c κs. search needs)
     returns-2 (λ c κs. search needs) (λ c κs. search needs) (λ c κs. search needs) (λ c κs. search needs)
-    returns-3 returns-4)
+    (λ c. search hypot-less) (λ c. search hypot-more))

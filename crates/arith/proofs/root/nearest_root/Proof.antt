@@ -1,5 +1,5 @@
 -- `root::nearest_root` meets its contract: all of it follows from the bounds and the equation of `RootHalves`.
-use Prim.Native.Nat.{ℕ, _+_, _-_, _*_, _^_, _≤_, _<_}
+use Prim.Native.Nat.{ℕ, _+_, _*_, _^_, _≤_, _<_}
 use native.Mathlib.Omega.{arith}
 use lib.Dec.{lit≤}
 use borrow.Author.Needs.{needs}
@@ -8,7 +8,7 @@ use Rattle.arith.proofs.root.nearest_root.Statement.{statement}
 use Rattle.arith.proofs.root.nearest_root.Tie as tie
 
 known : (c : tie.After-whole-root) → Halves (c .before .args .m) (c .whole-root .result)
-known c = halves (c .before .args .m) (c .whole-root .result) (c .before .pre .0) (c .before .pre .1) (c .whole-root .ensures .0) (c .whole-root .ensures .1)
+known c = halves _ _ (c .before .pre .0) (c .before .pre .1) (c .whole-root .ensures .0) (c .whole-root .ensures .1)
 
 positive : (s : ℕ) → 67108864 ≤ s → 0 < s
 positive s h = omega arith
@@ -44,10 +44,10 @@ add-result : tie.Need-add-result
 add-result c = record { fits = up-fits (c .before .whole-root .result) _ _ (known (c .before) .s-hi) (known (c .before) .t-hi) (lit≤ tt) }
 
 returns : tie.Need-returns
-returns c = near-up (c .before .before .args .m) (c .before .whole-root .result) (known (c .before)) (c .if1 .taken)
+returns c = near-up _ _ (known (c .before)) (c .if1 .taken)
 
 returns-2 : tie.Need-returns-2
-returns-2 c = near-stay (c .before .before .args .m) (c .before .whole-root .result) (known (c .before)) (c .if1 .left)
+returns-2 c = near-stay _ _ (known (c .before)) (c .if1 .left)
 
 pub nearest-root-spec : {M : Type 1} → statement M
 nearest-root-spec =

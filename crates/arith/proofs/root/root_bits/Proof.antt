@@ -14,8 +14,7 @@ use Rattle.arith.proofs.root.root_bits.Tie as tie
 
 up : (c : tie.Then1) → Shifted (c .before .args .b % 4503599627370496) (leadingZeros 64 (c .before .args .b % 4503599627370496))
 up c =
-    shifted (c .before .args .b % 4503599627370496) (digits-pos (c .before .args .b) (c .before .pre .0) (c .if1 .taken))
-    (mod-lt (c .before .args .b) (lit< tt))
+    shifted _ (digits-pos _ (c .before .pre .0) (c .if1 .taken)) (mod-lt _ (lit< tt))
   where
     digits-pos : (b : ℕ) → 0 < b → b / 4503599627370496 ≡ 0 → 0 < b % 4503599627370496
     digits-pos b p e = omega arith
@@ -34,17 +33,16 @@ join-requires c κs = (up c .lo, up c .hi, exponents _ (up c .z-hi) .0, exponent
 
 returns : tie.Need-returns
 returns c =
-    let at-start = c .before .before in
-    let b = at-start .args .b in (
+    let at-start = c .before .before in (
       c .join .ensures .0,
       c .join .ensures .1 ∙ ap (λ (x : ℕ). roundRoot binary64 x) (up (c .before) .same)
-          ∙ sym (sqrt-low b (at-start .pre .0) (at-start .pre .1) (c .before .if1 .taken)),
+          ∙ sym (sqrt-low _ (at-start .pre .0) (at-start .pre .1) (c .before .if1 .taken)),
     )
 
 returns-2 : tie.Need-returns-2
 returns-2 c =
     let at-start = c .before .before in
-    (c .join2 .ensures .0, c .join2 .ensures .1 ∙ sym (sqrt-high (at-start .args .b) (at-start .pre .1) (c .before .if1 .left)))
+    (c .join2 .ensures .0, c .join2 .ensures .1 ∙ sym (sqrt-high _ (at-start .pre .1) (c .before .if1 .left)))
 
 pub root-bits-spec : {M : Type 1} → statement M
 root-bits-spec =

@@ -13,36 +13,29 @@ held : (c : tie.Start) → T (fits binary64 (c .args .x))
 held c = subst T (sym (c .good .0 .1)) tt
 
 root-bits-requires : tie.Need-root-bits-requires
-root-bits-requires c κs = (bits-pos (c .before .before .args .x) (held (c .before .before)) (c .before .if1 .taken), c .if2 .taken)
+root-bits-requires c κs = (bits-pos _ (held (c .before .before)) (c .before .if1 .taken), c .if2 .taken)
 
 float-from-bits-result : tie.Need-float-from-bits-result
-float-from-bits-result c = no-nan-bits (c .root-bits .result) (c .root-bits .ensures .0)
+float-from-bits-result c = no-nan-bits _ (c .root-bits .ensures .0)
 
 returns : tie.Need-returns
 returns c =
     let at-start = c .before .before .before in
-    let x = at-start .args .x in
-    rooted x (held at-start) (c .root-bits .ensures .1 ∙ ap (λ (x : Float). sqrt binary64 x) (ofBits-toBits binary64 x (held at-start)))
+    rooted _ (held at-start) (c .root-bits .ensures .1 ∙ ap (λ (x : Float). sqrt binary64 x) (ofBits-toBits binary64 _ (held at-start)))
 
 returns-2 : tie.Need-returns-2
 returns-2 c =
     let at-start = c .before .before in
-    let x = at-start .args .x in
-    rooted x (held at-start) (infinite x (held at-start) (c .before .if1 .taken) (c .if2 .left))
+    rooted _ (held at-start) (infinite _ (held at-start) (c .before .if1 .taken) (c .if2 .left))
 
 returns-3 : tie.Need-returns-3
-returns-3 c =
-    let at-start = c .before .before in
-    rooted (at-start .args .x) (held at-start) (at-zero (at-start .args .x) (c .if3 .taken))
+returns-3 c = rooted _ (held (c .before .before)) (at-zero _ (c .if3 .taken))
 
 returns-4 : tie.Need-returns-4
-returns-4 c =
-    let at-start = c .before .before in
-    let x = at-start .args .x in
-    rooted x (held at-start) (nowhere x (c .before .if1 .left) (c .if3 .left))
+returns-4 c = rooted _ (held (c .before .before)) (nowhere _ (c .before .if1 .left) (c .if3 .left))
 
 pub sqrt-spec : {M : Type 1} → statement M
 sqrt-spec =
     tie.close (tie.spec
-    (λ c. above-no-nan (c .before .args .x) (c .if1 .taken)) root-bits-requires float-from-bits-result returns
+    (λ c. search above-no-nan) root-bits-requires float-from-bits-result returns
     returns-2 returns-3 returns-4)

@@ -13,25 +13,24 @@ abbrev μ-loop : tie.MeasureT-loop
 μ-loop m r₀ r = r
 
 loop-holds : tie.Need-loop-holds Inv-loop μ-loop
-loop-holds c = (newton-above (c .args .m) 94906266 (zero-lt-suc 94906265), omega arith)
+loop-holds c = (newton-above _ 94906266 (zero-lt-suc 94906265), omega arith)
 
 mul-loop : tie.Need-mul-loop Inv-loop μ-loop
 mul-loop c = omega (arith, mul-le-mul (c .loop .inv .1) (c .loop .inv .1))
 
 div-r : tie.Need-div-r Inv-loop μ-loop
-div-r c = sq-pos (c .before .before .args .m) (c .before .loop .r) (c .loop-test .taken)
+div-r c = sq-pos _ _ (c .loop-test .taken)
 
 add-r-2 : tie.Need-add-r-2 Inv-loop μ-loop
 add-r-2 c = omega (arith, div-le-self (c .before .before .args .m) (c .before .loop .r))
 
 loop-less : tie.Need-loop-less Inv-loop μ-loop
-loop-less c = newton-below (c .before .before .args .m) (c .before .loop .r) (c .loop-test .taken)
+loop-less c = newton-below _ _ (c .loop-test .taken)
 
 loop-again : tie.Need-loop-again Inv-loop μ-loop
 loop-again c =
-    let m = c .before .before .args .m in
     let r = c .before .loop .r in
-    (newton-above m r (sq-pos m r (c .loop-test .taken)), omega (arith, newton-below m r (c .loop-test .taken), c .before .loop .inv .1))
+    (newton-above _ r (sq-pos _ r (c .loop-test .taken)), omega (arith, newton-below _ r (c .loop-test .taken), c .before .loop .inv .1))
 
 pub whole-root-spec : {M : Type 1} → statement M
 whole-root-spec =

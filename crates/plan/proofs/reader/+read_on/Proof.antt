@@ -49,59 +49,27 @@ calls t = (
   with-joint-reads.Learnt,
 )
 
-head-requires : (t : ℕ) → read-on-lts.Need-head-requires (calls t) (read-on-at t) read-on.Post
-head-requires t c κs = search needs
-
-enum-told : (t : ℕ) → read-on-lts.Need-enum-told (calls t) (read-on-at t) read-on.Post
-enum-told t c = search needs
-
-ended-requires : (t : ℕ) → read-on-lts.Need-ended-requires (calls t) (read-on-at t) read-on.Post
-ended-requires t c κs = search needs
-
-enum-known-outcome : (t : ℕ) → read-on-lts.Need-enum-known-outcome (calls t) (read-on-at t) read-on.Post
-enum-known-outcome t c = search needs
-
-enum-told-2 : (t : ℕ) → read-on-lts.Need-enum-told-2 (calls t) (read-on-at t) read-on.Post
-enum-told-2 t c = search needs
-
+-- each record's bytes are there
 sub-read-on : (t : ℕ) → read-on-lts.Need-sub-read-on (calls t) (read-on-at t) read-on.Post
-sub-read-on t c = omega (arith, room-time-step _ _ _ _ (c .before .before .head .ensures) (c .enum-told2 .given .1))
+sub-read-on t c = search room-time-step
 
-part-read-on-start : (t : ℕ) → read-on-lts.Need-part-read-on-start (calls t) (read-on-at t) read-on.Post
-part-read-on-start t c = omega (arith, room-time-step _ _ _ _ (c .before .before .head .ensures) (c .enum-told2 .given .1))
+sub-read-on-2 : (t : ℕ) → read-on-lts.Need-sub-read-on-2 (calls t) (read-on-at t) read-on.Post
+sub-read-on-2 t c = room-body _ _ _ _ (c .before .before .head .ensures) (c .enum-told3 .given .1) .0
 
-part-read-on-end : (t : ℕ) → read-on-lts.Need-part-read-on-end (calls t) (read-on-at t) read-on.Post
-part-read-on-end t c = omega arith
-
-double-at-requires : (t : ℕ) → read-on-lts.Need-double-at-requires (calls t) (read-on-at t) read-on.Post
-double-at-requires t c κs = room-time-step _ _ _ _ (c .before .before .before .head .ensures) (c .before .enum-told2 .given .1)
+sub-read-on-3 : (t : ℕ) → read-on-lts.Need-sub-read-on-3 (calls t) (read-on-at t) read-on.Post
+sub-read-on-3 t c = length-joint _ _ _ _ (c .before .before .before .head .ensures) (c .before .n .given .1) .0
 
 with-time-step-requires : (t : ℕ) → read-on-lts.Need-with-time-step-requires (calls t) (read-on-at t) read-on.Post
 with-time-step-requires t c κs =
     let at-told = c .before .before in
-    let at-head = at-told .before .before in
-    let start = at-head .before .before in
-    omega (arith, room-time-step _ _ _ _ (at-head .head .ensures) (at-told .enum-told2 .given .1), start .pre .1)
+    let start = at-told .before .before .before .before in
+    omega (arith, sub-read-on t at-told, start .pre .1)
 
 read-on-requires : (t : ℕ) → read-on-lts.Need-read-on-requires (calls t) (read-on-at t) read-on.Post
 read-on-requires t c κs =
     let at-told = c .before .before .before in
-    let at-head = at-told .before .before in
-    let start = at-head .before .before in
-    let room = room-time-step _ _ _ _ (at-head .head .ensures) (at-told .enum-told2 .given .1) in
-    rest-asked _ (now (start .args .file)) (start .args .notes .at) (omega arith) room (c .with-time-step .ensures) refl (start .pre)
-
-enum-told-3 : (t : ℕ) → read-on-lts.Need-enum-told-3 (calls t) (read-on-at t) read-on.Post
-enum-told-3 t c = search needs
-
-sub-read-on-2 : (t : ℕ) → read-on-lts.Need-sub-read-on-2 (calls t) (read-on-at t) read-on.Post
-sub-read-on-2 t c = omega (arith, room-body _ _ _ _ (c .before .before .head .ensures) (c .enum-told3 .given .1) .0)
-
-part-read-on-start-2 : (t : ℕ) → read-on-lts.Need-part-read-on-start-2 (calls t) (read-on-at t) read-on.Post
-part-read-on-start-2 t c = omega (arith, room-body _ _ _ _ (c .before .before .head .ensures) (c .enum-told3 .given .1) .0)
-
-part-read-on-end-2 : (t : ℕ) → read-on-lts.Need-part-read-on-end-2 (calls t) (read-on-at t) read-on.Post
-part-read-on-end-2 t c = omega arith
+    let start = at-told .before .before .before .before in
+    rest-asked _ (now (start .args .file)) _ (omega arith) (sub-read-on t at-told) (c .with-time-step .ensures) refl (start .pre)
 
 with-body-requires : (t : ℕ) → read-on-lts.Need-with-body-requires (calls t) (read-on-at t) read-on.Post
 with-body-requires t c κs =
@@ -114,30 +82,15 @@ with-body-requires t c κs =
 read-on-requires-2 : (t : ℕ) → read-on-lts.Need-read-on-requires-2 (calls t) (read-on-at t) read-on.Post
 read-on-requires-2 t c κs =
     let at-told = c .before .before in
-    let at-head = at-told .before .before in
-    let start = at-head .before .before in
-    let room = room-body _ _ _ _ (at-head .head .ensures) (at-told .enum-told3 .given .1) in
-    rest-asked _ (now (start .args .file)) (start .args .notes .at) (omega arith) (room .0) (c .with-body .ensures) refl (start .pre)
-
-enum-known-n : (t : ℕ) → read-on-lts.Need-enum-known-n (calls t) (read-on-at t) read-on.Post
-enum-known-n t c = search needs
-
-sub-read-on-3 : (t : ℕ) → read-on-lts.Need-sub-read-on-3 (calls t) (read-on-at t) read-on.Post
-sub-read-on-3 t c = omega (arith, length-joint _ _ _ _ (c .before .before .before .head .ensures) (c .before .n .given .1) .0)
-
-part-read-on-start-3 : (t : ℕ) → read-on-lts.Need-part-read-on-start-3 (calls t) (read-on-at t) read-on.Post
-part-read-on-start-3 t c = omega (arith, length-joint _ _ _ _ (c .before .before .before .head .ensures) (c .before .n .given .1) .0)
-
-part-read-on-end-3 : (t : ℕ) → read-on-lts.Need-part-read-on-end-3 (calls t) (read-on-at t) read-on.Post
-part-read-on-end-3 t c = omega arith
+    let start = at-told .before .before .before .before in
+    rest-asked _ (now (start .args .file)) _ (omega arith) (sub-read-on-2 t at-told) (c .with-body .ensures) refl (start .pre)
 
 with-joint-requires : (t : ℕ) → read-on-lts.Need-with-joint-requires (calls t) (read-on-at t) read-on.Post
 with-joint-requires t c κs =
     let at-told = c .before .before in
     let at-head = at-told .before .before in
     let start = at-head .before .before in
-    let long = length-joint _ _ _ _ (at-head .head .ensures) (at-told .n .given .1) in
-    (omega (arith, long .0, start .pre .1), room-joint _ _ _ _ (at-head .head .ensures) (at-told .n .given .1) .1)
+    (omega (arith, sub-read-on-3 t (c .before), start .pre .1), room-joint _ _ _ _ (at-head .head .ensures) (at-told .n .given .1) .1)
 
 read-on-requires-3 : (t : ℕ) → read-on-lts.Need-read-on-requires-3 (calls t) (read-on-at t) read-on.Post
 read-on-requires-3 t c κs =
@@ -145,66 +98,16 @@ read-on-requires-3 t c κs =
     let at-head = at-told .before .before in
     let start = at-head .before .before in
     let long = length-joint _ _ _ _ (at-head .head .ensures) (at-told .n .given .1) in
-    rest-asked _ (now (start .args .file)) (start .args .notes .at) (omega (arith, long .1)) (long .0) (c .with-joint .ensures) refl (start .pre)
-
-returns : (t : ℕ) → read-on-lts.Need-returns (calls t) (read-on-at t) read-on.Post
-returns t c = read-end _ _ (c .before .before .before .head .ensures) (c .before .enum-told .given .1) (c .ended .ensures)
-
-returns-2 : (t : ℕ) → read-on-lts.Need-returns-2 (calls t) (read-on-at t) read-on.Post
-returns-2 t c = read-refused _ _ (c .before .before .before .head .ensures) (c .before .outcome .given .1)
-
-returns-3 : (t : ℕ) → read-on-lts.Need-returns-3 (calls t) (read-on-at t) read-on.Post
-returns-3 t c =
-    let at-with = c .before in
-    let at-double = at-with .before in
-    let at-told = at-double .before .before in
-    let at-head = at-told .before .before in
-    read-time-step _ _ (at-head .head .ensures) (at-told .enum-told2 .given .1) (at-double .double-at .ensures) (at-with .with-time-step .ensures)
-    (c .read-on .ensures)
-
-returns-4 : (t : ℕ) → read-on-lts.Need-returns-4 (calls t) (read-on-at t) read-on.Post
-returns-4 t c =
-    let at-with = c .before in
-    let at-told = at-with .before .before in
-    let at-head = at-told .before .before in
-    read-body _ _ (at-head .head .ensures) (at-told .enum-told3 .given .1) (at-with .with-body .ensures) (c .read-on2 .ensures)
-
-returns-5 : (t : ℕ) → read-on-lts.Need-returns-5 (calls t) (read-on-at t) read-on.Post
-returns-5 t c =
-    let at-with = c .before in
-    let at-told = at-with .before .before .before in
-    let at-head = at-told .before .before in
-    read-joint _ _ (at-head .head .ensures) (at-told .n .given .1) (at-with .with-joint .ensures) (c .read-on3 .ensures)
+    rest-asked _ (now (start .args .file)) _ (omega (arith, long .1)) (long .0) (c .with-joint .ensures) refl (start .pre)
 
 pub +read-on-spec : {M : Type 1} → statement M
 +read-on-spec =
     close μ-read-on λ t.
     read-on-lts.spec (calls t) (read-on-at t) read-on.Post
-    (head-requires t)
-    (enum-told t)
-    (ended-requires t)
-    (enum-known-outcome t)
-    (enum-told-2 t)
-    (sub-read-on t)
-    (part-read-on-start t)
-    (part-read-on-end t)
-    (double-at-requires t)
-    (with-time-step-requires t)
-    (read-on-requires t)
-    (enum-told-3 t)
-    (sub-read-on-2 t)
-    (part-read-on-start-2 t)
-    (part-read-on-end-2 t)
-    (with-body-requires t)
-    (read-on-requires-2 t)
-    (enum-known-n t)
-    (sub-read-on-3 t)
-    (part-read-on-start-3 t)
-    (part-read-on-end-3 t)
-    (with-joint-requires t)
-    (read-on-requires-3 t)
-    (returns t)
-    (returns-2 t)
-    (returns-3 t)
-    (returns-4 t)
-    (returns-5 t)
+    (λ c κs. search needs) (λ c. search needs) (λ c κs. search needs) (λ c. search needs) (λ c. search needs)
+    (sub-read-on t) (λ c. omega (arith, sub-read-on t c)) (λ c. omega arith) (λ c κs. search room-time-step)
+    (with-time-step-requires t) (read-on-requires t) (λ c. search needs) (sub-read-on-2 t)
+    (λ c. omega (arith, sub-read-on-2 t c)) (λ c. omega arith) (with-body-requires t) (read-on-requires-2 t)
+    (λ c. search needs) (sub-read-on-3 t) (λ c. omega (arith, sub-read-on-3 t c)) (λ c. omega arith)
+    (with-joint-requires t) (read-on-requires-3 t) (λ c. search read-end) (λ c. search read-refused)
+    (λ c. search read-time-step) (λ c. search read-body) (λ c. search read-joint)

@@ -5,6 +5,4 @@ use Rattle.plan.proofs.reader.joint_length.Tie as tie
 
 pub joint-length-spec : {M : Type 1} → statement M
 joint-length-spec =
-    tie.close (tie.spec
-    (λ c. size-4 _ (c .match .keys1)) (λ c. size-5 _ (c .match .keys2))
-    (λ c. size-other _ (c .match .rest .0 .1) (c .match .rest .1)))
+    tie.close (tie.spec (λ c. search size-4) (λ c. search size-5) (λ c. search size-other))

@@ -20,14 +20,7 @@ sub-joint-at : tie.Need-sub-joint-at Inv-loop μ-loop
 sub-joint-at c =
     let at-loop = c .before in
     let start = at-loop .before .before in
-    joint-within (now (start .args .file)) _ (start .pre .1 (at-loop .loop .k) (c .loop-test .taken))
-
-part-joint-at-start : tie.Need-part-joint-at-start Inv-loop μ-loop
-part-joint-at-start c =
-    let at-loop = c .before in
-    let start = at-loop .before .before in
-    let k = at-loop .loop .k in
-    omega (arith, joint-within (now (start .args .file)) (getD (start .args .t3) k 0) (start .pre .1 k (c .loop-test .taken)))
+    joint-within _ _ (start .pre .1 (at-loop .loop .k) (c .loop-test .taken))
 
 joint-at-requires : tie.Need-joint-at-requires Inv-loop μ-loop
 joint-at-requires c κs =
@@ -37,22 +30,9 @@ joint-at-requires c κs =
     let k = at-loop .loop .k in
     joint-there (now (start .args .file)) (getD (start .args .t3) k 0) (start .pre .1 k (at-test .loop-test .taken))
 
-loop-again : tie.Need-loop-again Inv-loop μ-loop
-loop-again c =
-    let at-test = c .before .before in
-    let at-loop = at-test .before in
-    let start = at-loop .before .before in
-    let inv = at-loop .loop .inv in
-    (omega arith, joints-more (now (start .args .file)) (start .args .t3) (at-loop .loop .k) (start .args .table) (inv .1) (c .joint-at .ensures))
-
-returns : tie.Need-returns Inv-loop μ-loop
-returns c =
-    let inv = c .before .loop .inv in
-    turns-end _ _ (inv .0) (c .loop-test .left) (inv .1)
-
 pub joints-from-spec : {M : Type 1} → statement M
 joints-from-spec =
     tie.close (tie.spec
     Inv-loop μ-loop (λ c. (omega arith, turns-none _ _)) (λ c. omega arith) (λ c. omega arith) sub-joint-at
-    part-joint-at-start (λ c. omega arith) joint-at-requires (λ c. omega arith) (λ c. omega arith)
-    (λ c. omega arith) (λ c. omega arith) loop-again returns)
+    (λ c. omega (arith, sub-joint-at c)) (λ c. omega arith) joint-at-requires (λ c. omega arith) (λ c. omega arith)
+    (λ c. omega arith) (λ c. omega arith) (λ c. (omega arith, search joints-more)) (λ c. search turns-end))

@@ -23,13 +23,6 @@ sub-put-body c =
     let start = at-loop .before .before .before in
     body-within _ _ (start .pre .1 (at-loop .loop .k) (c .before .loop-test .taken))
 
-part-put-body-start : tie.Need-part-put-body-start Inv-loop μ-loop
-part-put-body-start c =
-    let at-loop = c .before .before in
-    let start = at-loop .before .before .before in
-    let k = at-loop .loop .k in
-    omega (arith, body-within (now (start .args .file)) (getD (start .args .t3) k 0) (start .pre .1 k (c .before .loop-test .taken)))
-
 put-body-requires : tie.Need-put-body-requires Inv-loop μ-loop
 put-body-requires c κs =
     let at-test = c .before .before in
@@ -43,22 +36,12 @@ loop-again : tie.Need-loop-again Inv-loop μ-loop
 loop-again c =
     let at-put = c .before .before in
     let at-test = at-put .before .before .before in
-    let at-loop = at-test .before in
-    let start = at-loop .before .before .before in
-    let inv = at-loop .loop .inv in (
-      omega (arith, at-test .loop-test .taken),
-      at-put .put-body .kept .0 ∙ inv .1,
-      bodies-more (now (start .args .file)) (start .args .t3) (at-loop .loop .k) (now (start .args .table)) (inv .2) (at-put .put-body .ensures),
-    )
-
-returns : tie.Need-returns Inv-loop μ-loop
-returns c =
-    let inv = c .before .loop .inv in
-    turns-end _ _ (inv .0) (c .loop-test .left) (inv .2)
+    let inv = at-test .before .loop .inv in
+    (omega (arith, at-test .loop-test .taken), at-put .put-body .kept .0 ∙ inv .1, search bodies-more)
 
 pub put-bodies-spec : {M : Type 1} → statement M
 put-bodies-spec =
     tie.close (tie.spec
     Inv-loop μ-loop (λ c. (omega arith, c .before .before .pre .0 .1, turns-none _ _)) (λ c. omega arith)
-    (λ c. omega arith) (λ c. omega arith) sub-put-body part-put-body-start (λ c. omega arith)
-    put-body-requires (λ c. omega arith) (λ c. omega arith) loop-again (λ c. omega arith) returns)
+    (λ c. omega arith) (λ c. omega arith) sub-put-body (λ c. omega (arith, sub-put-body c)) (λ c. omega arith)
+    put-body-requires (λ c. omega arith) (λ c. omega arith) loop-again (λ c. omega arith) (λ c. search turns-end))

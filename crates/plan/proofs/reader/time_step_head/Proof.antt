@@ -6,6 +6,4 @@ use Rattle.plan.proofs.reader.time_step_head.Tie as tie
 pub time-step-head-spec : {M : Type 1} → statement M
 time-step-head-spec =
     tie.close (tie.spec
-    (λ c. time-step-second _ _ (c .if1 .taken))
-    (λ c. time-step-short _ _ (c .before .if1 .left) (c .if2 .taken))
-    (λ c. time-step-there _ _ (c .before .if1 .left) (c .if2 .left)))
+    (λ c. search time-step-second) (λ c. search time-step-short) (λ c. search time-step-there))

@@ -4,9 +4,5 @@ use borrow.Author.Needs.{needs}
 use Rattle.plan.proofs.records.double_at.Statement.{statement}
 use Rattle.plan.proofs.records.double_at.Tie as tie
 
-returns : tie.Need-returns
-returns c = double-is _ _ (c .before .word-at .ensures) (c .double-of .ensures)
-
 pub double-at-spec : {M : Type 1} → statement M
-double-at-spec =
-    tie.close (tie.spec (λ c κs. search needs) (λ c κs. search needs) returns)
+double-at-spec = tie.close (tie.spec (λ c κs. search needs) (λ c κs. search needs) (λ c. search double-is))

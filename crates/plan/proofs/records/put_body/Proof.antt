@@ -1,5 +1,4 @@
 -- `put_body`: after i turns the table has i of the body's doubles.
-use denote.Ref.{now}
 use native.Mathlib.Omega.{arith}
 use Rattle.plan.proofs.RecordLaws.{put-none, put-more, put-end}
 use Prim.Native.Nat.{_-_, _≤_}
@@ -16,31 +15,17 @@ Inv-loop bodies₀ at file i₀ bodies i = (i ≤ 26) × (length bodies ≡ leng
 abbrev μ-loop : tie.MeasureT-loop
 μ-loop bodies₀ at file i₀ bodies i = 26 - i
 
-loop-holds : tie.Need-loop-holds Inv-loop μ-loop
-loop-holds c = (omega arith, refl, put-none (now (c .before .before .args .bodies)) (c .before .before .args .at) (now (c .before .before .args .file)))
-
 loop-again : tie.Need-loop-again Inv-loop μ-loop
 loop-again c =
     let at-loop-test = c .before in
     let at-loop = at-loop-test .before in
     let start = at-loop .before .before .before in
-    let inv = at-loop .loop .inv in (
-      omega arith,
-      simp length-set (inv .1),
-      put-more (now (start .args .bodies)) (start .args .at) (now (start .args .file)) (at-loop .loop .i) (omega arith)
-          (at-loop-test .loop-test .taken) (inv .2) (c .double-at .ensures),
-    )
-
-returns : tie.Need-returns Inv-loop μ-loop
-returns c =
-    let at-loop = c .before in
-    let start = at-loop .before .before .before in
-    put-end (now (start .args .bodies)) (start .args .at) (now (start .args .file)) (at-loop .loop .i) (at-loop .loop .inv .0) (c .loop-test .left)
-    (at-loop .loop .inv .2)
+    let inv = at-loop .loop .inv in
+    (omega arith, simp length-set (inv .1), put-more _ _ _ _ (omega arith) (at-loop-test .loop-test .taken) (inv .2) (c .double-at .ensures))
 
 pub put-body-spec : {M : Type 1} → statement M
 put-body-spec =
     tie.close (tie.spec
-    Inv-loop μ-loop loop-holds (λ c. omega arith) (λ c. omega arith) (λ c κs. omega arith) (λ c. omega arith)
+    Inv-loop μ-loop (λ c. (omega arith, refl, search put-none)) (λ c. omega arith) (λ c. omega arith) (λ c κs. omega arith) (λ c. omega arith)
     (λ c. omega arith) (λ c. omega arith) (λ c. omega arith) (λ c. omega arith) loop-again (λ c. omega arith)
-    returns)
+    (λ c. search put-end))

@@ -7,5 +7,4 @@ use Rattle.report.proofs.text.bits_of.Tie as tie
 pub bits-of-spec : {M : Type 1} → statement M
 bits-of-spec =
     tie.close (tie.spec
-    (λ c. number (c .before .args .x) (c .if1 .taken)) (λ c. search needs)
-    (λ c. no-number (c .before .args .x) (c .if1 .left)))
+    (λ c. search number) (λ c. search needs) (λ c. search no-number))

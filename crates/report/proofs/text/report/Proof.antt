@@ -7,24 +7,16 @@ use Rattle.report.proofs.text.report.Statement.{statement}
 use Rattle.report.proofs.text.report.Tie as tie
 
 returns : tie.Need-returns
-returns c =
-    let start = c .before .before .before in
-    let args = start .args in
-    report-none (args .number) (args .nonlinear) (args .linear) (now (args .bodies)) (now (args .out)) (omega arith)
+returns c = let start = c .before .before .before in report-none _ _ _ (now (start .args .bodies)) _ (omega arith)
 
 returns-2 : tie.Need-returns-2
-returns-2 c =
-    let start = c .before .before .before .before in
-    let args = start .args in
-    report-none (args .number) (args .nonlinear) (args .linear) (now (args .bodies)) (now (args .out)) (omega arith)
+returns-2 c = let start = c .before .before .before .before in report-none _ _ _ (now (start .args .bodies)) _ (omega arith)
 
 put-bodies-requires : tie.Need-put-bodies-requires
 put-bodies-requires c κs =
     let at-put-head = c .before .before .before .before in
     let start = at-put-head .before .before .before .before .before .before in
-    let args = start .args in
-    let line = at-put-head .put-head .ensures in
-    (report-room (args .number) (args .nonlinear) (args .linear) (now (args .bodies)) (now (args .out)) (omega arith) line, omega arith)
+    (report-room _ _ _ (now (start .args .bodies)) _ (omega arith) (at-put-head .put-head .ensures), omega arith)
 
 returns-3 : tie.Need-returns-3
 returns-3 c =
@@ -32,17 +24,13 @@ returns-3 c =
     let at-if3 = at-put-bodies .before .before in
     let at-put-head = at-if3 .before .before .before in
     let start = at-put-head .before .before .before .before .before .before in
-    let args = start .args in
-    report-bodies (args .number) (args .nonlinear) (args .linear) (now (args .bodies)) (now (args .out)) (omega arith) (at-if3 .if3 .taken)
-    (at-put-head .put-head .ensures) (at-put-bodies .put-bodies .ensures)
+    report-bodies _ _ _ _ _ (omega arith) (at-if3 .if3 .taken) (at-put-head .put-head .ensures) (at-put-bodies .put-bodies .ensures)
 
 returns-4 : tie.Need-returns-4
 returns-4 c =
     let at-put-head = c .before .before .before in
     let start = at-put-head .before .before .before .before .before .before in
-    let args = start .args in
-    report-head (args .number) (args .nonlinear) (args .linear) (now (args .bodies)) (now (args .out)) (omega arith) (c .if3 .left)
-    (at-put-head .put-head .ensures)
+    report-head _ _ _ (now (start .args .bodies)) _ (omega arith) (c .if3 .left) (at-put-head .put-head .ensures)
 
 pub report-spec : {M : Type 1} → statement M
 report-spec =

@@ -18,21 +18,20 @@ returns : tie.Need-returns
 returns c =
     let at-two = c .before .before in let at-one = at-two .before .before .before .before .before in
     let at-z = at-one .before .before .before .before in let at-start = at-z .before .before .before .before in let u = at-start .pre .1 in
-    align-adds
-    (at-start .args .joint) (at-start .args .e) (axis-as (at-z .before .before .aligned .ensures _ u) (at-z .z .given .1))
+    align-adds _ _ (axis-as (at-z .before .before .aligned .ensures _ u) (at-z .z .given .1))
     (at-one .append .ensures) (at-one .before .before .align-row .ensures _ u)
     (at-two .append2 .ensures) (at-two .before .before .align-row2 .ensures _ u)
 
 returns-2 : tie.Need-returns-2
 returns-2 c =
     let at-told = c .before .before .before .before in let at-start = at-told .before .before .before .before in
-    align-lost (at-start .args .joint) (at-start .args .e) nonConvergent refl
+    align-lost _ _ nonConvergent refl
     (axis-as (at-told .before .before .aligned .ensures _ (at-start .pre .1)) (at-told .enum-told .given .1)) (c .before .before .append3 .ensures)
 
 returns-3 : tie.Need-returns-3
 returns-3 c =
     let at-told = c .before .before .before .before in let at-start = at-told .before .before .before .before in
-    align-lost (at-start .args .joint) (at-start .args .e) arithmeticOverflow refl
+    align-lost _ _ arithmeticOverflow refl
     (axis-as (at-told .before .before .aligned .ensures _ (at-start .pre .1)) (at-told .enum-told2 .given .1)) (c .before .before .append4 .ensures)
 
 pub write-align-spec : {M : Type 1} → statement M

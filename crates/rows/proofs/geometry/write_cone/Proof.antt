@@ -24,23 +24,22 @@ returns : tie.Need-returns
 returns c =
     let at-three = c .before .before in let at-two = at-three .before .before .before .before .before in
     let at-one = at-two .before .before .before .before .before .before in let at-r = at-one .before .before .before .before .before in
-    let at-start = at-r .before .before .before .before in let u = at-start .pre .1 in
-    cone-adds
-    (at-start .args .joint) (at-start .args .e) (at-start .args .cone) (relative-as (at-r .before .before .relative-of .ensures) (at-r .r .given .1))
+    let u = at-r .before .before .before .before .pre .1 in
+    cone-adds _ _ _ (relative-as (at-r .before .before .relative-of .ensures) (at-r .r .given .1))
     (at-one .before .before .before .swing-x .ensures) (at-one .append .ensures) (at-one .before .before .swing-row-if .ensures _ u)
     (at-two .before .before .before .swing-y .ensures) (at-two .append2 .ensures) (at-two .before .before .swing-row-if2 .ensures _ u)
     (at-three .append3 .ensures) (at-three .before .before .twist-row-if .ensures _ u)
 
 returns-2 : tie.Need-returns-2
 returns-2 c =
-    let at-told = c .before .before .before .before in let at-start = at-told .before .before .before .before in
-    cone-lost (at-start .args .joint) (at-start .args .e) (at-start .args .cone) nonConvergent refl
+    let at-told = c .before .before .before .before in
+    cone-lost _ _ _ nonConvergent refl
     (relative-as (at-told .before .before .relative-of .ensures) (at-told .enum-told .given .1)) (c .before .before .append4 .ensures)
 
 returns-3 : tie.Need-returns-3
 returns-3 c =
-    let at-told = c .before .before .before .before in let at-start = at-told .before .before .before .before in
-    cone-lost (at-start .args .joint) (at-start .args .e) (at-start .args .cone) arithmeticOverflow refl
+    let at-told = c .before .before .before .before in
+    cone-lost _ _ _ arithmeticOverflow refl
     (relative-as (at-told .before .before .relative-of .ensures) (at-told .enum-told2 .given .1)) (c .before .before .append5 .ensures)
 
 pub write-cone-spec : {M : Type 1} → statement M

@@ -25,37 +25,27 @@ values-finite-requires c κs =
 returns-3 : tie.Need-returns-3
 returns-3 c =
     let at-written = c .before .before .before .before in let at-turning = at-written .before .before .before .before in
-    let at-linear = at-turning .before .before .before .before in let at-unit = at-linear .before .before .before in
-    let at-tolerance = at-unit .before .before .before .before in let at-start = at-tolerance .before .before .before .before in
-    frames-finite (at-start .args .linear) (at-start .args .turning) (at-start .args .joint) (at-start .args .e)
-    (at-turning .write-turning .ensures _ _ (at-linear .write-linear .ensures))
+    let at-linear = at-turning .before .before .before .before in
+    frames-finite _ _ _ _ (at-turning .write-turning .ensures _ _ (at-linear .write-linear .ensures))
     (at-written .written .given .1) (c .before .values-finite .ensures _ _) (c .if1 .taken)
 
 returns-4 : tie.Need-returns-4
 returns-4 c =
     let at-written = c .before .before .before .before in let at-turning = at-written .before .before .before .before in
-    let at-linear = at-turning .before .before .before .before in let at-unit = at-linear .before .before .before in
-    let at-tolerance = at-unit .before .before .before .before in let at-start = at-tolerance .before .before .before .before in
-    frames-overflow (at-start .args .linear) (at-start .args .turning) (at-start .args .joint) (at-start .args .e)
-    (at-turning .write-turning .ensures _ _ (at-linear .write-linear .ensures))
+    let at-linear = at-turning .before .before .before .before in
+    frames-overflow _ _ _ _ (at-turning .write-turning .ensures _ _ (at-linear .write-linear .ensures))
     (at-written .written .given .1) (c .before .values-finite .ensures _ _) (c .if1 .left)
 
 returns-5 : tie.Need-returns-5
 returns-5 c =
     let at-turning = c .before .before .before .before in let at-linear = at-turning .before .before .before .before in
-    let at-unit = at-linear .before .before .before in let at-tolerance = at-unit .before .before .before .before in
-    let at-start = at-tolerance .before .before .before .before in
-    frames-lost (at-start .args .linear) (at-start .args .turning) (at-start .args .joint) (at-start .args .e)
-    (at-turning .write-turning .ensures _ _ (at-linear .write-linear .ensures))
+    frames-lost _ _ _ _ (at-turning .write-turning .ensures _ _ (at-linear .write-linear .ensures))
     Written.NonConvergent nonConvergent refl refl (c .enum-told3 .given .1)
 
 returns-6 : tie.Need-returns-6
 returns-6 c =
     let at-turning = c .before .before .before .before in let at-linear = at-turning .before .before .before .before in
-    let at-unit = at-linear .before .before .before in let at-tolerance = at-unit .before .before .before .before in
-    let at-start = at-tolerance .before .before .before .before in
-    frames-lost (at-start .args .linear) (at-start .args .turning) (at-start .args .joint) (at-start .args .e)
-    (at-turning .write-turning .ensures _ _ (at-linear .write-linear .ensures))
+    frames-lost _ _ _ _ (at-turning .write-turning .ensures _ _ (at-linear .write-linear .ensures))
     Written.ArithmeticOverflow arithmeticOverflow refl refl (c .enum-told4 .given .1)
 
 pub write-frames-spec : {M : Type 1} → statement M

@@ -7,11 +7,6 @@ use native.Mathlib.Omega.{arith}
 use Rattle.rows.proofs.geometry.write_kind.Statement.{statement}
 use Rattle.rows.proofs.geometry.write_kind.Tie as tie
 
-write-frames-requires : tie.Need-write-frames-requires
-write-frames-requires c κs =
-    let at-linear = c .before .before .before in let at-e = at-linear .before .before .before .before in
-    at-e .before .before .before .pre
-
 returns-2 : tie.Need-returns-2
 returns-2 c =
     let at-length = c .before .before .before .before .before .before in let at-motions = at-length .before .before in
@@ -35,4 +30,4 @@ write-kind-spec =
     tie.close (tie.spec
     (λ c κs. search needs) (λ c. search needs) (λ c. search needs) (λ c. search (ends-stop, kind-lost))
     (λ c κs. search needs) (λ c. search needs) (λ c κs. search needs) (λ c κs. search arith)
-    (λ c. search needs) write-frames-requires (λ c. search needs) returns-2 (λ c. search needs) returns-3)
+    (λ c. search needs) (λ c κs. search needs) (λ c. search needs) returns-2 (λ c. search needs) returns-3)
