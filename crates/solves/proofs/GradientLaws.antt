@@ -38,6 +38,7 @@ use Rattle.solves.specs.View.{VECTOR, ROWS-MOST, MASSES, RHS, SOLUTION, 
 use Rattle.solves.specs.DoesLaws.{goes-on, returns-if, does-stop, does-as}
 use Rattle.solves.specs.ViewLaws.{row-in, mass-in, passing-vector, passing-moves, passing-testing}
 use Rattle.solves.proofs.OperatorLaws.{on-a, on-b}
+use Rattle.solves.proofs.VectorLaws.{plus-neg}
 use Rattle.solves.proofs.SearchLaws.{passing-system, work-system}
 
 -- residual_test
@@ -309,7 +310,7 @@ module _ {s : List Float} {ia ib : List ℕ} (table : Table) (pre : Rows s ia ib
 
         module _ (h₂ : not f ≡ false) {s₂ s₃ : List Float}
             (d₂ : Does (Beside SOLUTION) s₁ s₂ (vecAt s₂ SOLUTION n₂) (plus (vecAt s₁ SOLUTION n₂) (rho ⊘ y) (vecAt s₁ DIRECTION n₂)))
-            (d₃ : Does (Beside RESIDUAL) s₂ s₃ (vecAt s₃ RESIDUAL n₂) (minus (vecAt s₂ RESIDUAL n₂) (rho ⊘ y) (vecAt s₂ PRODUCT n₂))) where
+            (d₃ : Does (Beside RESIDUAL) s₂ s₃ (vecAt s₃ RESIDUAL n₂) (plus (vecAt s₂ RESIDUAL n₂) (Ieee.neg (rho ⊘ y)) (vecAt s₂ PRODUCT n₂))) where
           sol₃ : vecAt s₃ SOLUTION n₂ ≡ plus (vecAt s SOLUTION n₂) (rho ⊘ y) (vecAt s DIRECTION n₂)
           sol₃ =
               let a = kept-vec (d₁ .kept) SOLUTION n₂ (λ i x y. omega (arith, pre .most)) in
@@ -323,7 +324,7 @@ module _ {s : List Float} {ia ib : List ℕ} (table : Table) (pre : Rows s ia ib
               let a = kept-vec (d₁ .kept) RESIDUAL n₂ (λ i x y. omega (arith, pre .most)) in
               let b = kept-vec (d₂ .kept) RESIDUAL n₂ (λ i x y. omega (arith, pre .most)) in
               let c = kept-vec (d₂ .kept) PRODUCT n₂ (λ i x y. omega (arith, pre .most)) in
-              let e = d₃ .is in
+              let e = d₃ .is ∙ plus-neg _ _ _ in
               cc
 
           dir₃ : vecAt s₃ DIRECTION n₂ ≡ vecAt s DIRECTION n₂

@@ -23,7 +23,6 @@ use crate::search::Which;
 use crate::search::search;
 use crate::values::add_scaled;
 use crate::values::difference;
-use crate::values::sub_scaled;
 use arith::number::is_finite;
 use arith::root::sqrt;
 use rows::geometry::EqualityRow;
@@ -166,7 +165,8 @@ fn advance(s: &mut [f64], ia: &[usize; 96], ib: &[usize; 96], t: Table, rho: f64
     }
     let alpha = rho / curvature;
     add_scaled(s, SOLUTION, SOLUTION, alpha, DIRECTION, n);
-    sub_scaled(s, RESIDUAL, RESIDUAL, alpha, PRODUCT, n);
+    // a - alpha * b is a + (-alpha) * b, bit for bit
+    add_scaled(s, RESIDUAL, RESIDUAL, -alpha, PRODUCT, n);
     End::Done
 }
 

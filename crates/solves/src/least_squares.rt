@@ -18,7 +18,6 @@ use crate::search::Which;
 use crate::search::search;
 use crate::values::add_scaled;
 use crate::values::copy;
-use crate::values::sub_scaled;
 use arith::root::sqrt;
 ghost use Rattle.solves.specs.Search.{leastPass, leastSquares};
 ghost use Rattle.solves.specs.Answer.{searchAs, Solves};
@@ -53,7 +52,8 @@ pub(crate) fn least_pass(
     }
     let alpha = norm / denominator;
     add_scaled(s, SOLUTION, SOLUTION, alpha, DIRECTION, n);
-    sub_scaled(s, RESIDUAL, RESIDUAL, alpha, PRODUCT, n);
+    // a - alpha * b is a + (-alpha) * b, bit for bit
+    add_scaled(s, RESIDUAL, RESIDUAL, -alpha, PRODUCT, n);
     let back = operator(s, ia, ib, t, RESIDUAL, NORMAL);
     if !done(back) {
         return Next::Over(back);

@@ -71,7 +71,7 @@ returns-5 c =
     (went _ (at-operator .operator .result) (at-if1 .before .done .ensures) (at-operator .operator .ensures) (at-if1 .if1 .left))
     zero-is (sum-there (at-curvature .before .before .dot .ensures) (at-curvature .curvature .given .1)) (at-is-finite .before .if2 .left)
     (at-is-finite .is-finite .ensures) (at-add-scaled .before .before .if3 .left) (at-add-scaled .add-scaled .ensures)
-    (c .before .before .sub-scaled .ensures)
+    (c .before .before .add-scaled2 .ensures)
 
 pub advance-spec : {M : Type 1} → statement M
 advance-spec =
