@@ -199,12 +199,14 @@ placeOf line t = line .first + line .on * t - line .back * t
 abbrev pub lineAt : List Float → Line → ℕ → Float
 lineAt s line t = at s (placeOf line t)
 
--- number t of a line stands in the scratch, and so do the first `terms`
+-- number t of a line stands in the scratch, and so do the first `terms` of two lines
 abbrev pub InLine : Line → ℕ → Type 0
 InLine line t = (line .back * t ≤ line .first + line .on * t) × (line .first + line .on * t < END)
 
-abbrev pub Lies : Line → ℕ → Type 0
-Lies line terms = (t : ℕ) → t < terms → InLine line t
+pub record Lie (s : List Float) (a b : Line) (terms : ℕ) : Type 0 where
+  pub whole : END ≤ length s
+  pub first : (t : ℕ) → t < terms → InLine a t
+  pub second : (t : ℕ) → t < terms → InLine b t
 
 -- path_band[i][i - k], path_band[k][k - i] and path_rhs[k], for k from `from` on
 abbrev pub rowLine : ℕ → ℕ → Line

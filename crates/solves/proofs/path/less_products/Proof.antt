@@ -21,7 +21,7 @@ both : (c : tie.In-loop Inv-loop μ-loop) → let args = c .before .before .befo
     (InLine (args .a) (c .before .loop .k)) × (InLine (args .b) (c .before .loop .k))
 both c =
     let pre = c .before .before .before .pre in
-    (pre .1 (c .before .loop .k) (c .loop-test .taken), pre .2 (c .before .loop .k) (c .loop-test .taken))
+    (pre .first (c .before .loop .k) (c .loop-test .taken), pre .second (c .before .loop .k) (c .loop-test .taken))
 
 loop-again : tie.Need-loop-again Inv-loop μ-loop
 loop-again c =
