@@ -3,6 +3,7 @@
 use crate::End;
 use crate::Ended;
 use crate::Next;
+use crate::PerRow;
 use crate::Sum;
 use crate::Table;
 use crate::done;
@@ -27,8 +28,8 @@ ghost use Rattle.solves.specs.View.{systemIn, rhsOn, solutionOn, residua
 
 pub(crate) fn least_pass(
     s: &mut [f64],
-    ia: &[usize; 96],
-    ib: &[usize; 96],
+    ia: &PerRow,
+    ib: &PerRow,
     t: Table,
     tolerance: f64,
     norm: f64,
@@ -65,7 +66,7 @@ pub(crate) fn least_pass(
     Next::Rho(next)
 }
 
-pub(crate) fn least_squares(s: &mut [f64], ia: &[usize; 96], ib: &[usize; 96], t: Table) -> Ended
+pub(crate) fn least_squares(s: &mut [f64], ia: &PerRow, ib: &PerRow, t: Table) -> Ended
     requires { ⌜ Ready s ia ib t ⌝ }
     ensures { λ r. ⌜ Solves s ia ib t r (λ system. leastSquares system (rhsOn s t) (solutionOn s t) (residualOn s t)) ⌝ }
 {
