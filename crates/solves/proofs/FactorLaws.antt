@@ -41,25 +41,26 @@ cell-first s n i h =
     ap (at s) e ∙ vec-at s PATH-BAND (12 * n) (12 * i + 0) (omega arith)
 
 -- cross_at: rows a and b were loaded from places i and j of the order
-pub cross-at : {s : List Float} {ia ib : List ℕ} {rows n body-count : ℕ} → Rows s ia ib rows n body-count
+pub cross-at : {s : List Float} {ia ib : List ℕ} {place n body-count : ℕ} → Rows s ia ib place n body-count
     → (order : List ℕ) → Along order n → (i j : ℕ) → i < n → j < n
-    → {a b : EqualityRow} {d : Result Float} → a ≡ rowOn ia ib s rows (getD order i 0) → b ≡ rowOn ia ib s rows (getD order j 0)
+    → {a b : EqualityRow} {d : Result Float} → a ≡ rowOn ia ib s place (getD order i 0) → b ≡ rowOn ia ib s place (getD order j 0)
     → d ≡ crossMass a b (massesAt s MASSES body-count)
-    → d ≡ crossMass (rowIn (rowsOn ia ib s rows n) (index (listAt order n) i)) (rowIn (rowsOn ia ib s rows n) (index (listAt order n) j))
+    → d ≡ crossMass (rowIn (rowsOn ia ib s place n) (index (listAt order n) i)) (rowIn (rowsOn ia ib s place n) (index (listAt order n) j))
     (massesAt s MASSES body-count)
-cross-at {s} {ia} {ib} {rows} {n} {body-count} pre order along i j hi hj ea eb e =
+cross-at {s} {ia} {ib} {place} {n} {body-count} pre order along i j hi hj ea eb e =
     e ∙ λ x. crossMass (row-of i hi ea x) (row-of j hj eb x) (massesAt s MASSES body-count)
   where
-    row-of : (k : ℕ) → k < n → {row : EqualityRow} → row ≡ rowOn ia ib s rows (getD order k 0) → row ≡ rowIn (rowsOn ia ib s rows n) (index (listAt order n) k)
+    row-of : (k : ℕ) → k < n → {row : EqualityRow} → row ≡ rowOn ia ib s place (getD order k 0)
+        → row ≡ rowIn (rowsOn ia ib s place n) (index (listAt order n) k)
     row-of k h e =
-        row-in (kept-refl (λ _. Unit {0}) s) ia ib rows n (getD order k 0) (λ _ _ _. tt) (along k h) e
-        ∙ ap (rowIn (rowsOn ia ib s rows n)) (list-at order n k h)
+        row-in (kept-refl (λ _. Unit {0}) s) ia ib place n (getD order k 0) (λ _ _ _. tt) (along k h) e
+        ∙ ap (rowIn (rowsOn ia ib s place n)) (list-at order n k h)
 
 -- path_scale
-module _ {z : List Float} {ia ib : List ℕ} {rows n body-count : ℕ} (pre : Rows z ia ib rows n body-count) (order : List ℕ) (along : Along order n)
+module _ {z : List Float} {ia ib : List ℕ} {place n body-count : ℕ} (pre : Rows z ia ib place n body-count) (order : List ℕ) (along : Along order n)
     (s₀ : List Float) where
   abbrev R : List EqualityRow
-  R = rowsOn ia ib s₀ rows n
+  R = rowsOn ia ib s₀ place n
 
   abbrev M : List MassResponse
   M = massesAt s₀ MASSES body-count
@@ -76,14 +77,14 @@ module _ {z : List Float} {ia ib : List ℕ} {rows n body-count : ℕ} (pre : Ro
 
   module _ {i : ℕ} {s : List Float} (inv : ScaleSo i s) (h : i < n) (l : length s ≡ length z) where
     abbrev Cross : List Float → Result Float
-    Cross s = crossMass (rowOf (rowsOn ia ib s rows n) M O i) (rowOf (rowsOn ia ib s rows n) M O i) (massesAt s MASSES body-count)
+    Cross s = crossMass (rowOf (rowsOn ia ib s place n) M O i) (rowOf (rowsOn ia ib s place n) M O i) (massesAt s MASSES body-count)
 
     cross-is : {d : Result Float} → d ≡ Cross s → d ≡ Cross s₀
     cross-is e = e ∙ λ j. crossMass (rowOf (kept j) M O i) (rowOf (kept j) M O i)
         (kept-masses (inv .kept) MASSES body-count (λ k x y. omega (arith, pre .bodies)) j)
       where
-        kept : rowsOn ia ib s rows n ≡ R
-        kept = kept-rows (inv .kept) ia ib rows n (λ k x y. omega (arith, pre .table, pre .most))
+        kept : rowsOn ia ib s place n ≡ R
+        kept = kept-rows (inv .kept) ia ib place n (λ k x y. omega (arith, pre .table, pre .most))
 
     pub scales-lost : stop arithmeticOverflow ≡ Cross s
         → Does (λ i. Beside PATH-SCALE i) s₀ s (stop arithmeticOverflow) (pathScale R M O n)
@@ -119,13 +120,13 @@ Banded i = Out PATH-BAND BAND i
 band-out : (n i d k : ℕ) → n ≤ 96 → i < n → d < 12 → Banded k → Out (PATH-BAND + 12 * i + d) 1 k
 band-out n i d k m h l x = omega arith
 
-module _ {s : List Float} {ia ib : List ℕ} {rows n body-count : ℕ} (order : List ℕ) {i j : ℕ}
-    (pre : (Rows s ia ib rows n body-count) × (Along order n) × (i < n) × (j ≤ i) × (i ≤ j + 11)) where
+module _ {s : List Float} {ia ib : List ℕ} {place n body-count : ℕ} (order : List ℕ) {i j : ℕ}
+    (pre : (Rows s ia ib place n body-count) × (Along order n) × (i < n) × (j ≤ i) × (i ≤ j + 11)) where
   hi : i < n
   hi = pre .2
 
   abbrev R₁ : List EqualityRow
-  R₁ = rowsOn ia ib s rows n
+  R₁ = rowsOn ia ib s place n
 
   abbrev M₁ : List MassResponse
   M₁ = massesAt s MASSES body-count
@@ -217,26 +218,26 @@ module _ (n : ℕ) (f : ℕ → List Float → Result (List Float)) (s₀ : List
 -- what such a loop's turn reads besides the band: rows, masses, order and scales, of which a write of the band keeps all
 abbrev pub bandOn : {A : Type 0} → List ℕ → List ℕ → List ℕ → ℕ → ℕ → ℕ → List Float
     → (List EqualityRow → List MassResponse → List ℕ → List Float → A) → A
-bandOn ia ib order rows n body-count s f = f (rowsOn ia ib s rows n) (massesAt s MASSES body-count) (listAt order n) (vecAt s PATH-SCALE n)
+bandOn ia ib order place n body-count s f = f (rowsOn ia ib s place n) (massesAt s MASSES body-count) (listAt order n) (vecAt s PATH-SCALE n)
 
-module _ {z : List Float} {ia ib : List ℕ} {rows n body-count : ℕ} (pre : Rows z ia ib rows n body-count) (order : List ℕ) {s₀ s : List Float}
+module _ {z : List Float} {ia ib : List ℕ} {place n body-count : ℕ} (pre : Rows z ia ib place n body-count) (order : List ℕ) {s₀ s : List Float}
     (k : Kept Banded s₀ s) where
   band-kept : {A : Type 0} (f : List EqualityRow → List MassResponse → List ℕ → List Float → A)
-      → bandOn ia ib order rows n body-count s f ≡ bandOn ia ib order rows n body-count s₀ f
-  band-kept f = λ x. f (kept-rows k ia ib rows n (λ i x y. omega (arith, pre .table, pre .most)) x)
+      → bandOn ia ib order place n body-count s f ≡ bandOn ia ib order place n body-count s₀ f
+  band-kept f = λ x. f (kept-rows k ia ib place n (λ i x y. omega (arith, pre .table, pre .most)) x)
       (kept-masses k MASSES body-count (λ i x y. omega (arith, pre .bodies)) x) (listAt order n)
       (kept-vec k PATH-SCALE n (λ i x y. omega (arith, pre .most)) x)
 
 -- path_row
-module _ {z : List Float} {ia ib : List ℕ} {rows n body-count : ℕ} (pre : Rows z ia ib rows n body-count) (order : List ℕ) (i : ℕ) (s₀ : List Float) where
+module _ {z : List Float} {ia ib : List ℕ} {place n body-count : ℕ} (pre : Rows z ia ib place n body-count) (order : List ℕ) (i : ℕ) (s₀ : List Float) where
   abbrev EntryOf : List Float → ℕ → List Float → Result (List Float)
-  EntryOf s j band = bandOn ia ib order rows n body-count s (λ r m o c. pathEntry r m o c i j band)
+  EntryOf s j band = bandOn ia ib order place n body-count s (λ r m o c. pathEntry r m o c i j band)
 
   abbrev Turned : ℕ → List Float → Result (List Float)
   Turned t = EntryOf s₀ (i - 11 + t)
 
   abbrev RowOf : Result (List Float)
-  RowOf = bandOn ia ib order rows n body-count s₀ (λ r m o c. pathRow r m o c i (bandAt s₀ n))
+  RowOf = bandOn ia ib order place n body-count s₀ (λ r m o c. pathRow r m o c i (bandAt s₀ n))
 
   -- the code is at j, which begins with r
   pub entries-start : {r : ℕ} → r ≡ i - 11 → BandSo n Turned s₀ (r - (i - 11)) s₀
@@ -269,9 +270,9 @@ module _ {z : List Float} {ia ib : List ℕ} {rows n body-count : ℕ} (pre : Ro
       band-end n Turned s₀ inv (ap (λ (m : ℕ). m - (i - 11)) same)
 
 -- path_factor
-module _ {z : List Float} {ia ib : List ℕ} {rows n body-count : ℕ} (pre : Rows z ia ib rows n body-count) (order : List ℕ) (s₀ : List Float) where
+module _ {z : List Float} {ia ib : List ℕ} {place n body-count : ℕ} (pre : Rows z ia ib place n body-count) (order : List ℕ) (s₀ : List Float) where
   abbrev RowIn : List Float → ℕ → List Float → Result (List Float)
-  RowIn s i band = bandOn ia ib order rows n body-count s (λ r m o c. pathRow r m o c i band)
+  RowIn s i band = bandOn ia ib order place n body-count s (λ r m o c. pathRow r m o c i band)
 
   pub rows-none : BandSo n (RowIn s₀) s₀ 0 s₀
   rows-none = band-none n (RowIn s₀) s₀
@@ -293,7 +294,7 @@ module _ {z : List Float} {ia ib : List ℕ} {rows n body-count : ℕ} (pre : Ro
 
   -- from the cleared band
   pub factor-from : {t : List Float} {y : Result (List Float)} → Filled PATH-BAND (12 * n) (λ _. ratio 0 1) z s₀
-      → Does Banded s₀ t y (loop n (RowIn s₀) (bandAt s₀ n)) → Does Banded z t y (bandOn ia ib order rows n body-count z (λ r m o c. pathFactor r m o c n))
+      → Does Banded s₀ t y (loop n (RowIn s₀) (bandAt s₀ n)) → Does Banded z t y (bandOn ia ib order place n body-count z (λ r m o c. pathFactor r m o c n))
   unfolding pathFactor
   factor-from {t} {y} f d = record {
     kept = kept-then k (d .kept) (λ i x. x);
@@ -312,12 +313,12 @@ module _ {z : List Float} {ia ib : List ℕ} {rows n body-count : ℕ} (pre : Ro
           (λ i h. getD-replicate (12 * n) i (ratio 0 1) (ratio 0 1) h))
 
 -- path_factored
-module _ {s : List Float} {ia ib : List ℕ} {rows n body-count : ℕ} (pre : Rows s ia ib rows n body-count) (order : List ℕ) where
+module _ {s : List Float} {ia ib : List ℕ} {place n body-count : ℕ} (pre : Rows s ia ib place n body-count) (order : List ℕ) where
   abbrev Factored : Result Factor
-  Factored = pathFactored (rowsOn ia ib s rows n) (massesAt s MASSES body-count) (listAt order n) n
+  Factored = pathFactored (rowsOn ia ib s place n) (massesAt s MASSES body-count) (listAt order n) n
 
   abbrev Scales : Result (List Float)
-  Scales = pathScale (rowsOn ia ib s rows n) (massesAt s MASSES body-count) (listAt order n) n
+  Scales = pathScale (rowsOn ia ib s place n) (massesAt s MASSES body-count) (listAt order n) n
 
   pub factored-unscaled : {t : List Float} {f : Fault} → Does (λ i. Beside PATH-SCALE i) s t (stop f) Scales → Does Factoring s t (stop f) Factored
   unfolding pathFactored
@@ -325,10 +326,10 @@ module _ {s : List Float} {ia ib : List ℕ} {rows n body-count : ℕ} (pre : Ro
 
   module _ {t : List Float} (d : Does (λ i. Beside PATH-SCALE i) s t (go (vecAt t PATH-SCALE n)) Scales) where
     abbrev FactorFrom : Result (List Float)
-    FactorFrom = pathFactor (rowsOn ia ib t rows n) (massesAt t MASSES body-count) (listAt order n) (vecAt t PATH-SCALE n) n
+    FactorFrom = pathFactor (rowsOn ia ib t place n) (massesAt t MASSES body-count) (listAt order n) (vecAt t PATH-SCALE n) n
 
-    factor-is : FactorFrom ≡ pathFactor (rowsOn ia ib s rows n) (massesAt s MASSES body-count) (listAt order n) (vecAt t PATH-SCALE n) n
-    factor-is = λ j. pathFactor (kept-rows (d .kept) ia ib rows n (λ i x y. omega (arith, pre .table, pre .most)) j)
+    factor-is : FactorFrom ≡ pathFactor (rowsOn ia ib s place n) (massesAt s MASSES body-count) (listAt order n) (vecAt t PATH-SCALE n) n
+    factor-is = λ j. pathFactor (kept-rows (d .kept) ia ib place n (λ i x y. omega (arith, pre .table, pre .most)) j)
         (kept-masses (d .kept) MASSES body-count (λ i x y. omega (arith, pre .bodies)) j) (listAt order n) (vecAt t PATH-SCALE n) n
 
     pub factored-failed : {u : List Float} {f : Fault} → Does Banded t u (stop f) FactorFrom → Does Factoring s u (stop f) Factored

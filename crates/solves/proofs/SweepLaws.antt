@@ -52,10 +52,10 @@ column-is s n i t h l =
     let place : PATH-BAND + 12 * (i + 1) + (i + 1 - i) + 13 * t - 0 * t ≡ PATH-BAND + 12 * (i + 1 + t) + (i + 1 + t - i) = omega arith in
     ap (at s) place ∙ cell-at s n (i + 1 + t) (i + 1 + t - i) h (omega arith)
 
-side-is : (s : List Float) (m from t : ℕ) → from + t < m → lineAt s (sideLine from) t ≡ at (vecAt s PATH-RHS m) (from + t)
-side-is s m from t h =
+side-is : (s : List Float) (n from t : ℕ) → from + t < n → lineAt s (sideLine from) t ≡ at (vecAt s PATH-RHS n) (from + t)
+side-is s n from t h =
     let place : PATH-RHS + from + 1 * t - 0 * t ≡ PATH-RHS + (from + t) = omega arith in
-    ap (at s) place ∙ vec-at s PATH-RHS m (from + t) h
+    ap (at s) place ∙ vec-at s PATH-RHS n (from + t) h
 
 -- the lines lie in the scratch
 module _ {line : Line} (t : ℕ) where
