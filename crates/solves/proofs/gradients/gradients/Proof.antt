@@ -30,8 +30,8 @@ returns-2 c =
     let at-rho = at-tolerance-for .before .before .before in
     let at-prepare = at-rho .before .before .before .before in
     let start = at-prepare .before .before .before in
-    new-ended (vecAt (at-prepare .prepare .last .0) SOLUTION (start .args .t .rows)) (c .new2 .ensures)
-    (gradients-intolerant (start .args .t) (start .pre)
+    new-ended (vecAt (at-prepare .prepare .last .0) SOLUTION _) (c .new2 .ensures)
+    (gradients-intolerant _ (start .pre)
     (does-as (λ r. preparedAs r (at-prepare .prepare .last .0) (start .args .t .rows)) (at-rho .rho .given .1) (at-prepare .prepare .ensures))
     (sum-over (at-tolerance-for .tolerance-for .ensures) (c .before .enum-told2 .given .1) ∙ ap
     (λ (x : Float). toleranceFor x (vecAt (at-prepare .prepare .last .0) RHS (start .args .t .rows))) tenth-12))

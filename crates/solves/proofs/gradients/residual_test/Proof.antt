@@ -12,7 +12,7 @@ use Rattle.solves.proofs.gradients.residual_test.Tie as tie
 returns : tie.Need-returns
 returns c =
     let start = c .before .before .before .before in
-    test-over (vecAt (now (start .args .s)) RESIDUAL _) (start .args .tolerance)
+    test-over (vecAt (now (start .args .s)) RESIDUAL _) _
     (sum-over (c .before .before .dot .ensures) (c .enum-told .given .1))
 
 returns-2 : tie.Need-returns-2

@@ -43,7 +43,7 @@ moved : (c : tie.Else2) → let start = start-of (first-of c) in
 moved c =
     let at-operator = first-of c in
     let at-if1 = at-operator .before .before in
-    pass-moved (start-of at-operator .args .t) (start-of at-operator .pre) _ _ (at-if1 .before .sqrt .ensures .is) (at-if1 .if1 .left)
+    pass-moved _ (start-of at-operator .pre) _ _ (at-if1 .before .sqrt .ensures .is) (at-if1 .if1 .left)
     (went _ (at-operator .operator .result) (c .before .done .ensures) (at-operator .operator .ensures) (c .if2 .left))
 
 advanced : (c : tie.After-add-scaled2) → let start = begin-of c in
@@ -52,7 +52,7 @@ advanced : (c : tie.After-add-scaled2) → let start = begin-of c in
 advanced c =
     let at-add-scaled = c .before .before .before .before in
     let at-denominator = denominator-of c in
-    pass-advanced (begin-of c .args .t) (begin-of c .pre) _ _ (moved (went-of c)) zero-is
+    pass-advanced _ (begin-of c .pre) _ _ (moved (went-of c)) zero-is
     (sum-there (at-denominator .before .before .dot .ensures) (at-denominator .denominator .given .1)) (at-add-scaled .before .before .if3 .left)
     (at-add-scaled .add-scaled .ensures) (c .add-scaled2 .ensures)
 
@@ -68,7 +68,7 @@ size-back c = c .operator2 .ensures .kept .size ∙ size (second-of c)
 returns : tie.Need-returns
 returns c =
     let start = c .before .before .before in
-    pass-solved (start .args .t) (start .pre) _ _ (c .before .sqrt .ensures .is) (c .if1 .taken)
+    pass-solved _ (start .pre) _ _ (c .before .sqrt .ensures .is) (c .if1 .taken)
 
 operator-requires : tie.Need-operator-requires
 operator-requires c κs =
@@ -83,7 +83,7 @@ returns-2 c =
     let at-if1 = at-operator .before .before in
     let end = at-operator .operator .result in
     does-eq (ap (λ x. ran x 0 0) (fails-over _ end (at-done .done .ensures) (c .if2 .taken)))
-    (pass-unmoved (start-of at-operator .args .t) (start-of at-operator .pre) _ _ (at-if1 .before .sqrt .ensures .is) (at-if1 .if1 .left)
+    (pass-unmoved _ (start-of at-operator .pre) _ _ (at-if1 .before .sqrt .ensures .is) (at-if1 .if1 .left)
     (failed _ end (at-done .done .ensures) (at-operator .operator .ensures) (c .if2 .taken)))
 
 returns-3 : tie.Need-returns-3

@@ -14,8 +14,8 @@ returns c =
 returns-2 : tie.Need-returns-2
 returns-2 c =
     let start = c .before .before in
-    other-body (now (start .args .s)) _ _ _ (start .pre .1) (start .args .al) (start .args .aa)
-    (start .args .bl) (start .args .ba) _ (c .if1 .left)
+    other-body (now (start .args .s)) _ _ _ (start .pre .1) _ _
+    _ _ _ (c .if1 .left)
 
 pub add-through-spec : {M : Type 1} → statement M
 add-through-spec =

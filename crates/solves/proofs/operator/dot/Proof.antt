@@ -8,13 +8,13 @@ use Rattle.solves.proofs.operator.dot.Tie as tie
 returns : tie.Need-returns
 returns c =
     let start = c .before .before .before .before in
-    dot-there (now (start .args .s)) (start .args .a) (start .args .b) _ (c .before .before .products .ensures)
+    dot-there (now (start .args .s)) _ _ _ (c .before .before .products .ensures)
     (c .before .is-finite .ensures) (c .if1 .taken)
 
 returns-2 : tie.Need-returns-2
 returns-2 c =
     let start = c .before .before .before .before in
-    dot-over (now (start .args .s)) (start .args .a) (start .args .b) _ (c .before .before .products .ensures)
+    dot-over (now (start .args .s)) _ _ _ (c .before .before .products .ensures)
     (c .before .is-finite .ensures) (c .if1 .left)
 
 pub dot-spec : {M : Type 1} → statement M

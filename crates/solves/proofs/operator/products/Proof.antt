@@ -22,7 +22,7 @@ loop-again c =
     let at-loop = c .before .before .before in
     let start = at-loop .before in (
       omega arith,
-      products-more (now (start .args .s)) (start .args .a) (start .args .b) _ _ (c .before .before .loop-test .taken)
+      products-more (now (start .args .s)) _ _ _ _ (c .before .before .loop-test .taken)
           (at-loop .loop .inv .1),
     )
 

@@ -16,12 +16,12 @@ use Rattle.solves.proofs.operator.scale_all.Statement.{statement}
 use Rattle.solves.proofs.operator.scale_all.Tie as tie
 
 abbrev Inv-loop : tie.InvT-loop
-Inv-loop s₀ bodies k₀ s k =
-    (k ≤ bodies) × (length s ≡ length s₀)
-    × (Does (λ i. Out GENERALIZED (6 * k) i) s₀ s (go (sharesIn s k)) (scaleAll (sharesIn s₀ bodies) (massesAt s₀ MASSES bodies) k))
+Inv-loop s₀ body-count k₀ s k =
+    (k ≤ body-count) × (length s ≡ length s₀)
+    × (Does (λ i. Out GENERALIZED (6 * k) i) s₀ s (go (sharesIn s k)) (scaleAll (sharesIn s₀ body-count) (massesAt s₀ MASSES body-count) k))
 
 abbrev μ-loop : tie.MeasureT-loop
-μ-loop s₀ bodies k₀ s k = bodies - k
+μ-loop s₀ body-count k₀ s k = body-count - k
 
 loop-holds : tie.Need-loop-holds Inv-loop μ-loop
 loop-holds c = (omega arith, refl, scale-none _ _ (c .before .pre .1))

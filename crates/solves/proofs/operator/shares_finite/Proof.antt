@@ -11,10 +11,10 @@ use Rattle.solves.proofs.operator.shares_finite.Statement.{statement}
 use Rattle.solves.proofs.operator.shares_finite.Tie as tie
 
 abbrev Inv-loop : tie.InvT-loop
-Inv-loop s bodies k₀ k = (k ≤ bodies) × (true ≡ every k (shareTest s bodies))
+Inv-loop s body-count k₀ k = (k ≤ body-count) × (true ≡ every k (shareTest s body-count))
 
 abbrev μ-loop : tie.MeasureT-loop
-μ-loop s bodies k₀ k = bodies - k
+μ-loop s body-count k₀ k = body-count - k
 
 returns : tie.Need-returns Inv-loop μ-loop
 returns c =

@@ -13,7 +13,7 @@ returns c =
 returns-2 : tie.Need-returns-2
 returns-2 c =
     let at-dot = c .before .before .before .before in
-    tolerance-go (at-dot .before .before .args .scale) _ (sum-there (at-dot .dot .ensures) (c .before .before .square .given .1))
+    tolerance-go _ _ (sum-there (at-dot .dot .ensures) (c .before .before .square .given .1))
     (c .sqrt .ensures .is) one-is
 
 pub tolerance-for-spec : {M : Type 1} → statement M

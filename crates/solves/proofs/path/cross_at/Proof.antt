@@ -25,8 +25,8 @@ cross-mass-requires c κs =
     let args = start .args in
     let pre = start .pre in (
       pre .0 .whole,
-      on-a (pre .0) (pre .1 (args .i) (pre .2)) (now (args .s)) (at-load-row .load-row .ensures),
-      on-b (pre .0) (pre .1 (args .i) (pre .2)) (now (args .s)) (at-load-row .load-row .ensures),
+      on-a (pre .0) (pre .1 _ (pre .2)) (now (args .s)) (at-load-row .load-row .ensures),
+      on-b (pre .0) (pre .1 _ (pre .2)) (now (args .s)) (at-load-row .load-row .ensures),
       pre .0 .bodies,
     )
 
@@ -37,7 +37,7 @@ returns c =
     let start = at-load-row .before .before .before in
     let args = start .args in
     let pre = start .pre in
-    cross-at (pre .0) (now (args .order)) (pre .1) (args .i) (args .j) (pre .2) (pre .3) (at-load-row .load-row .ensures)
+    cross-at (pre .0) (now (args .order)) (pre .1) _ _ (pre .2) (pre .3) (at-load-row .load-row .ensures)
     (at-load-row2 .load-row2 .ensures) (c .cross-mass .ensures)
 
 pub cross-at-spec : {M : Type 1} → statement M

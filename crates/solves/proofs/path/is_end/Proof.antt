@@ -13,9 +13,8 @@ use Rattle.solves.proofs.path.is_end.Tie as tie
 returns : tie.Need-returns
 returns c =
     let start = c .before .before in
-    let args = start .args in
     let pre = start .pre in
-    end-visited (pre .0) (now (args .visited)) (args .block) (c .if1 .taken)
+    end-visited (pre .0) _ _ (c .if1 .taken)
 
 -- the block's first row, and its bodies
 row-of : (c : tie.Start) → getD (now (c .args .starts)) (c .args .block) 0 < 96
@@ -38,9 +37,8 @@ returns-2 c =
     let at-neighbor = c .before in
     let at-if1 = at-neighbor .before .before .before in
     let start = at-if1 .before .before in
-    let args = start .args in
     let pre = start .pre in
-    end-a (pre .0) (now (args .visited)) (args .block) (pre .1) (at-if1 .if1 .left) (at-neighbor .neighbor .ensures) (c .if2 .taken)
+    end-a (pre .0) _ _ (pre .1) (at-if1 .if1 .left) (at-neighbor .neighbor .ensures) (c .if2 .taken)
 
 returns-3 : tie.Need-returns-3
 returns-3 c =
@@ -48,9 +46,8 @@ returns-3 c =
     let at-neighbor = at-if2 .before in
     let at-if1 = at-neighbor .before .before .before in
     let start = at-if1 .before .before in
-    let args = start .args in
     let pre = start .pre in
-    end-b (pre .0) (now (args .visited)) (args .block) (pre .1) (at-if1 .if1 .left) (at-neighbor .neighbor .ensures) (at-if2 .if2 .left)
+    end-b (pre .0) _ _ (pre .1) (at-if1 .if1 .left) (at-neighbor .neighbor .ensures) (at-if2 .if2 .left)
     (c .neighbor2 .ensures) refl
 
 pub is-end-spec : {M : Type 1} → statement M

@@ -30,7 +30,7 @@ loop-again c =
     let at-loop = at-place .before .before in
     let args = at-loop .before .before .args in (
       omega arith,
-      products-more (now (args .s)) (args .start) (args .a) (args .b) (at-loop .loop .k) (at-loop .loop .inv .1) (at-place .place .ensures)
+      products-more (now (args .s)) _ _ _ (at-loop .loop .k) (at-loop .loop .inv .1) (at-place .place .ensures)
           (at-place2 .place2 .ensures),
     )
 

@@ -26,7 +26,7 @@ loop-holds c =
     let args = start .args in (
       omega (arith, c .band-start .ensures),
       omega (arith, c .band-start .ensures),
-      does-eq refl (entries-start (start .pre .0) (now (args .order)) (args .i) _ (c .band-start .ensures)),
+      does-eq refl (entries-start (start .pre .0) (now (args .order)) _ _ (c .band-start .ensures)),
     )
 
 path-entry-requires : tie.Need-path-entry-requires Inv-loop μ-loop

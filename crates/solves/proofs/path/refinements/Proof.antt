@@ -31,7 +31,7 @@ abbrev μ-loop : tie.MeasureT-loop
 loop-holds : tie.Need-loop-holds Inv-loop μ-loop
 loop-holds c =
     let start = c .before in
-    came-none Refining 4 (Refines _ (start .pre .0) (now (start .args .order)) (start .args .tolerance) (now (start .args .s))) _
+    came-none Refining 4 (Refines _ (start .pre .0) (now (start .args .order)) _ (now (start .args .s))) _
     (refinedAt (now (start .args .s)) _)
 
 refine-requires : tie.Need-refine-requires Inv-loop μ-loop
@@ -51,7 +51,7 @@ returns c =
     new-ended (vecAt (at-refine .refine .last .0) SOLUTION _) (c .new .ensures)
     (does-eq (ap (λ x. ran x 0 k) (fails _ end (at-done .done .ensures) (at-if1 .if1 .taken)))
     (does-more refining-work
-    (refined-failed _ (start .pre .0) (now (start .args .order)) (start .args .tolerance) _ (at-loop .loop .inv)
+    (refined-failed _ (start .pre .0) (now (start .args .order)) _ _ (at-loop .loop .inv)
     (at-refine .before .before .loop-test .taken)
     (failed _ end (at-done .done .ensures) (at-refine .refine .ensures) (at-if1 .if1 .taken)))))
 
@@ -89,7 +89,7 @@ returns-3 c =
     new-ended (vecAt (at-loop .loop .s) SOLUTION _) (c .new3 .ensures)
     (does-more refining-work
     (came-spent Refining 4
-    (Refines _ (start .pre .0) (now (start .args .order)) (start .args .tolerance) (now (start .args .s))) _
+    (Refines _ (start .pre .0) (now (start .args .order)) _ (now (start .args .s))) _
     (refinedAt (now (start .args .s)) _) (at-loop .loop .inv) (c .before .loop-test .left)))
 
 pub refinements-spec : {M : Type 1} → statement M

@@ -12,16 +12,15 @@ returns c =
     let at-is-end = at-if1 .before in
     let start = at-is-end .before .before in
     let args = start .args in
-    from-end (start .pre .0) (orderAt (now (args .rows)) (args .listed)) (now (args .visited)) (args .first) (at-is-end .is-end .ensures)
+    from-end (start .pre .0) (orderAt (now (args .rows)) _) _ _ (at-is-end .is-end .ensures)
     (at-if1 .if1 .taken) (c .walk .ensures)
 
 returns-2 : tie.Need-returns-2
 returns-2 c =
     let at-is-end = c .before .before in
     let start = at-is-end .before .before in
-    let args = start .args in
     rw (c .new .ensures)
-    (from-other (start .pre .0) (orderAt (now (args .rows)) (args .listed)) (now (args .visited)) (args .first) (at-is-end .is-end .ensures)
+    (from-other (start .pre .0) (orderAt _ _) _ _ (at-is-end .is-end .ensures)
     (c .before .if1 .left) (start .pre .2))
 
 pub walk-from-spec : {M : Type 1} → statement M

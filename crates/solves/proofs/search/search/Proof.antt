@@ -29,7 +29,7 @@ abbrev μ-loop : tie.MeasureT-loop
 loop-holds : tie.Need-loop-holds Inv-loop μ-loop
 loop-holds c =
     let start = c .before .before in
-    came-none Passing (c .limit .result) (PassAt _ (start .pre) (start .args .which) (start .args .tolerance) (now (start .args .s))) _
+    came-none Passing (c .limit .result) (PassAt _ (start .pre) (start .args .which) _ (now (start .args .s))) _
     (searchAt (now (start .args .s)) _ _)
 
 search-pass-requires : tie.Need-search-pass-requires Inv-loop μ-loop
@@ -45,10 +45,10 @@ returns c =
     let start = at-limit .before .before in
     new-ended (vecAt (at-search-pass .search-pass .last .0) SOLUTION _) (c .new .ensures)
     (does-is (does-more passing-work (search-over _ (at-limit .limit .result)
-    (PassAt _ (start .pre) (start .args .which) (start .args .tolerance) (now (start .args .s))) _ _
+    (PassAt _ (start .pre) (start .args .which) _ (now (start .args .s))) _ _
     (at-loop .loop .inv) (at-search-pass .before .before .loop-test .taken) (at-search-pass .search-pass .result)
     (does-is (at-search-pass .search-pass .ensures)
-    (pass-kept _ (start .pre) (start .args .which) (start .args .tolerance) (at-loop .loop .inv .kept) _))
+    (pass-kept _ (start .pre) (start .args .which) _ (at-loop .loop .inv .kept) _))
     (c .before .before .end .given .1)))
     (ap
     (λ (m : ℕ). upTo m nonConvergent
@@ -62,10 +62,10 @@ loop-again c =
     let at-loop = at-search-pass .before .before .before in
     let start = at-loop .before .before .before in
     search-again _ (at-loop .before .limit .result)
-    (PassAt _ (start .pre) (start .args .which) (start .args .tolerance) (now (start .args .s))) _ _
+    (PassAt _ (start .pre) (start .args .which) _ (now (start .args .s))) _ _
     (at-loop .loop .inv) (at-search-pass .before .before .loop-test .taken) (at-search-pass .search-pass .result)
     (does-is (at-search-pass .search-pass .ensures)
-    (pass-kept _ (start .pre) (start .args .which) (start .args .tolerance) (at-loop .loop .inv .kept) _))
+    (pass-kept _ (start .pre) (start .args .which) _ (at-loop .loop .inv .kept) _))
     (c .before .next .given .1)
 
 returns-2 : tie.Need-returns-2 Inv-loop μ-loop
@@ -77,7 +77,7 @@ returns-2 c =
     (does-is
     (does-more passing-work
     (came-spent Passing (at-limit .limit .result)
-    (PassAt _ (start .pre) (start .args .which) (start .args .tolerance) (now (start .args .s))) _
+    (PassAt _ (start .pre) (start .args .which) _ (now (start .args .s))) _
     (searchAt (now (start .args .s)) _ _) (at-loop .loop .inv) (c .before .loop-test .left)))
     (ap
     (λ (m : ℕ). upTo m nonConvergent
