@@ -26,7 +26,7 @@ use Rattle.solves.specs.RegionLaws.{vec-at, vec-in, kept-vec, vec-more}
 use Rattle.solves.specs.Solver.{rowIn, generalizedIn, massIn, tryNumber, sumProducts, dot, pushInto, pushRow, transpose}
 use Rattle.solves.specs.Solver.{scaled, scaleAll, rate, rates, operator, noShare, through, addThrough, crossEnd, crossMass}
 use Rattle.solves.specs.Checked.{added, finiteShare, allFinite, checked}
-use Rattle.solves.specs.View.{rowOn, rowsOn, generalizedAt, sharesIn, massAt, massesAt, systemOn, Rows, VectorPlace, Shares, Beside, Operating}
+use Rattle.solves.specs.View.{rowOn, rowsOn, generalizedAt, sharesIn, massAt, massesAt, systemOn, Rows, RowsAlong, VectorPlace, Shares, Beside, Operating}
 use Rattle.solves.specs.View.{BODIES-MOST, VECTOR, RHS, GENERALIZED, MASSES, END, noGeneralized, noMass}
 use Rattle.solves.specs.DoesLaws.{number-yes, number-no, does-stop, does-then}
 use Rattle.solves.specs.ViewLaws.{out-within, kept-rows, kept-masses, row-in, share-in, mass-in, shares-set, shares-more, shares-none}
@@ -253,6 +253,10 @@ pub rows-kept : {s t : List Float} {ia ib : List ℕ} {place n body-count : ℕ}
 rows-kept pre e = record { whole = omega arith; table = pre .table; most = pre .most; bodies = pre .bodies; a-there = pre .a-there; b-there = pre .b-there }
 
 -- a vector before the shares is a place for the operator
+pub along-kept : {s t : List Float} {ia ib order : List ℕ} {place n body-count : ℕ} → RowsAlong s ia ib order place n body-count
+    → length t ≡ length s → RowsAlong t ia ib order place n body-count
+along-kept pre e = record { rows = rows-kept (pre .rows) e; along = pre .along }
+
 pub place-of : {s : List Float} (place : ℕ) → RHS ≤ place → place + VECTOR ≤ GENERALIZED → END ≤ length s → VectorPlace s place
 place-of place h l w = record { low = h; apart = omega arith; there = omega arith }
 

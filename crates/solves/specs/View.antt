@@ -176,6 +176,14 @@ Along order n = (i : ℕ) → i < n → getD order i 0 < n
 abbrev pub Blank : List ℕ → ℕ → Type 0
 Blank order n = (i : ℕ) → n ≤ i → i < 96 → getD order i 0 ≡ 0
 
+-- n rows, and an order of them
+pub record RowsAlong (s : List Float) (ia ib order : List ℕ) (place n body-count : ℕ) : Type 0 where
+  pub rows : Rows s ia ib place n body-count
+  pub along : Along order n
+
+abbrev pub ReadyAlong : Slice Float → Slice ℕ → Slice ℕ → Table → Slice ℕ → Type 0
+ReadyAlong s ia ib t order = RowsAlong (s .now) (ia .now) (ib .now) (order .now) (t .place) (t .rows) (t .bodies)
+
 -- no path
 abbrev pub noPath : PathOrder
 noPath = record { found = false; rows = replicate 96 0 }

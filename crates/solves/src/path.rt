@@ -45,7 +45,7 @@ ghost use Rattle.solves.specs.Region.{vecAt, Does};
 ghost use Rattle.solves.specs.View.{listAt, Along, noPath, bandAt, factorAt, refinedAt, Refining, Factoring};
 ghost use Rattle.solves.specs.View.{SOLUTION, RESIDUAL, PATH-SCALE, PATH-RHS, END, Beside};
 ghost use Rattle.solves.specs.Search.{refinement, pathAlong};
-ghost use Rattle.solves.specs.View.{systemIn, rhsOn, solutionOn, orderOn, Ready};
+ghost use Rattle.solves.specs.View.{systemIn, rhsOn, solutionOn, orderOn, ReadyAlong};
 
 // No block: the Rust's `usize::MAX`. There are at most 96 blocks.
 const NONE: usize = 96;
@@ -427,7 +427,7 @@ fn cross_at(
     i: usize,
     j: usize,
 ) -> Sum
-    requires { ⌜ (Ready s ia ib t) × (Along (now order) (t .rows)) × (i < t .rows) × (j < t .rows) ⌝ }
+    requires { ⌜ (ReadyAlong s ia ib t order) × (i < t .rows) × (j < t .rows) ⌝ }
     ensures { λ r. ⌜ sumAs r ≡ onPath s ia ib t order (λ r m o. crossMass (rowOf r m o i) (rowOf r m o j) m) ⌝ }
 {
     let a = load_row(s, ia, ib, t.place, order[i]);
@@ -436,7 +436,7 @@ fn cross_at(
 }
 
 fn path_scale(s: &mut [f64], ia: &PerRow, ib: &PerRow, t: Table, order: &PerRow) -> End
-    requires { ⌜ (Ready s ia ib t) × (Along (now order) (t .rows)) ⌝ }
+    requires { ⌜ ReadyAlong s ia ib t order ⌝ }
     ensures { λ r. ⌜ Does (Beside PATH-SCALE) (came s) (left s) (ranAs r (vecAt (left s) PATH-SCALE (t .rows)))
         (onPath s ia ib t order pathScale (t .rows)) ⌝ }
 {
@@ -470,7 +470,7 @@ fn path_entry(
     i: usize,
     j: usize,
 ) -> End
-    requires { ⌜ (Ready s ia ib t) × (Along (now order) (t .rows)) × (i < t .rows) × (j ≤ i) × (i ≤ j + 11) ⌝ }
+    requires { ⌜ (ReadyAlong s ia ib t order) × (i < t .rows) × (j ≤ i) × (i ≤ j + 11) ⌝ }
     ensures { λ r. ⌜ BandAs s ia ib t order r (λ rows masses order scale. pathEntry rows masses order scale i j) ⌝ }
 {
     let Sum::Value(entry) = cross_at(s, ia, ib, t, order, i, j) else {
@@ -498,7 +498,7 @@ fn path_entry(
 }
 
 fn path_row(s: &mut [f64], ia: &PerRow, ib: &PerRow, t: Table, order: &PerRow, i: usize) -> End
-    requires { ⌜ (Ready s ia ib t) × (Along (now order) (t .rows)) × (i < t .rows) ⌝ }
+    requires { ⌜ (ReadyAlong s ia ib t order) × (i < t .rows) ⌝ }
     ensures { λ r. ⌜ BandAs s ia ib t order r (λ rows masses order scale. pathRow rows masses order scale i) ⌝ }
 {
     for j in band_start(i)..i + 1 {
@@ -511,7 +511,7 @@ fn path_row(s: &mut [f64], ia: &PerRow, ib: &PerRow, t: Table, order: &PerRow, i
 }
 
 fn path_factor(s: &mut [f64], ia: &PerRow, ib: &PerRow, t: Table, order: &PerRow) -> End
-    requires { ⌜ (Ready s ia ib t) × (Along (now order) (t .rows)) ⌝ }
+    requires { ⌜ ReadyAlong s ia ib t order ⌝ }
     ensures { λ r. ⌜ BandAs s ia ib t order r (λ rows masses order scale _. pathFactor rows masses order scale (t .rows)) ⌝ }
 {
     clear(s, PATH_BAND, BAND_WIDTH * t.rows);
@@ -583,7 +583,7 @@ fn backward(s: &mut [f64], order: &PerRow, n: usize)
 }
 
 fn path_factored(s: &mut [f64], ia: &PerRow, ib: &PerRow, t: Table, order: &PerRow) -> End
-    requires { ⌜ (Ready s ia ib t) × (Along (now order) (t .rows)) ⌝ }
+    requires { ⌜ ReadyAlong s ia ib t order ⌝ }
     ensures { λ r. ⌜ Does Factoring (came s) (left s) (ranAs r (factorAt (left s) (t .rows))) (onPath s ia ib t order pathFactored (t .rows)) ⌝ }
 {
     let end = path_scale(s, ia, ib, t, order);
@@ -595,7 +595,7 @@ fn path_factored(s: &mut [f64], ia: &PerRow, ib: &PerRow, t: Table, order: &PerR
 
 // One refinement, up to the new residual.
 fn refine(s: &mut [f64], ia: &PerRow, ib: &PerRow, t: Table, order: &PerRow) -> End
-    requires { ⌜ (Ready s ia ib t) × (Along (now order) (t .rows)) ⌝ }
+    requires { ⌜ ReadyAlong s ia ib t order ⌝ }
     ensures { λ r. ⌜ Does Refining (came s) (left s) (ranAs r (refinedAt (left s) (t .rows)))
         (refineOf (systemIn s ia ib t) (rhsOn s t) (orderOn order t) (factorAt (came s) (t .rows)) (refinedAt (came s) (t .rows))) ⌝ }
 {
@@ -619,7 +619,7 @@ fn refinements(
     order: &PerRow,
     tolerance: f64,
 ) -> Ended
-    requires { ⌜ (Ready s ia ib t) × (Along (now order) (t .rows)) ⌝ }
+    requires { ⌜ ReadyAlong s ia ib t order ⌝ }
     ensures { λ r. ⌜ Solves s ia ib t r (λ system.
         upTo 4 nonConvergent (refinement system (rhsOn s t) (orderOn order t) (factorAt (came s) (t .rows)) tolerance) (refinedAt (came s) (t .rows))) ⌝ }
 {
@@ -637,7 +637,7 @@ fn refinements(
 
 // The path's solve along an order of the rows, from the right side as residual.
 pub(crate) fn path_along(s: &mut [f64], ia: &PerRow, ib: &PerRow, t: Table, order: &PerRow) -> Ended
-    requires { ⌜ (Ready s ia ib t) × (Along (now order) (t .rows)) ⌝ }
+    requires { ⌜ ReadyAlong s ia ib t order ⌝ }
     ensures { λ r. ⌜ Solves s ia ib t r (λ system. pathAlong system (rhsOn s t) (solutionOn s t) (orderOn order t)) ⌝ }
 {
     let n = t.rows;

@@ -3,7 +3,6 @@ use native.Mathlib.Omega.{arith}
 use borrow.Author.Needs.{needs}
 use mathlib.Core.Path.{refl}
 use lib.ListN.{length, length-set}
-use denote.Ref.{now}
 use Rattle.arith.specs.Laws.Constants.{zero-is}
 use Rattle.solves.specs.DoesLaws.{sum-there, sum-over}
 use Rattle.solves.proofs.FactorLaws.{entry-lost, entry-wild, entry-low, entry-pivot, entry-side}
@@ -13,7 +12,7 @@ use Rattle.solves.proofs.path.path_entry.Tie as tie
 cross-at-requires : tie.Need-cross-at-requires
 cross-at-requires c κs =
     let pre = c .before .before .pre in
-    (pre .0, pre .1, pre .2, omega arith)
+    (pre .0, pre .1, omega arith)
 
 -- ---- places, seen from where the entry was reduced
 abbrev entry-of : tie.After-reduced → tie.After-entry
@@ -29,13 +28,13 @@ returns : tie.Need-returns
 returns c =
     let at-cross-at = c .before .before in
     let start = at-cross-at .before .before .before in
-    entry-lost (now (start .args .order)) (start .pre) (sum-over (at-cross-at .cross-at .ensures) (c .enum-told .given .1))
+    entry-lost (start .pre) (sum-over (at-cross-at .cross-at .ensures) (c .enum-told .given .1))
 
 reduced-requires : tie.Need-reduced-requires
 reduced-requires c κs =
     let at-slice-known = c .before .before .before .before .before .before in
     let pre = at-slice-known .before .pre in
-    (pre .0 .whole, pre .0 .most, pre .2, pre .3, pre .4)
+    (pre .0 .rows .whole, pre .0 .rows .most, pre .1, pre .2, pre .3)
 
 returns-2 : tie.Need-returns-2
 returns-2 c =
@@ -43,7 +42,7 @@ returns-2 c =
     let at-if1 = at-is-finite .before in
     let at-reduced = at-if1 .before in
     let start = start-of at-reduced in
-    entry-wild (now (start .args .order)) (start .pre) (sum-there (cross-of at-reduced .cross-at .ensures) (entry-of at-reduced .entry .given .1))
+    entry-wild (start .pre) (sum-there (cross-of at-reduced .cross-at .ensures) (entry-of at-reduced .entry .given .1))
     (at-reduced .reduced .ensures) (at-if1 .if1 .taken) (at-is-finite .is-finite .ensures) zero-is (c .if2 .taken)
 
 returns-3 : tie.Need-returns-3
@@ -52,7 +51,7 @@ returns-3 c =
     let at-if1 = at-is-finite .before in
     let at-reduced = at-if1 .before in
     let start = start-of at-reduced in
-    entry-low (now (start .args .order)) (start .pre) (sum-there (cross-of at-reduced .cross-at .ensures) (entry-of at-reduced .entry .given .1))
+    entry-low (start .pre) (sum-there (cross-of at-reduced .cross-at .ensures) (entry-of at-reduced .entry .given .1))
     (at-reduced .reduced .ensures) (at-if1 .if1 .taken) (at-is-finite .is-finite .ensures) zero-is (c .before .if2 .left) (c .if3 .taken)
 
 returns-4 : tie.Need-returns-4
@@ -62,7 +61,7 @@ returns-4 c =
     let at-if1 = at-is-finite .before in
     let at-reduced = at-if1 .before in
     let start = start-of at-reduced in
-    entry-pivot (now (start .args .order)) (start .pre) (sum-there (cross-of at-reduced .cross-at .ensures) (entry-of at-reduced .entry .given .1))
+    entry-pivot (start .pre) (sum-there (cross-of at-reduced .cross-at .ensures) (entry-of at-reduced .entry .given .1))
     (at-reduced .reduced .ensures) (at-if1 .if1 .taken) (at-is-finite .is-finite .ensures) zero-is (at-if2 .if2 .left) (c .before .if3 .left)
     (c .sqrt .ensures .is)
 
@@ -70,7 +69,7 @@ returns-5 : tie.Need-returns-5
 returns-5 c =
     let at-reduced = c .before .before in
     let start = start-of at-reduced in
-    entry-side (now (start .args .order)) (start .pre) (sum-there (cross-of at-reduced .cross-at .ensures) (entry-of at-reduced .entry .given .1))
+    entry-side (start .pre) (sum-there (cross-of at-reduced .cross-at .ensures) (entry-of at-reduced .entry .given .1))
     (at-reduced .reduced .ensures) (c .before .if1 .left)
 
 pub path-entry-spec : {M : Type 1} → statement M

@@ -4,14 +4,13 @@ use borrow.Author.Needs.{needs}
 use mathlib.Core.Path.{_≡_, refl}
 use Prim.Native.Nat.{_≤_, _-_}
 use lib.ListN.{length, length-set}
-use denote.Ref.{now}
 use Rattle.arith.specs.Laws.Constants.{zero-is}
 use Rattle.arith.specs.Flow.{go}
 use Rattle.solves.specs.Path.{pathScale}
 use Rattle.solves.specs.Region.{vecAt, Does}
 use Rattle.solves.specs.View.{rowsOn, massesAt, listAt, MASSES, PATH-SCALE, Beside}
 use Rattle.solves.specs.DoesLaws.{sum-there, sum-over}
-use Rattle.solves.proofs.OperatorLaws.{rows-kept}
+use Rattle.solves.proofs.OperatorLaws.{along-kept}
 use Rattle.solves.proofs.FactorLaws.{scales-none, scales-lost, scales-refused, scales-more, scales-end}
 use Rattle.solves.proofs.path.path_scale.Statement.{statement}
 use Rattle.solves.proofs.path.path_scale.Tie as tie
@@ -28,14 +27,14 @@ loop-holds : tie.Need-loop-holds Inv-loop μ-loop
 loop-holds c =
     let start = c .before in
     let pre = start .pre in
-    (omega arith, refl, scales-none (pre .0) (now (start .args .order)) (pre .1) _)
+    (omega arith, refl, scales-none pre _)
 
 cross-at-requires : tie.Need-cross-at-requires Inv-loop μ-loop
 cross-at-requires c κs =
     let at-loop-test = c .before in
     let at-loop = at-loop-test .before in
     let pre = at-loop .before .before .pre in
-    (rows-kept (pre .0) (at-loop .loop .inv .1), pre .1, at-loop-test .loop-test .taken, at-loop-test .loop-test .taken)
+    (along-kept pre (at-loop .loop .inv .1), at-loop-test .loop-test .taken, at-loop-test .loop-test .taken)
 
 returns : tie.Need-returns Inv-loop μ-loop
 returns c =
@@ -44,7 +43,7 @@ returns c =
     let at-loop = at-loop-test .before in
     let start = at-loop .before .before in
     let pre = start .pre in
-    scales-lost (pre .0) (now (start .args .order)) (pre .1) _ (at-loop .loop .inv .2) (at-loop-test .loop-test .taken) (at-loop .loop .inv .1)
+    scales-lost pre _ (at-loop .loop .inv .2) (at-loop-test .loop-test .taken) (at-loop .loop .inv .1)
     (sum-over (at-cross-at .cross-at .ensures) (c .enum-told .given .1))
 
 returns-2 : tie.Need-returns-2 Inv-loop μ-loop
@@ -55,7 +54,7 @@ returns-2 c =
     let at-loop = at-loop-test .before in
     let start = at-loop .before .before in
     let pre = start .pre in
-    scales-refused (pre .0) (now (start .args .order)) (pre .1) _ (at-loop .loop .inv .2) (at-loop-test .loop-test .taken) (at-loop .loop .inv .1)
+    scales-refused pre _ (at-loop .loop .inv .2) (at-loop-test .loop-test .taken) (at-loop .loop .inv .1)
     zero-is (sum-there (at-cross-at .cross-at .ensures) (at-value .value .given .1)) (c .if1 .taken)
 
 loop-again : tie.Need-loop-again Inv-loop μ-loop
@@ -69,7 +68,7 @@ loop-again c =
     let pre = start .pre in (
       omega (arith, at-loop-test .loop-test .taken),
       simp length-set (at-loop .loop .inv .1),
-      scales-more (pre .0) (now (start .args .order)) (pre .1) _ (at-loop .loop .inv .2) (at-loop-test .loop-test .taken) (at-loop .loop .inv .1)
+      scales-more pre _ (at-loop .loop .inv .2) (at-loop-test .loop-test .taken) (at-loop .loop .inv .1)
           zero-is (sum-there (at-cross-at .cross-at .ensures) (at-value .value .given .1)) (at-if1 .if1 .left) (c .sqrt .ensures .is),
     )
 
@@ -78,7 +77,7 @@ returns-3 c =
     let at-loop = c .before in
     let start = at-loop .before .before in
     let pre = start .pre in
-    scales-end (pre .0) (now (start .args .order)) (pre .1) _ (at-loop .loop .inv .2) (at-loop .loop .inv .0) (c .loop-test .left)
+    scales-end pre _ (at-loop .loop .inv .2) (at-loop .loop .inv .0) (c .loop-test .left)
 
 pub path-scale-spec : {M : Type 1} → statement M
 path-scale-spec =

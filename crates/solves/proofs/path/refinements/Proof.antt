@@ -13,7 +13,7 @@ use Rattle.solves.specs.View.{Refining}
 use Rattle.solves.specs.View.{RHS, SOLUTION}
 use Rattle.solves.specs.DoesLaws.{went, failed, fails, does-eq, does-more}
 use Rattle.solves.specs.ViewLaws.{refining-work}
-use Rattle.solves.proofs.OperatorLaws.{rows-kept}
+use Rattle.solves.proofs.OperatorLaws.{along-kept}
 use Rattle.solves.proofs.SearchLaws.{new-ended, Came, came-none, came-spent}
 use Rattle.solves.specs.Search.{refinement}
 use Rattle.solves.proofs.SolveLaws.{Refines, refined-failed, refined-over, refined-more}
@@ -31,13 +31,13 @@ abbrev μ-loop : tie.MeasureT-loop
 loop-holds : tie.Need-loop-holds Inv-loop μ-loop
 loop-holds c =
     let start = c .before in
-    came-none Refining 4 (Refines _ (start .pre .0) (now (start .args .order)) _ (now (start .args .s))) _
+    came-none Refining 4 (Refines _ (start .pre) _ (now (start .args .s))) _
     (refinedAt (now (start .args .s)) _)
 
 refine-requires : tie.Need-refine-requires Inv-loop μ-loop
 refine-requires c κs =
     let start = c .before .before .before .before in
-    (rows-kept (start .pre .0) (c .before .before .loop .inv .kept .size), start .pre .1)
+    along-kept (start .pre) (c .before .before .loop .inv .kept .size)
 
 returns : tie.Need-returns Inv-loop μ-loop
 returns c =
@@ -51,7 +51,7 @@ returns c =
     new-ended (vecAt (at-refine .refine .last .0) SOLUTION _) (c .new .ensures)
     (does-eq (ap (λ x. ran x 0 k) (fails _ end (at-done .done .ensures) (at-if1 .if1 .taken)))
     (does-more refining-work
-    (refined-failed _ (start .pre .0) (now (start .args .order)) _ _ (at-loop .loop .inv)
+    (refined-failed _ (start .pre) _ _ (at-loop .loop .inv)
     (at-refine .before .before .loop-test .taken)
     (failed _ end (at-done .done .ensures) (at-refine .refine .ensures) (at-if1 .if1 .taken)))))
 
@@ -64,7 +64,7 @@ returns-2 c =
     let start = at-loop .before .before in
     new-ended (vecAt (at-refine .refine .last .0) SOLUTION _) (c .new2 .ensures)
     (does-more refining-work
-    (refined-over _ (start .pre .0) (now (start .args .order)) _ _ (at-loop .loop .inv)
+    (refined-over _ (start .pre) _ _ (at-loop .loop .inv)
     (at-refine .before .before .loop-test .taken)
     (went _ (at-refine .refine .result) (at-done .done .ensures) (at-refine .refine .ensures)
     (at-residual-test .before .before .if1 .left))
@@ -77,7 +77,7 @@ loop-again c =
     let at-refine = at-done .before .before .before in
     let at-loop = at-refine .before .before .before in
     let start = at-loop .before .before in
-    refined-more _ (start .pre .0) (now (start .args .order)) _ _ (at-loop .loop .inv)
+    refined-more _ (start .pre) _ _ (at-loop .loop .inv)
     (at-refine .before .before .loop-test .taken)
     (went _ (at-refine .refine .result) (at-done .done .ensures) (at-refine .refine .ensures) (at-residual-test .before .before .if1 .left))
     (at-residual-test .residual-test .result) (at-residual-test .residual-test .ensures) (c .enum-told .given .1)
@@ -89,7 +89,7 @@ returns-3 c =
     new-ended (vecAt (at-loop .loop .s) SOLUTION _) (c .new3 .ensures)
     (does-more refining-work
     (came-spent Refining 4
-    (Refines _ (start .pre .0) (now (start .args .order)) _ (now (start .args .s))) _
+    (Refines _ (start .pre) _ (now (start .args .s))) _
     (refinedAt (now (start .args .s)) _) (at-loop .loop .inv) (c .before .loop-test .left)))
 
 pub refinements-spec : {M : Type 1} → statement M
