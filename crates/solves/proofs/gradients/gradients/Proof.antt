@@ -1,13 +1,10 @@
 -- gradients: the diagonal, the tolerance, and the search.
 use native.Mathlib.Omega.{arith}
 use borrow.Author.Needs.{needs}
-use mathlib.Core.Path.{_∙_, ap}
 use Prim.Native.Nat.{_-_}
-use lib.Ieee.{Float}
 use Rattle.solves.specs.Region.{vecAt}
-use Rattle.solves.specs.View.{RHS, SOLUTION}
+use Rattle.solves.specs.View.{SOLUTION}
 use Rattle.solves.specs.DoesLaws.{sum-there, sum-over, does-as}
-use Rattle.solves.specs.Solver.{toleranceFor}
 use Rattle.solves.specs.Answer.{preparedAs}
 use Rattle.solves.proofs.GradientLaws.{gradients-refused, gradients-intolerant, gradients-whole}
 use Rattle.solves.proofs.OperatorLaws.{rows-kept}
@@ -33,8 +30,7 @@ returns-2 c =
     new-ended (vecAt (at-prepare .prepare .last .0) SOLUTION _) (c .new2 .ensures)
     (gradients-intolerant _ (start .pre)
     (does-as (λ r. preparedAs r (at-prepare .prepare .last .0) (start .args .t .rows)) (at-rho .rho .given .1) (at-prepare .prepare .ensures))
-    (sum-over (at-tolerance-for .tolerance-for .ensures) (c .before .enum-told2 .given .1) ∙ ap
-    (λ (x : Float). toleranceFor x (vecAt (at-prepare .prepare .last .0) RHS (start .args .t .rows))) tenth-12))
+    (rw tenth-12 at (sum-over (at-tolerance-for .tolerance-for .ensures) (c .before .enum-told2 .given .1))))
 
 search-requires : tie.Need-search-requires
 search-requires c κs =
@@ -50,8 +46,7 @@ returns-3 c =
     let start = at-prepare .before .before .before in
     gradients-whole _ (start .pre)
     (does-as (λ r. preparedAs r (at-prepare .prepare .last .0) (start .args .t .rows)) (at-rho .rho .given .1) (at-prepare .prepare .ensures))
-    (sum-there (at-tolerance .before .before .tolerance-for .ensures) (at-tolerance .tolerance .given .1) ∙ ap
-    (λ (x : Float). toleranceFor x (vecAt (at-prepare .prepare .last .0) RHS (start .args .t .rows))) tenth-12)
+    (rw tenth-12 at (sum-there (at-tolerance .before .before .tolerance-for .ensures) (at-tolerance .tolerance .given .1)))
     (c .before .before .search .ensures)
 
 pub gradients-spec : {M : Type 1} → statement M

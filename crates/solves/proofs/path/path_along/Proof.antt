@@ -3,12 +3,10 @@ use native.Mathlib.Omega.{arith}
 use borrow.Author.Needs.{needs}
 use mathlib.Core.Path.{_∙_, ap}
 use Prim.Native.Nat.{_-_}
-use lib.Ieee.{Float}
 use Rattle.arith.specs.Run.{ran}
 use Rattle.solves.specs.Region.{vecAt}
-use Rattle.solves.specs.View.{RHS, SOLUTION}
+use Rattle.solves.specs.View.{SOLUTION}
 use Rattle.solves.specs.DoesLaws.{sum-there, sum-over, went, failed, fails, does-eq}
-use Rattle.solves.specs.Solver.{toleranceFor}
 use Rattle.solves.proofs.OperatorLaws.{along-kept}
 use Rattle.solves.proofs.SearchLaws.{tenth-12, new-ended}
 use Rattle.solves.proofs.SolveLaws.{along-refused, along-intolerant, along-whole}
@@ -37,8 +35,7 @@ returns-2 c =
     (along-intolerant _ (start .pre)
     (went _ (at-path-factored .path-factored .result) (at-done .done .ensures) (at-path-factored .path-factored .ensures)
     (at-tolerance-for .before .before .if1 .left))
-    (sum-over (at-tolerance-for .tolerance-for .ensures) (c .before .enum-told .given .1) ∙ ap
-    (λ (x : Float). toleranceFor x (vecAt (at-path-factored .path-factored .last .0) RHS (start .args .t .rows))) tenth-12))
+    (rw tenth-12 at (sum-over (at-tolerance-for .tolerance-for .ensures) (c .before .enum-told .given .1))))
 
 refinements-requires : tie.Need-refinements-requires
 refinements-requires c κs =
@@ -57,8 +54,7 @@ returns-3 c =
     let start = at-path-factored .before .before .before in
     along-whole _ (start .pre)
     (went _ (at-path-factored .path-factored .result) (at-if1 .before .done .ensures) (at-path-factored .path-factored .ensures) (at-if1 .if1 .left))
-    (sum-there (at-tolerance .before .before .tolerance-for .ensures) (at-tolerance .tolerance .given .1) ∙ ap
-    (λ (x : Float). toleranceFor x (vecAt (at-path-factored .path-factored .last .0) RHS (start .args .t .rows))) tenth-12)
+    (rw tenth-12 at (sum-there (at-tolerance .before .before .tolerance-for .ensures) (at-tolerance .tolerance .given .1)))
     (at-copy .copy .ensures) (c .before .before .refinements .ensures)
 
 pub path-along-spec : {M : Type 1} → statement M

@@ -3,7 +3,6 @@ use native.Mathlib.Omega.{arith}
 use borrow.Author.Needs.{needs}
 use mathlib.Core.Path.{ap}
 use Prim.Native.Nat.{_-_}
-use denote.Ref.{now}
 use Rattle.arith.specs.Flow.{loop}
 use Rattle.arith.specs.Run.{ran}
 use Rattle.rows.specs.View.{at}
@@ -16,7 +15,7 @@ use Rattle.solves.specs.ViewLaws.{refining-work}
 use Rattle.solves.proofs.OperatorLaws.{along-kept}
 use Rattle.solves.proofs.SearchLaws.{new-ended, Came, came-none, came-spent}
 use Rattle.solves.specs.Search.{refinement}
-use Rattle.solves.proofs.SolveLaws.{Refines, refined-failed, refined-over, refined-more}
+use Rattle.solves.proofs.SolveLaws.{refined-failed, refined-over, refined-more}
 use Rattle.solves.proofs.path.refinements.Statement.{statement}
 use Rattle.solves.proofs.path.refinements.Tie as tie
 
@@ -27,12 +26,6 @@ Inv-loop s₀ ia ib t order tolerance k₀ s k =
 
 abbrev μ-loop : tie.MeasureT-loop
 μ-loop s₀ ia ib t order tolerance k₀ s k = 4 - k
-
-loop-holds : tie.Need-loop-holds Inv-loop μ-loop
-loop-holds c =
-    let start = c .before in
-    came-none Refining 4 (Refines _ (start .pre) _ (now (start .args .s))) _
-    (refinedAt (now (start .args .s)) _)
 
 refine-requires : tie.Need-refine-requires Inv-loop μ-loop
 refine-requires c κs =
@@ -88,14 +81,12 @@ returns-3 c =
     let start = at-loop .before .before in
     new-ended (vecAt (at-loop .loop .s) SOLUTION _) (c .new3 .ensures)
     (does-more refining-work
-    (came-spent Refining 4
-    (Refines _ (start .pre) _ (now (start .args .s))) _
-    (refinedAt (now (start .args .s)) _) (at-loop .loop .inv) (c .before .loop-test .left)))
+    (came-spent (at-loop .loop .inv) (c .before .loop-test .left)))
 
 pub refinements-spec : {M : Type 1} → statement M
 refinements-spec =
     tie.close (tie.spec
-    Inv-loop μ-loop loop-holds refine-requires (λ c κs. search needs) (λ c κs. search needs) (λ c. omega arith)
+    Inv-loop μ-loop (λ c. came-none) refine-requires (λ c κs. search needs) (λ c κs. search needs) (λ c. omega arith)
     returns (λ c κs. omega arith) (λ c. search needs) (λ c. omega arith) (λ c κs. search needs) (λ c. omega arith)
     returns-2 (λ c. search needs) (λ c. omega arith) (λ c. omega arith) loop-again (λ c κs. search needs)
     (λ c. c .before .before .loop .inv .kept .size) returns-3)
