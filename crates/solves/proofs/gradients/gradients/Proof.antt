@@ -32,12 +32,6 @@ returns-2 c =
     (does-as (λ r. preparedAs r (at-prepare .prepare .last .0) (start .args .t .rows)) (at-rho .rho .given .1) (at-prepare .prepare .ensures))
     (rw tenth-12 at (sum-over (at-tolerance-for .tolerance-for .ensures) (c .before .enum-told2 .given .1))))
 
-search-requires : tie.Need-search-requires
-search-requires c κs =
-    let at-known-told = c .before .before .before .before .before .before in
-    let at-prepare = at-known-told .before .before .before .before .before in
-    rows-kept (at-prepare .before .before .before .pre) (at-prepare .prepare .ensures .kept .size)
-
 returns-3 : tie.Need-returns-3
 returns-3 c =
     let at-tolerance = c .before .before .before .before .before in
@@ -52,6 +46,6 @@ returns-3 c =
 pub gradients-spec : {M : Type 1} → statement M
 gradients-spec =
     tie.close (tie.spec
-    (λ c κs. c .before .before .pre) (λ c. search needs) (λ c. search needs) (λ c κs. search needs)
-    (λ c. omega arith) returns (λ c κs. omega arith) (λ c. search needs) (λ c. search needs) (λ c κs. search needs)
-    (λ c. omega arith) returns-2 search-requires (λ c. omega arith) returns-3)
+    (λ c κs. c .before .before .pre) (λ c. search needs) (λ c. search needs) (λ c κs. search needs) (λ c. omega arith)
+    returns (λ c κs. omega arith) (λ c. search needs) (λ c. search needs) (λ c κs. search needs) (λ c. omega arith)
+    returns-2 (λ c κs. search rows-kept) (λ c. omega arith) returns-3)

@@ -66,9 +66,7 @@ size-back c = c .operator2 .ensures .kept .size ∙ size (second-of c)
 
 -- ---- the needs
 returns : tie.Need-returns
-returns c =
-    let start = c .before .before .before in
-    pass-solved _ (start .pre) _ _ (c .before .sqrt .ensures .is) (c .if1 .taken)
+returns c = search pass-solved
 
 operator-requires : tie.Need-operator-requires
 operator-requires c κs =

@@ -33,17 +33,6 @@ returns c =
     (does-eq (ap (λ x. ran x 0 0) (fails _ end (at-done .done .ensures) (at-if1 .if1 .taken)))
     (least-unmoved _ (start .pre) (failed _ end (at-done .done .ensures) (at-operator .operator .ensures) (at-if1 .if1 .taken))))
 
-returns-2 : tie.Need-returns-2
-returns-2 c =
-    let at-dot = c .before .before .before in
-    let at-done = at-dot .before .before .before in
-    let at-operator = at-done .before .before .before in
-    let start = at-operator .before .before .before in
-    new-ended (vecAt (at-operator .operator .last .0) SOLUTION _) (c .new2 .ensures)
-    (least-unmeasured _ (start .pre)
-    (went _ (at-operator .operator .result) (at-done .done .ensures) (at-operator .operator .ensures) (at-dot .before .before .if1 .left))
-    (sum-over (at-dot .dot .ensures) (c .before .enum-told .given .1)))
-
 returns-3 : tie.Need-returns-3
 returns-3 c =
     let at-tolerance-for = c .before .before .before in
@@ -83,6 +72,7 @@ pub least-squares-spec : {M : Type 1} → statement M
 least-squares-spec =
     tie.close (tie.spec
     operator-requires (λ c κs. search needs) (λ c κs. search needs) (λ c. omega arith) returns (λ c κs. omega arith)
-    (λ c. search needs) (λ c. search needs) (λ c κs. search needs) (λ c. omega arith) returns-2
-    (λ c κs. omega arith) (λ c. search needs) (λ c. search needs) (λ c κs. search needs) (λ c. omega arith)
-    returns-3 (λ c κs. omega arith) search-requires (λ c. omega arith) returns-4)
+    (λ c. search needs) (λ c. search needs) (λ c κs. search needs) (λ c. omega arith)
+    (λ c. search (new-ended, least-unmeasured, went, sum-over)) (λ c κs. omega arith) (λ c. search needs)
+    (λ c. search needs) (λ c κs. search needs) (λ c. omega arith) returns-3 (λ c κs. omega arith) search-requires
+    (λ c. omega arith) returns-4)

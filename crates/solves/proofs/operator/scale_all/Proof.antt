@@ -26,14 +26,6 @@ abbrev μ-loop : tie.MeasureT-loop
 loop-holds : tie.Need-loop-holds Inv-loop μ-loop
 loop-holds c = (omega arith, refl, scale-none _ _ (c .before .pre .1))
 
-returns : tie.Need-returns Inv-loop μ-loop
-returns c =
-    let at-load-mass = c .before .before .before in
-    let in-loop = at-load-mass .before .before .before .before in
-    scale-stops _ _ (in-loop .before .before .before .pre .1) (in-loop .before .loop .inv .2) (in-loop .loop-test .taken)
-    (at-load-mass .before .before .load-generalized .ensures) (at-load-mass .load-mass .ensures)
-    (share-over (c .before .before .scaled .ensures) (c .enum-told .given .1))
-
 loop-again : tie.Need-loop-again Inv-loop μ-loop
 loop-again c =
     let at-store-generalized = c .before .before in
@@ -54,6 +46,6 @@ returns-2 c = scale-ends _ _ (c .before .before .before .pre .1) (c .before .loo
 pub scale-all-spec : {M : Type 1} → statement M
 scale-all-spec =
     tie.close (tie.spec
-    Inv-loop μ-loop loop-holds (λ c κs. omega arith) (λ c κs. omega arith) (λ c κs. omega arith)
-    (λ c. search needs) (λ c κs. omega arith) (λ c. search needs) (λ c. omega arith) returns
-    (λ c. omega arith) (λ c. omega arith) loop-again (λ c. omega arith) returns-2)
+    Inv-loop μ-loop loop-holds (λ c κs. omega arith) (λ c κs. omega arith) (λ c κs. omega arith) (λ c. search needs)
+    (λ c κs. omega arith) (λ c. search needs) (λ c. omega arith) (λ c. search (scale-stops, share-over)) (λ c. omega arith)
+    (λ c. omega arith) loop-again (λ c. omega arith) returns-2)

@@ -21,24 +21,17 @@ row-there : (c : tie.In-loop Inv-loop μ-loop)
     → getD (now (start-of c .args .order)) (start-of c .args .n - 1 - c .before .loop .k) 0 < start-of c .args .n
 row-there c = c .before .loop .inv .along _ (omega (arith, c .loop-test .taken))
 
-loop-again : tie.Need-loop-again Inv-loop μ-loop
-loop-again c =
-    let at-backward-sum = c .before .before .before .before in
-    let at-loop-test = at-backward-sum .before .before in
-    backwards-more _ _ _ (at-loop-test .before .loop .inv) (at-loop-test .loop-test .taken) (at-backward-sum .backward-sum .ensures)
-
 pub backward-spec : {M : Type 1} → statement M
 backward-spec =
     tie.close (tie.spec
     Inv-loop μ-loop (λ c. search backwards-none) (λ c. omega arith) (λ c. omega arith) (λ c. omega arith) (λ c. omega arith)
-    (λ c. omega arith) (λ c κs. omega arith) (λ c. omega arith) (λ c. omega arith) (λ c. omega arith)
+    (λ c. omega arith) (λ c κs. omega arith) (λ c. omega arith) (λ c. omega arith) (λ c. omega arith) (λ c. omega arith)
     (λ c. omega arith) (λ c. omega arith) (λ c. omega arith) (λ c. omega arith) (λ c. omega arith)
-    (λ c. omega arith) (λ c. omega (arith, row-there (c .before .before .before .before)))
     (λ c. omega (arith, row-there (c .before .before .before .before)))
-    (λ c. simp length-set (omega (arith, row-there (c .before .before .before .before .before))))
-    (λ c. omega arith) (λ c. omega arith)
-    (λ c. simp length-set (omega (arith, row-there (c .before .before .before .before .before .before))))
+    (λ c. omega (arith, row-there (c .before .before .before .before)))
+    (λ c. simp length-set (omega (arith, row-there (c .before .before .before .before .before)))) (λ c. omega arith)
+    (λ c. omega arith) (λ c. simp length-set (omega (arith, row-there (c .before .before .before .before .before .before))))
     (λ c. omega (arith, row-there (c .before .before .before .before .before .before)))
-    (λ c. simp length-set (omega (arith, row-there (c .before .before .before .before .before .before))))
-    (λ c. omega arith) (λ c. omega arith) loop-again (λ c. c .before .loop .inv .does .kept .size)
+    (λ c. simp length-set (omega (arith, row-there (c .before .before .before .before .before .before)))) (λ c. omega arith)
+    (λ c. omega arith) (λ c. search backwards-more) (λ c. c .before .loop .inv .does .kept .size)
     (λ c. backwards-end _ _ _ (c .before .loop .inv) (c .loop-test .left)))

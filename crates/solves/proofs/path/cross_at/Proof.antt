@@ -30,18 +30,8 @@ cross-mass-requires c κs =
       pre .0 .rows .bodies,
     )
 
-returns : tie.Need-returns
-returns c =
-    let at-load-row2 = c .before in
-    let at-load-row = at-load-row2 .before .before in
-    let start = at-load-row .before .before .before in
-    let args = start .args in
-    let pre = start .pre in
-    cross-at (pre .0) _ _ (pre .1) (pre .2) (at-load-row .load-row .ensures)
-    (at-load-row2 .load-row2 .ensures) (c .cross-mass .ensures)
-
 pub cross-at-spec : {M : Type 1} → statement M
 cross-at-spec =
     tie.close (tie.spec
-    (λ c. omega arith) (λ c. omega arith) load-row-requires (λ c. omega arith) (λ c. omega arith)
-    load-row-requires-2 cross-mass-requires returns)
+    (λ c. omega arith) (λ c. omega arith) load-row-requires (λ c. omega arith) (λ c. omega arith) load-row-requires-2
+    cross-mass-requires (λ c. search cross-at))

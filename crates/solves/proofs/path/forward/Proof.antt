@@ -17,18 +17,12 @@ abbrev μ-loop : tie.MeasureT-loop
 row-there : (c : tie.In-loop Inv-loop μ-loop) → getD (now (c .before .before .before .args .order)) (c .before .loop .i) 0 < c .before .before .before .args .n
 row-there c = c .before .loop .inv .along _ (c .loop-test .taken)
 
-loop-again : tie.Need-loop-again Inv-loop μ-loop
-loop-again c =
-    let at-forward-sum = c .before in
-    let at-loop-test = at-forward-sum .before .before .before .before .before in
-    forwards-more _ _ _ (at-loop-test .before .loop .inv) (at-loop-test .loop-test .taken) (at-forward-sum .forward-sum .ensures)
-
 pub forward-spec : {M : Type 1} → statement M
 forward-spec =
     tie.close (tie.spec
-    Inv-loop μ-loop (λ c. search forwards-none) (λ c. omega arith) (λ c. omega arith) (λ c. omega (arith, row-there (c .before)))
-    (λ c. omega (arith, row-there (c .before))) (λ c. omega (arith, row-there (c .before .before)))
-    (λ c. omega arith) (λ c. omega arith) (λ c. omega arith) (λ c κs. omega arith) (λ c. omega arith)
-    (λ c. omega arith) (λ c. omega arith) (λ c. omega arith) (λ c. omega arith) (λ c. omega arith)
-    (λ c. omega arith) (λ c. omega arith) (λ c. omega arith) loop-again (λ c. c .before .loop .inv .does .kept .size)
-    (λ c. forwards-end _ _ _ (c .before .loop .inv) (c .loop-test .left)))
+    Inv-loop μ-loop (λ c. search forwards-none) (λ c. omega arith) (λ c. omega arith)
+    (λ c. omega (arith, row-there (c .before))) (λ c. omega (arith, row-there (c .before)))
+    (λ c. omega (arith, row-there (c .before .before))) (λ c. omega arith) (λ c. omega arith) (λ c. omega arith)
+    (λ c κs. omega arith) (λ c. omega arith) (λ c. omega arith) (λ c. omega arith) (λ c. omega arith) (λ c. omega arith)
+    (λ c. omega arith) (λ c. omega arith) (λ c. omega arith) (λ c. omega arith) (λ c. search forwards-more)
+    (λ c. c .before .loop .inv .does .kept .size) (λ c. forwards-end _ _ _ (c .before .loop .inv) (c .loop-test .left)))

@@ -34,16 +34,10 @@ loop-again c =
           (at-place2 .place2 .ensures),
     )
 
-returns : tie.Need-returns Inv-loop μ-loop
-returns c =
-    let at-loop = c .before in
-    turns-end _ _ (at-loop .loop .inv .0) (c .loop-test .left) (at-loop .loop .inv .1)
-
 pub less-products-spec : {M : Type 1} → statement M
 less-products-spec =
     tie.close (tie.spec
-    Inv-loop μ-loop (λ c. (omega arith, turns-none _ _)) (λ c κs. both c .0)
-    (λ c. omega (arith, both (c .before))) (λ c. omega (arith, both (c .before .before)))
-    (λ c κs. both (c .before .before) .1) (λ c. omega (arith, both (c .before .before .before)))
-    (λ c. omega (arith, both (c .before .before .before .before))) (λ c. omega arith) (λ c. omega arith)
-    loop-again returns)
+    Inv-loop μ-loop (λ c. (omega arith, turns-none _ _)) (λ c κs. both c .0) (λ c. omega (arith, both (c .before)))
+    (λ c. omega (arith, both (c .before .before))) (λ c κs. both (c .before .before) .1)
+    (λ c. omega (arith, both (c .before .before .before))) (λ c. omega (arith, both (c .before .before .before .before)))
+    (λ c. omega arith) (λ c. omega arith) loop-again (λ c. search turns-end))

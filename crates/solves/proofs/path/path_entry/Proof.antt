@@ -24,35 +24,11 @@ cross-of c = entry-of c .before .before
 abbrev start-of : tie.After-reduced → tie.Start
 start-of c = cross-of c .before .before .before
 
-returns : tie.Need-returns
-returns c =
-    let at-cross-at = c .before .before in
-    let start = at-cross-at .before .before .before in
-    entry-lost (start .pre) (sum-over (at-cross-at .cross-at .ensures) (c .enum-told .given .1))
-
 reduced-requires : tie.Need-reduced-requires
 reduced-requires c κs =
     let at-slice-known = c .before .before .before .before .before .before in
     let pre = at-slice-known .before .pre in
     (pre .0 .rows .whole, pre .0 .rows .most, pre .1, pre .2, pre .3)
-
-returns-2 : tie.Need-returns-2
-returns-2 c =
-    let at-is-finite = c .before in
-    let at-if1 = at-is-finite .before in
-    let at-reduced = at-if1 .before in
-    let start = start-of at-reduced in
-    entry-wild (start .pre) (sum-there (cross-of at-reduced .cross-at .ensures) (entry-of at-reduced .entry .given .1))
-    (at-reduced .reduced .ensures) (at-if1 .if1 .taken) (at-is-finite .is-finite .ensures) zero-is (c .if2 .taken)
-
-returns-3 : tie.Need-returns-3
-returns-3 c =
-    let at-is-finite = c .before .before in
-    let at-if1 = at-is-finite .before in
-    let at-reduced = at-if1 .before in
-    let start = start-of at-reduced in
-    entry-low (start .pre) (sum-there (cross-of at-reduced .cross-at .ensures) (entry-of at-reduced .entry .given .1))
-    (at-reduced .reduced .ensures) (at-if1 .if1 .taken) (at-is-finite .is-finite .ensures) zero-is (c .before .if2 .left) (c .if3 .taken)
 
 returns-4 : tie.Need-returns-4
 returns-4 c =
@@ -75,10 +51,10 @@ returns-5 c =
 pub path-entry-spec : {M : Type 1} → statement M
 path-entry-spec =
     tie.close (tie.spec
-    cross-at-requires (λ c. search needs) (λ c. search needs) (λ c. refl) returns (λ c. omega arith)
-    (λ c. omega arith) (λ c. omega arith) (λ c. omega arith) (λ c. omega arith) (λ c. omega arith)
-    reduced-requires (λ c κs. search needs) (λ c. refl) returns-2 (λ c. refl) returns-3 (λ c κs. search needs)
-    (λ c. omega arith) (λ c. omega arith) (λ c. omega arith) (λ c. omega arith) (λ c. simp length-set)
-    returns-4 (λ c. omega arith) (λ c. omega arith) (λ c. omega arith) (λ c. omega arith) (λ c. omega arith)
-    (λ c. omega arith) (λ c. omega arith) (λ c. omega arith) (λ c. omega arith) (λ c. omega arith)
-    (λ c. simp length-set) returns-5)
+    cross-at-requires (λ c. search needs) (λ c. search needs) (λ c. refl) (λ c. search (entry-lost, sum-over))
+    (λ c. omega arith) (λ c. omega arith) (λ c. omega arith) (λ c. omega arith) (λ c. omega arith) (λ c. omega arith)
+    reduced-requires (λ c κs. search needs) (λ c. refl) (λ c. search (entry-wild, sum-there, zero-is)) (λ c. refl)
+    (λ c. search (entry-low, sum-there, zero-is)) (λ c κs. search needs) (λ c. omega arith) (λ c. omega arith)
+    (λ c. omega arith) (λ c. omega arith) (λ c. simp length-set) returns-4 (λ c. omega arith) (λ c. omega arith)
+    (λ c. omega arith) (λ c. omega arith) (λ c. omega arith) (λ c. omega arith) (λ c. omega arith) (λ c. omega arith)
+    (λ c. omega arith) (λ c. omega arith) (λ c. simp length-set) returns-5)

@@ -1,7 +1,6 @@
 -- `path_factor` meets its contract: row by row by FactorLaws `rows-more`, from the cleared band by `factor-from`.
 use native.Mathlib.Omega.{arith}
 use borrow.Author.Needs.{needs}
-use mathlib.Core.Path.{_∙_}
 use Prim.Native.Nat.{_≤_, _-_}
 use Rattle.solves.specs.Path.{pathRow}
 use Rattle.solves.specs.DoesLaws.{went, failed, fails, does-eq}
@@ -21,13 +20,6 @@ loop-holds : tie.Need-loop-holds Inv-loop μ-loop
 loop-holds c =
     let start = c .before .before .before .before .before .before in
     (omega arith, rows-none (start .pre) _)
-
-path-row-requires : tie.Need-path-row-requires Inv-loop μ-loop
-path-row-requires c κs =
-    let at-loop = c .before .before in
-    let at-clear = at-loop .before .before .before in
-    let pre = at-clear .before .before .before .before .pre in
-    (along-kept pre (at-loop .loop .inv .1 .kept .size ∙ at-clear .clear .ensures .kept .size), c .before .loop-test .taken)
 
 returns : tie.Need-returns Inv-loop μ-loop
 returns c =
@@ -54,17 +46,9 @@ loop-again c =
           (went _ (at-path-row .path-row .result) (at-done .done .ensures) (at-path-row .path-row .ensures) (c .if1 .left)),
     )
 
-returns-2 : tie.Need-returns-2 Inv-loop μ-loop
-returns-2 c =
-    let at-loop = c .before in
-    let at-clear = at-loop .before .before .before in
-    let start = at-clear .before .before .before .before in
-    factor-from (start .pre) _ (at-clear .clear .ensures)
-    (rows-end (start .pre) _ (at-loop .loop .inv .1) (at-loop .loop .inv .0) (c .loop-test .left))
-
 pub path-factor-spec : {M : Type 1} → statement M
 path-factor-spec =
     tie.close (tie.spec
-    Inv-loop μ-loop (λ c. omega arith) (λ c κs. omega arith) loop-holds path-row-requires
-    (λ c κs. search needs) (λ c. omega arith) returns (λ c. omega arith) (λ c. omega arith) loop-again (λ c. omega arith)
-    returns-2)
+    Inv-loop μ-loop (λ c. omega arith) (λ c κs. omega arith) loop-holds (λ c κs. search along-kept) (λ c κs. search needs)
+    (λ c. omega arith) returns (λ c. omega arith) (λ c. omega arith) loop-again (λ c. omega arith)
+    (λ c. search (factor-from, rows-end)))

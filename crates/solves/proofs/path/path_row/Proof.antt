@@ -61,15 +61,9 @@ loop-again c =
           (went _ (at-path-entry .path-entry .result) (at-done .done .ensures) (at-path-entry .path-entry .ensures) (c .if1 .left)),
     )
 
-returns-2 : tie.Need-returns-2 Inv-loop μ-loop
-returns-2 c =
-    let at-loop = c .before in
-    let start = at-loop .before .before .before in
-    entries-end (start .pre .0) _ _ (at-loop .loop .inv .2) (at-loop .loop .inv .1) (c .loop-test .left)
-
 pub path-row-spec : {M : Type 1} → statement M
 path-row-spec =
     tie.close (tie.spec
-    Inv-loop μ-loop (λ c κs. search needs) (λ c. omega arith) loop-holds path-entry-requires
-    (λ c κs. search needs) (λ c. omega arith) returns (λ c. omega arith) (λ c. omega arith) loop-again
-    (λ c. c .before .loop .inv .2 .kept .size) returns-2)
+    Inv-loop μ-loop (λ c κs. search needs) (λ c. omega arith) loop-holds path-entry-requires (λ c κs. search needs)
+    (λ c. omega arith) returns (λ c. omega arith) (λ c. omega arith) loop-again (λ c. c .before .loop .inv .2 .kept .size)
+    (λ c. search entries-end))

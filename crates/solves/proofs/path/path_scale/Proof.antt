@@ -29,34 +29,6 @@ loop-holds c =
     let pre = start .pre in
     (omega arith, refl, scales-none pre _)
 
-cross-at-requires : tie.Need-cross-at-requires Inv-loop μ-loop
-cross-at-requires c κs =
-    let at-loop-test = c .before in
-    let at-loop = at-loop-test .before in
-    let pre = at-loop .before .before .pre in
-    (along-kept pre (at-loop .loop .inv .1), at-loop-test .loop-test .taken, at-loop-test .loop-test .taken)
-
-returns : tie.Need-returns Inv-loop μ-loop
-returns c =
-    let at-cross-at = c .before .before in
-    let at-loop-test = at-cross-at .before .before in
-    let at-loop = at-loop-test .before in
-    let start = at-loop .before .before in
-    let pre = start .pre in
-    scales-lost pre _ (at-loop .loop .inv .2) (at-loop-test .loop-test .taken) (at-loop .loop .inv .1)
-    (sum-over (at-cross-at .cross-at .ensures) (c .enum-told .given .1))
-
-returns-2 : tie.Need-returns-2 Inv-loop μ-loop
-returns-2 c =
-    let at-value = c .before .before in
-    let at-cross-at = at-value .before .before in
-    let at-loop-test = at-cross-at .before .before in
-    let at-loop = at-loop-test .before in
-    let start = at-loop .before .before in
-    let pre = start .pre in
-    scales-refused pre _ (at-loop .loop .inv .2) (at-loop-test .loop-test .taken) (at-loop .loop .inv .1)
-    zero-is (sum-there (at-cross-at .cross-at .ensures) (at-value .value .given .1)) (c .if1 .taken)
-
 loop-again : tie.Need-loop-again Inv-loop μ-loop
 loop-again c =
     let at-if1 = c .before in
@@ -72,16 +44,10 @@ loop-again c =
           zero-is (sum-there (at-cross-at .cross-at .ensures) (at-value .value .given .1)) (at-if1 .if1 .left) (c .sqrt .ensures .is),
     )
 
-returns-3 : tie.Need-returns-3 Inv-loop μ-loop
-returns-3 c =
-    let at-loop = c .before in
-    let start = at-loop .before .before in
-    let pre = start .pre in
-    scales-end pre _ (at-loop .loop .inv .2) (at-loop .loop .inv .0) (c .loop-test .left)
-
 pub path-scale-spec : {M : Type 1} → statement M
 path-scale-spec =
     tie.close (tie.spec
-    Inv-loop μ-loop loop-holds cross-at-requires (λ c. search needs) (λ c. search needs) (λ c. omega arith) returns
-    (λ c. omega arith) returns-2 (λ c κs. search needs) (λ c. omega arith) (λ c. omega arith) (λ c. omega arith)
-    (λ c. omega arith) (λ c. omega arith) loop-again (λ c. c .before .loop .inv .1) returns-3)
+    Inv-loop μ-loop loop-holds (λ c κs. search along-kept) (λ c. search needs) (λ c. search needs) (λ c. omega arith)
+    (λ c. search (scales-lost, sum-over)) (λ c. omega arith) (λ c. search (scales-refused, zero-is, sum-there))
+    (λ c κs. search needs) (λ c. omega arith) (λ c. omega arith) (λ c. omega arith) (λ c. omega arith) (λ c. omega arith)
+    loop-again (λ c. c .before .loop .inv .1) (λ c. search scales-end))

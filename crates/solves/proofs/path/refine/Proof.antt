@@ -44,19 +44,8 @@ returns c =
     (refine-failed _ (start .pre) (at-forward .forward .ensures) (at-backward .backward .ensures)
     (failed _ end (at-done .done .ensures) (at-operator .operator .ensures) (c .if1 .taken)))
 
-returns-2 : tie.Need-returns-2
-returns-2 c =
-    let at-if1 = c .before .before .before .before in
-    let at-operator = at-if1 .before .before .before .before in
-    let at-backward = at-operator .before .before .before .before in
-    let at-forward = at-backward .before .before .before .before in
-    let start = at-forward .before .before .before in
-    refine-done _ (start .pre) (at-forward .forward .ensures) (at-backward .backward .ensures)
-    (went _ (at-operator .operator .result) (at-if1 .before .done .ensures) (at-operator .operator .ensures) (at-if1 .if1 .left))
-    (c .before .before .difference .ensures)
-
 pub refine-spec : {M : Type 1} → statement M
 refine-spec =
     tie.close (tie.spec
     forward-requires backward-requires operator-requires (λ c κs. search needs) (λ c. omega arith) returns
-    (λ c κs. omega arith) (λ c. omega arith) returns-2)
+    (λ c κs. omega arith) (λ c. omega arith) (λ c. search (refine-done, went)))

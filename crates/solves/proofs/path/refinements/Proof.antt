@@ -27,11 +27,6 @@ Inv-loop s₀ ia ib t order tolerance k₀ s k =
 abbrev μ-loop : tie.MeasureT-loop
 μ-loop s₀ ia ib t order tolerance k₀ s k = 4 - k
 
-refine-requires : tie.Need-refine-requires Inv-loop μ-loop
-refine-requires c κs =
-    let start = c .before .before .before .before in
-    along-kept (start .pre) (c .before .before .loop .inv .kept .size)
-
 returns : tie.Need-returns Inv-loop μ-loop
 returns c =
     let at-if1 = c .before in
@@ -86,7 +81,7 @@ returns-3 c =
 pub refinements-spec : {M : Type 1} → statement M
 refinements-spec =
     tie.close (tie.spec
-    Inv-loop μ-loop (λ c. came-none) refine-requires (λ c κs. search needs) (λ c κs. search needs) (λ c. omega arith)
-    returns (λ c κs. omega arith) (λ c. search needs) (λ c. omega arith) (λ c κs. search needs) (λ c. omega arith)
-    returns-2 (λ c. search needs) (λ c. omega arith) (λ c. omega arith) loop-again (λ c κs. search needs)
+    Inv-loop μ-loop (λ c. came-none) (λ c κs. search along-kept) (λ c κs. search needs) (λ c κs. search needs)
+    (λ c. omega arith) returns (λ c κs. omega arith) (λ c. search needs) (λ c. omega arith) (λ c κs. search needs)
+    (λ c. omega arith) returns-2 (λ c. search needs) (λ c. omega arith) (λ c. omega arith) loop-again (λ c κs. search needs)
     (λ c. c .before .before .loop .inv .kept .size) returns-3)

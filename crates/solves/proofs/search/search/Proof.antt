@@ -21,11 +21,6 @@ Inv-loop s₀ ia ib t which tolerance start most rho₀ k₀ s rho k =
 abbrev μ-loop : tie.MeasureT-loop
 μ-loop s₀ ia ib t which tolerance start most rho₀ k₀ s rho k = most - k
 
-search-pass-requires : tie.Need-search-pass-requires Inv-loop μ-loop
-search-pass-requires c κs =
-    let start = c .before .before .before .before .before in
-    rows-kept (start .pre) (c .before .before .loop .inv .kept .size)
-
 returns : tie.Need-returns Inv-loop μ-loop
 returns c =
     let at-search-pass = c .before .before .before .before .before .before in
@@ -63,6 +58,6 @@ returns-2 c =
 pub search-spec : {M : Type 1} → statement M
 search-spec =
     tie.close (tie.spec
-    Inv-loop μ-loop (λ c κs. c .before .pre .most) (λ c. came-none) search-pass-requires (λ c. search needs)
-    (λ c. search needs) (λ c κs. search needs) (λ c. omega arith) returns (λ c. omega arith) (λ c. omega arith)
-    loop-again (λ c κs. search needs) (λ c. c .before .before .loop .inv .kept .size) returns-2)
+    Inv-loop μ-loop (λ c κs. c .before .pre .most) (λ c. came-none) (λ c κs. search rows-kept) (λ c. search needs)
+    (λ c. search needs) (λ c κs. search needs) (λ c. omega arith) returns (λ c. omega arith) (λ c. omega arith) loop-again
+    (λ c κs. search needs) (λ c. c .before .before .loop .inv .kept .size) returns-2)
