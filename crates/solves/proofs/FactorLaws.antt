@@ -24,7 +24,7 @@ use Rattle.solves.specs.RegionLaws.{vec-at, kept-vec, vec-set, vec-more,
 use Rattle.solves.specs.Solver.{rowIn, crossMass}
 use Rattle.solves.specs.Path.{index, cell, reduced, Factor, rowOf, scaleAt, pathScale, pathEntry, pathRow, pathFactor, pathFactored}
 use Rattle.solves.specs.Answer.{ranAs}
-use Rattle.solves.specs.View.{rowOn, rowsOn, massesAt, listAt, bandAt, factorAt, Along, Factoring, Rows, MASSES, PATH-BAND, PATH-SCALE, Beside, BAND}
+use Rattle.solves.specs.View.{rowOn, rowsOn, massesAt, listAt, bandAt, factorAt, Factoring, RowsAlong, MASSES, PATH-BAND, PATH-SCALE, Beside, BAND}
 use Rattle.solves.specs.DoesLaws.{goes-on, returns-if}
 use Rattle.solves.specs.ViewLaws.{kept-rows, kept-masses, row-in}
 use Rattle.solves.proofs.BlockLaws.{list-at}
@@ -41,25 +41,25 @@ cell-first s n i h =
     ap (at s) e ∙ vec-at s PATH-BAND (12 * n) (12 * i + 0) (omega arith)
 
 -- cross_at: rows a and b were loaded from places i and j of the order
-pub cross-at : {s : List Float} {ia ib : List ℕ} {rows n body-count : ℕ} → Rows s ia ib rows n body-count
-    → (order : List ℕ) → Along order n → (i j : ℕ) → i < n → j < n
-    → {a b : EqualityRow} {d : Result Float} → a ≡ rowOn ia ib s rows (getD order i 0) → b ≡ rowOn ia ib s rows (getD order j 0)
+pub cross-at : {s : List Float} {ia ib order : List ℕ} {place n body-count : ℕ} → RowsAlong s ia ib order place n body-count
+    → (i j : ℕ) → i < n → j < n
+    → {a b : EqualityRow} {d : Result Float} → a ≡ rowOn ia ib s place (getD order i 0) → b ≡ rowOn ia ib s place (getD order j 0)
     → d ≡ crossMass a b (massesAt s MASSES body-count)
-    → d ≡ crossMass (rowIn (rowsOn ia ib s rows n) (index (listAt order n) i)) (rowIn (rowsOn ia ib s rows n) (index (listAt order n) j))
+    → d ≡ crossMass (rowIn (rowsOn ia ib s place n) (index (listAt order n) i)) (rowIn (rowsOn ia ib s place n) (index (listAt order n) j))
     (massesAt s MASSES body-count)
-cross-at {s} {ia} {ib} {rows} {n} {body-count} pre order along i j hi hj ea eb e =
+cross-at {s} {ia} {ib} {order} {place} {n} {body-count} pre i j hi hj ea eb e =
     e ∙ λ x. crossMass (row-of i hi ea x) (row-of j hj eb x) (massesAt s MASSES body-count)
   where
-    row-of : (k : ℕ) → k < n → {row : EqualityRow} → row ≡ rowOn ia ib s rows (getD order k 0) → row ≡ rowIn (rowsOn ia ib s rows n) (index (listAt order n) k)
+    row-of : (k : ℕ) → k < n → {row : EqualityRow} → row ≡ rowOn ia ib s place (getD order k 0)
+        → row ≡ rowIn (rowsOn ia ib s place n) (index (listAt order n) k)
     row-of k h e =
-        row-in (kept-refl (λ _. Unit {0}) s) ia ib rows n (getD order k 0) (λ _ _ _. tt) (along k h) e
-        ∙ ap (rowIn (rowsOn ia ib s rows n)) (list-at order n k h)
+        row-in (kept-refl (λ _. Unit {0}) s) ia ib place n (getD order k 0) (λ _ _ _. tt) (pre .along k h) e
+        ∙ ap (rowIn (rowsOn ia ib s place n)) (list-at order n k h)
 
 -- path_scale
-module _ {z : List Float} {ia ib : List ℕ} {rows n body-count : ℕ} (pre : Rows z ia ib rows n body-count) (order : List ℕ) (along : Along order n)
-    (s₀ : List Float) where
+module _ {z : List Float} {ia ib order : List ℕ} {place n body-count : ℕ} (pre : RowsAlong z ia ib order place n body-count) (s₀ : List Float) where
   abbrev R : List EqualityRow
-  R = rowsOn ia ib s₀ rows n
+  R = rowsOn ia ib s₀ place n
 
   abbrev M : List MassResponse
   M = massesAt s₀ MASSES body-count
@@ -76,14 +76,14 @@ module _ {z : List Float} {ia ib : List ℕ} {rows n body-count : ℕ} (pre : Ro
 
   module _ {i : ℕ} {s : List Float} (inv : ScaleSo i s) (h : i < n) (l : length s ≡ length z) where
     abbrev Cross : List Float → Result Float
-    Cross s = crossMass (rowOf (rowsOn ia ib s rows n) M O i) (rowOf (rowsOn ia ib s rows n) M O i) (massesAt s MASSES body-count)
+    Cross s = crossMass (rowOf (rowsOn ia ib s place n) M O i) (rowOf (rowsOn ia ib s place n) M O i) (massesAt s MASSES body-count)
 
     cross-is : {d : Result Float} → d ≡ Cross s → d ≡ Cross s₀
     cross-is e = e ∙ λ j. crossMass (rowOf (kept j) M O i) (rowOf (kept j) M O i)
-        (kept-masses (inv .kept) MASSES body-count (λ k x y. omega (arith, pre .bodies)) j)
+        (kept-masses (inv .kept) MASSES body-count (λ k x y. omega (arith, pre .rows .bodies)) j)
       where
-        kept : rowsOn ia ib s rows n ≡ R
-        kept = kept-rows (inv .kept) ia ib rows n (λ k x y. omega (arith, pre .table, pre .most))
+        kept : rowsOn ia ib s place n ≡ R
+        kept = kept-rows (inv .kept) ia ib place n (λ k x y. omega (arith, pre .rows .table, pre .rows .most))
 
     pub scales-lost : stop arithmeticOverflow ≡ Cross s
         → Does (λ i. Beside PATH-SCALE i) s₀ s (stop arithmeticOverflow) (pathScale R M O n)
@@ -101,8 +101,8 @@ module _ {z : List Float} {ia ib : List ℕ} {rows n body-count : ℕ} (pre : Ro
       pub scales-more : Ieee.le value zero ≡ false → {root : Float} → root ≡ sqrt binary64 value → ScaleSo (i + 1) (set s (PATH-SCALE + i) root)
       unfolding scaleAt
       scales-more q {root} f = record {
-        kept = kept-then (inv .kept) (kept-set s (PATH-SCALE + i) root) (λ j x. omega (arith, pre .most));
-        is = ap go (vec-more s PATH-SCALE i root (omega (arith, pre .whole, pre .most)))
+        kept = kept-then (inv .kept) (kept-set s (PATH-SCALE + i) root) (λ j x. omega (arith, pre .rows .most));
+        is = ap go (vec-more s PATH-SCALE i root (omega (arith, pre .rows .whole, pre .rows .most)))
             ∙ each-more (scaleAt R M O) (inv .is)
             (ap go f ∙ then-go _ (goes-on {E = Fault} nonConvergent (ap (Ieee.le value) (sym ez) ∙ q)) ∙ then-go _ (cross-is e));
       }
@@ -119,13 +119,13 @@ Banded i = Out PATH-BAND BAND i
 band-out : (n i d k : ℕ) → n ≤ 96 → i < n → d < 12 → Banded k → Out (PATH-BAND + 12 * i + d) 1 k
 band-out n i d k m h l x = omega arith
 
-module _ {s : List Float} {ia ib : List ℕ} {rows n body-count : ℕ} (order : List ℕ) {i j : ℕ}
-    (pre : (Rows s ia ib rows n body-count) × (Along order n) × (i < n) × (j ≤ i) × (i ≤ j + 11)) where
+module _ {s : List Float} {ia ib order : List ℕ} {place n body-count i j : ℕ}
+    (pre : (RowsAlong s ia ib order place n body-count) × (i < n) × (j ≤ i) × (i ≤ j + 11)) where
   hi : i < n
-  hi = pre .2
+  hi = pre .1
 
   abbrev R₁ : List EqualityRow
-  R₁ = rowsOn ia ib s rows n
+  R₁ = rowsOn ia ib s place n
 
   abbrev M₁ : List MassResponse
   M₁ = massesAt s MASSES body-count
@@ -172,8 +172,8 @@ module _ {s : List Float} {ia ib : List ℕ} {rows n body-count : ℕ} (order : 
           → Does Banded s (set s (PATH-BAND + 12 * i) root) (go (bandAt (set s (PATH-BAND + 12 * i) root) n)) Entry
       unfolding pathEntry
       entry-pivot q w {root} er = record {
-        kept = kept-more (kept-set s (PATH-BAND + 12 * i) root) (λ k x. omega (arith, pre .0 .most));
-        is = ap go (vec-set s PATH-BAND (12 * n) (12 * i) root (omega arith) (omega (arith, pre .0 .whole, pre .0 .most))
+        kept = kept-more (kept-set s (PATH-BAND + 12 * i) root) (λ k x. omega (arith, pre .0 .rows .most));
+        is = ap go (vec-set s PATH-BAND (12 * n) (12 * i) root (omega arith) (omega (arith, pre .0 .rows .whole, pre .0 .rows .most))
             ∙ ap (set (bandAt s n) (12 * i)) (er ∙ ap (sqrt binary64) value-is))
             ∙ cond-no _ _ ((λ x. (ap not finite-is ∙ q) x || Ieee.le Val (ratio 0 1)) ∙ low-is ∙ w) ∙ cond-yes _ _ (eq-eqb j i same) ∙ then-go _ e;
       }
@@ -189,9 +189,9 @@ module _ {s : List Float} {ia ib : List ℕ} {rows n body-count : ℕ} (order : 
     entry-side q =
         let p : PATH-BAND + 12 * i + (i - j) ≡ PATH-BAND + (12 * i + (i - j)) = omega arith in
         record {
-          kept = kept-more (kept-set s (PATH-BAND + 12 * i + (i - j)) side) (λ k x. band-out n i (i - j) k (pre .0 .most) hi (omega arith) x);
+          kept = kept-more (kept-set s (PATH-BAND + 12 * i + (i - j)) side) (λ k x. band-out n i (i - j) k (pre .0 .rows .most) hi (omega arith) x);
           is = ap (λ (m : ℕ). go (bandAt (set s m side) n)) p
-              ∙ ap go (vec-set s PATH-BAND (12 * n) (12 * i + (i - j)) side (omega arith) (omega (arith, pre .0 .whole, pre .0 .most))
+              ∙ ap go (vec-set s PATH-BAND (12 * n) (12 * i + (i - j)) side (omega arith) (omega (arith, pre .0 .rows .whole, pre .0 .rows .most))
               ∙ λ x. set (bandAt s n) (12 * i + (i - j)) (value-is x ⊘ cell-first s n j (omega arith) x))
               ∙ cond-no _ _ (ne-eqb j i q) ∙ then-go _ e;
         }
@@ -217,26 +217,26 @@ module _ (n : ℕ) (f : ℕ → List Float → Result (List Float)) (s₀ : List
 -- what such a loop's turn reads besides the band: rows, masses, order and scales, of which a write of the band keeps all
 abbrev pub bandOn : {A : Type 0} → List ℕ → List ℕ → List ℕ → ℕ → ℕ → ℕ → List Float
     → (List EqualityRow → List MassResponse → List ℕ → List Float → A) → A
-bandOn ia ib order rows n body-count s f = f (rowsOn ia ib s rows n) (massesAt s MASSES body-count) (listAt order n) (vecAt s PATH-SCALE n)
+bandOn ia ib order place n body-count s f = f (rowsOn ia ib s place n) (massesAt s MASSES body-count) (listAt order n) (vecAt s PATH-SCALE n)
 
-module _ {z : List Float} {ia ib : List ℕ} {rows n body-count : ℕ} (pre : Rows z ia ib rows n body-count) (order : List ℕ) {s₀ s : List Float}
+module _ {z : List Float} {ia ib order : List ℕ} {place n body-count : ℕ} (pre : RowsAlong z ia ib order place n body-count) {s₀ s : List Float}
     (k : Kept Banded s₀ s) where
   band-kept : {A : Type 0} (f : List EqualityRow → List MassResponse → List ℕ → List Float → A)
-      → bandOn ia ib order rows n body-count s f ≡ bandOn ia ib order rows n body-count s₀ f
-  band-kept f = λ x. f (kept-rows k ia ib rows n (λ i x y. omega (arith, pre .table, pre .most)) x)
-      (kept-masses k MASSES body-count (λ i x y. omega (arith, pre .bodies)) x) (listAt order n)
-      (kept-vec k PATH-SCALE n (λ i x y. omega (arith, pre .most)) x)
+      → bandOn ia ib order place n body-count s f ≡ bandOn ia ib order place n body-count s₀ f
+  band-kept f = λ x. f (kept-rows k ia ib place n (λ i x y. omega (arith, pre .rows .table, pre .rows .most)) x)
+      (kept-masses k MASSES body-count (λ i x y. omega (arith, pre .rows .bodies)) x) (listAt order n)
+      (kept-vec k PATH-SCALE n (λ i x y. omega (arith, pre .rows .most)) x)
 
 -- path_row
-module _ {z : List Float} {ia ib : List ℕ} {rows n body-count : ℕ} (pre : Rows z ia ib rows n body-count) (order : List ℕ) (i : ℕ) (s₀ : List Float) where
+module _ {z : List Float} {ia ib order : List ℕ} {place n body-count : ℕ} (pre : RowsAlong z ia ib order place n body-count) (i : ℕ) (s₀ : List Float) where
   abbrev EntryOf : List Float → ℕ → List Float → Result (List Float)
-  EntryOf s j band = bandOn ia ib order rows n body-count s (λ r m o c. pathEntry r m o c i j band)
+  EntryOf s j band = bandOn ia ib order place n body-count s (λ r m o c. pathEntry r m o c i j band)
 
   abbrev Turned : ℕ → List Float → Result (List Float)
   Turned t = EntryOf s₀ (i - 11 + t)
 
   abbrev RowOf : Result (List Float)
-  RowOf = bandOn ia ib order rows n body-count s₀ (λ r m o c. pathRow r m o c i (bandAt s₀ n))
+  RowOf = bandOn ia ib order place n body-count s₀ (λ r m o c. pathRow r m o c i (bandAt s₀ n))
 
   -- the code is at j, which begins with r
   pub entries-start : {r : ℕ} → r ≡ i - 11 → BandSo n Turned s₀ (r - (i - 11)) s₀
@@ -250,7 +250,7 @@ module _ {z : List Float} {ia ib : List ℕ} {rows n body-count : ℕ} (pre : Ro
         let p : j ≡ i - 11 + (j - (i - 11)) = omega arith in
         record {
           kept = d .kept;
-          is = d .is ∙ band-kept pre order (inv .kept) (λ r m o c. pathEntry r m o c i j (bandAt s n)) ∙ ap (λ (m : ℕ). EntryOf s₀ m (bandAt s n)) p;
+          is = d .is ∙ band-kept pre (inv .kept) (λ r m o c. pathEntry r m o c i j (bandAt s n)) ∙ ap (λ (m : ℕ). EntryOf s₀ m (bandAt s n)) p;
         }
 
     pub entries-more : Does Banded s t (go (bandAt t n)) (EntryOf s j (bandAt s n)) → BandSo n Turned s₀ (j + 1 - (i - 11)) t
@@ -269,9 +269,9 @@ module _ {z : List Float} {ia ib : List ℕ} {rows n body-count : ℕ} (pre : Ro
       band-end n Turned s₀ inv (ap (λ (m : ℕ). m - (i - 11)) same)
 
 -- path_factor
-module _ {z : List Float} {ia ib : List ℕ} {rows n body-count : ℕ} (pre : Rows z ia ib rows n body-count) (order : List ℕ) (s₀ : List Float) where
+module _ {z : List Float} {ia ib order : List ℕ} {place n body-count : ℕ} (pre : RowsAlong z ia ib order place n body-count) (s₀ : List Float) where
   abbrev RowIn : List Float → ℕ → List Float → Result (List Float)
-  RowIn s i band = bandOn ia ib order rows n body-count s (λ r m o c. pathRow r m o c i band)
+  RowIn s i band = bandOn ia ib order place n body-count s (λ r m o c. pathRow r m o c i band)
 
   pub rows-none : BandSo n (RowIn s₀) s₀ 0 s₀
   rows-none = band-none n (RowIn s₀) s₀
@@ -283,7 +283,7 @@ module _ {z : List Float} {ia ib : List ℕ} {rows n body-count : ℕ} (pre : Ro
 
   module _ (i : ℕ) {s : List Float} (inv : BandSo n (RowIn s₀) s₀ i s) {t : List Float} where
     row-is : {x : Result (List Float)} → Does Banded s t x (RowIn s i (bandAt s n)) → Does Banded s t x (RowIn s₀ i (bandAt s n))
-    row-is d = record { kept = d .kept; is = d .is ∙ band-kept pre order (inv .kept) (λ r m o c. pathRow r m o c i (bandAt s n)) }
+    row-is d = record { kept = d .kept; is = d .is ∙ band-kept pre (inv .kept) (λ r m o c. pathRow r m o c i (bandAt s n)) }
 
     pub rows-more : Does Banded s t (go (bandAt t n)) (RowIn s i (bandAt s n)) → BandSo n (RowIn s₀) s₀ (i + 1) t
     rows-more d = band-more n (RowIn s₀) s₀ i inv (row-is d)
@@ -293,16 +293,16 @@ module _ {z : List Float} {ia ib : List ℕ} {rows n body-count : ℕ} (pre : Ro
 
   -- from the cleared band
   pub factor-from : {t : List Float} {y : Result (List Float)} → Filled PATH-BAND (12 * n) (λ _. ratio 0 1) z s₀
-      → Does Banded s₀ t y (loop n (RowIn s₀) (bandAt s₀ n)) → Does Banded z t y (bandOn ia ib order rows n body-count z (λ r m o c. pathFactor r m o c n))
+      → Does Banded s₀ t y (loop n (RowIn s₀) (bandAt s₀ n)) → Does Banded z t y (bandOn ia ib order place n body-count z (λ r m o c. pathFactor r m o c n))
   unfolding pathFactor
   factor-from {t} {y} f d = record {
     kept = kept-then k (d .kept) (λ i x. x);
     is = d .is ∙ ap (loop n (RowIn s₀)) zeros
-        ∙ band-kept pre order k (λ r m o c. loop n (pathRow r m o c) (replicate (12 * n) (ratio 0 1)));
+        ∙ band-kept pre k (λ r m o c. loop n (pathRow r m o c) (replicate (12 * n) (ratio 0 1)));
   }
     where
       k : Kept Banded z s₀
-      k = kept-more (f .kept) (λ i x. omega (arith, pre .most))
+      k = kept-more (f .kept) (λ i x. omega (arith, pre .rows .most))
 
       none : List Float
       none = replicate (12 * n) (ratio 0 1)
@@ -312,12 +312,12 @@ module _ {z : List Float} {ia ib : List ℕ} {rows n body-count : ℕ} (pre : Ro
           (λ i h. getD-replicate (12 * n) i (ratio 0 1) (ratio 0 1) h))
 
 -- path_factored
-module _ {s : List Float} {ia ib : List ℕ} {rows n body-count : ℕ} (pre : Rows s ia ib rows n body-count) (order : List ℕ) where
+module _ {s : List Float} {ia ib order : List ℕ} {place n body-count : ℕ} (pre : RowsAlong s ia ib order place n body-count) where
   abbrev Factored : Result Factor
-  Factored = pathFactored (rowsOn ia ib s rows n) (massesAt s MASSES body-count) (listAt order n) n
+  Factored = pathFactored (rowsOn ia ib s place n) (massesAt s MASSES body-count) (listAt order n) n
 
   abbrev Scales : Result (List Float)
-  Scales = pathScale (rowsOn ia ib s rows n) (massesAt s MASSES body-count) (listAt order n) n
+  Scales = pathScale (rowsOn ia ib s place n) (massesAt s MASSES body-count) (listAt order n) n
 
   pub factored-unscaled : {t : List Float} {f : Fault} → Does (λ i. Beside PATH-SCALE i) s t (stop f) Scales → Does Factoring s t (stop f) Factored
   unfolding pathFactored
@@ -325,11 +325,11 @@ module _ {s : List Float} {ia ib : List ℕ} {rows n body-count : ℕ} (pre : Ro
 
   module _ {t : List Float} (d : Does (λ i. Beside PATH-SCALE i) s t (go (vecAt t PATH-SCALE n)) Scales) where
     abbrev FactorFrom : Result (List Float)
-    FactorFrom = pathFactor (rowsOn ia ib t rows n) (massesAt t MASSES body-count) (listAt order n) (vecAt t PATH-SCALE n) n
+    FactorFrom = pathFactor (rowsOn ia ib t place n) (massesAt t MASSES body-count) (listAt order n) (vecAt t PATH-SCALE n) n
 
-    factor-is : FactorFrom ≡ pathFactor (rowsOn ia ib s rows n) (massesAt s MASSES body-count) (listAt order n) (vecAt t PATH-SCALE n) n
-    factor-is = λ j. pathFactor (kept-rows (d .kept) ia ib rows n (λ i x y. omega (arith, pre .table, pre .most)) j)
-        (kept-masses (d .kept) MASSES body-count (λ i x y. omega (arith, pre .bodies)) j) (listAt order n) (vecAt t PATH-SCALE n) n
+    factor-is : FactorFrom ≡ pathFactor (rowsOn ia ib s place n) (massesAt s MASSES body-count) (listAt order n) (vecAt t PATH-SCALE n) n
+    factor-is = λ j. pathFactor (kept-rows (d .kept) ia ib place n (λ i x y. omega (arith, pre .rows .table, pre .rows .most)) j)
+        (kept-masses (d .kept) MASSES body-count (λ i x y. omega (arith, pre .rows .bodies)) j) (listAt order n) (vecAt t PATH-SCALE n) n
 
     pub factored-failed : {u : List Float} {f : Fault} → Does Banded t u (stop f) FactorFrom → Does Factoring s u (stop f) Factored
     unfolding pathFactored
@@ -342,7 +342,7 @@ module _ {s : List Float} {ia ib : List ℕ} {rows n body-count : ℕ} (pre : Ro
     unfolding pathFactored
     factored-done {u} e = record {
       kept = kept-then (kept-more (d .kept) (λ i x. x .1)) (e .kept) (λ i x. x .0);
-      is = (λ j. go (record { scale = kept-vec (e .kept) PATH-SCALE n (λ i x y. omega (arith, pre .most)) j; band = bandAt u n }))
+      is = (λ j. go (record { scale = kept-vec (e .kept) PATH-SCALE n (λ i x y. omega (arith, pre .rows .most)) j; band = bandAt u n }))
           ∙ then-go _ (e .is ∙ factor-is) ∙ then-go _ (d .is);
     }
 

@@ -38,6 +38,7 @@ use Rattle.solves.specs.View.{VECTOR, ROWS-MOST, MASSES, RHS, SOLUTION, 
 use Rattle.solves.specs.DoesLaws.{goes-on, returns-if, does-stop, does-as}
 use Rattle.solves.specs.ViewLaws.{row-in, mass-in, passing-vector, passing-moves, passing-testing}
 use Rattle.solves.proofs.OperatorLaws.{on-a, on-b}
+use Rattle.solves.proofs.VectorLaws.{plus-neg}
 use Rattle.solves.proofs.SearchLaws.{passing-system, work-system}
 
 -- residual_test
@@ -75,9 +76,9 @@ other b h = ap (λ (x : Bool). x || b) h
 one-out : (o k i : ℕ) → k < VECTOR → Beside o i → Out (o + k) 1 i
 one-out o k i h x = omega arith
 
-module _ {z : List Float} {ia ib : List ℕ} {rows n body-count : ℕ} (pre : Rows z ia ib rows n body-count) (s₀ : List Float) where
+module _ {z : List Float} {ia ib : List ℕ} {place n body-count : ℕ} (pre : Rows z ia ib place n body-count) (s₀ : List Float) where
   abbrev R : List EqualityRow
-  R = rowsOn ia ib s₀ rows n
+  R = rowsOn ia ib s₀ place n
 
   abbrev M : List MassResponse
   M = massesAt s₀ MASSES body-count
@@ -101,11 +102,11 @@ module _ {z : List Float} {ia ib : List ℕ} {rows n body-count : ℕ} (pre : Ro
 
   module _ {k : ℕ} {s : List Float} {rho : Float} (inv : PreparedSo k s rho) (h : k < n) (l : length s ≡ length z) {row : EqualityRow}
       {ma mb : MassResponse} {d zero : Float} {f : Bool}
-      (er : row ≡ rowOn ia ib s rows k) (ea : ma ≡ massAt s MASSES (row .a)) (eb : mb ≡ massAt s MASSES (row .b)) (ed : d ≡ diagonalOf row ma mb)
+      (er : row ≡ rowOn ia ib s place k) (ea : ma ≡ massAt s MASSES (row .a)) (eb : mb ≡ massAt s MASSES (row .b)) (ed : d ≡ diagonalOf row ma mb)
       (ef : f ≡ isFinite d) (ez : zero ≡ ratio 0 1) where
     d-is : d ≡ diagonalOf (rowIn R k) (massIn M (rowIn R k .a)) (massIn M (rowIn R k .b))
     d-is =
-        let x : row ≡ rowIn R k = row-in (inv .kept) ia ib rows n k (λ i x y. omega arith) h er in
+        let x : row ≡ rowIn R k = row-in (inv .kept) ia ib place n k (λ i x y. omega arith) h er in
         let y : ma ≡ massIn M (row .a) = mass-in (inv .kept) MASSES body-count (row .a) (λ i x y. omega arith) (on-a pre h s er) ea in
         let w : mb ≡ massIn M (row .b) = mass-in (inv .kept) MASSES body-count (row .b) (λ i x y. omega arith) (on-b pre h s er) eb in
         cc
@@ -128,7 +129,7 @@ module _ {z : List Float} {ia ib : List ℕ} {rows n body-count : ℕ} (pre : Ro
 
     whole : Does Preparing s₀ s (stop nonConvergent) (loop n (prepareRow S E) nothing) → Does Preparing s₀ s (stop nonConvergent) (prepare S E)
     unfolding prepare
-    whole d = record { kept = d .kept; is = d .is ∙ ap (λ (m : ℕ). loop m (prepareRow S E) nothing) (sym (tab-length n (rowOn ia ib s₀ rows))) }
+    whole d = record { kept = d .kept; is = d .is ∙ ap (λ (m : ℕ). loop m (prepareRow S E) nothing) (sym (tab-length n (rowOn ia ib s₀ place))) }
 
     pub prepared-wild : not f ≡ true → Does Preparing s₀ s (stop nonConvergent) (prepare S E)
     prepared-wild q = whole (refused (wild q))
@@ -176,7 +177,7 @@ module _ {z : List Float} {ia ib : List ℕ} {rows n body-count : ℕ} (pre : Ro
         kept = inv .kept;
         is =
             ap (λ (m : ℕ). go (preparedAt s m rho)) (sym same) ∙ loop-end (prepareRow S E) nothing a b (inv .is)
-            ∙ ap (λ (m : ℕ). loop m (prepareRow S E) nothing) (sym (tab-length n (rowOn ia ib s₀ rows)));
+            ∙ ap (λ (m : ℕ). loop m (prepareRow S E) nothing) (sym (tab-length n (rowOn ia ib s₀ place)));
       }
 
 -- scaled_square
@@ -309,7 +310,7 @@ module _ {s : List Float} {ia ib : List ℕ} (table : Table) (pre : Rows s ia ib
 
         module _ (h₂ : not f ≡ false) {s₂ s₃ : List Float}
             (d₂ : Does (Beside SOLUTION) s₁ s₂ (vecAt s₂ SOLUTION n₂) (plus (vecAt s₁ SOLUTION n₂) (rho ⊘ y) (vecAt s₁ DIRECTION n₂)))
-            (d₃ : Does (Beside RESIDUAL) s₂ s₃ (vecAt s₃ RESIDUAL n₂) (minus (vecAt s₂ RESIDUAL n₂) (rho ⊘ y) (vecAt s₂ PRODUCT n₂))) where
+            (d₃ : Does (Beside RESIDUAL) s₂ s₃ (vecAt s₃ RESIDUAL n₂) (plus (vecAt s₂ RESIDUAL n₂) (Ieee.neg (rho ⊘ y)) (vecAt s₂ PRODUCT n₂))) where
           sol₃ : vecAt s₃ SOLUTION n₂ ≡ plus (vecAt s SOLUTION n₂) (rho ⊘ y) (vecAt s DIRECTION n₂)
           sol₃ =
               let a = kept-vec (d₁ .kept) SOLUTION n₂ (λ i x y. omega (arith, pre .most)) in
@@ -323,7 +324,7 @@ module _ {s : List Float} {ia ib : List ℕ} (table : Table) (pre : Rows s ia ib
               let a = kept-vec (d₁ .kept) RESIDUAL n₂ (λ i x y. omega (arith, pre .most)) in
               let b = kept-vec (d₂ .kept) RESIDUAL n₂ (λ i x y. omega (arith, pre .most)) in
               let c = kept-vec (d₂ .kept) PRODUCT n₂ (λ i x y. omega (arith, pre .most)) in
-              let e = d₃ .is in
+              let e = d₃ .is ∙ plus-neg _ _ _ in
               cc
 
           dir₃ : vecAt s₃ DIRECTION n₂ ≡ vecAt s DIRECTION n₂

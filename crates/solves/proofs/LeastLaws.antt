@@ -23,6 +23,7 @@ use Rattle.solves.specs.Solver.{dot, operator, plus, minus, toleranceFor
 use Rattle.solves.specs.Search.{leastMost, leastPass, leastSquares}
 use Rattle.solves.specs.View.{rowOn, systemOn, searchAt, Rows, Beside, Operating, Passing, Work, RHS, SOLUTION, RESIDUAL, DIRECTION, PRODUCT, NORMAL}
 use Rattle.solves.specs.ViewLaws.{passing-vector, passing-moves, passing-normal}
+use Rattle.solves.proofs.VectorLaws.{plus-neg}
 use Rattle.solves.proofs.SearchLaws.{passing-system, work-system}
 
 -- ---- how far a pass has come: the product stands in s₁
@@ -83,7 +84,7 @@ module _ {s : List Float} {ia ib : List ℕ} (table : Table) (pre : Rows s ia ib
 
       pub pass-advanced : Ieee.le y zero ≡ false → {s₂ s₃ : List Float}
           → Does (Beside SOLUTION) s₁ s₂ (vecAt s₂ SOLUTION n) (plus (vecAt s₁ SOLUTION n) (norm ⊘ y) (vecAt s₁ DIRECTION n))
-          → Does (Beside RESIDUAL) s₂ s₃ (vecAt s₃ RESIDUAL n) (minus (vecAt s₂ RESIDUAL n) (norm ⊘ y) (vecAt s₂ PRODUCT n))
+          → Does (Beside RESIDUAL) s₂ s₃ (vecAt s₃ RESIDUAL n) (plus (vecAt s₂ RESIDUAL n) (Ieee.neg (norm ⊘ y)) (vecAt s₂ PRODUCT n))
           → Advanced s ia ib table tolerance norm s₁ y s₃
       pass-advanced h {s₂} {s₃} d₂ d₃ = record {
         moved = m;
@@ -101,7 +102,7 @@ module _ {s : List Float} {ia ib : List ℕ} (table : Table) (pre : Rows s ia ib
             let a = kept-vec (m .does .kept) RESIDUAL n (λ i x y. omega arith) in
             let b = kept-vec (d₂ .kept) RESIDUAL n (λ i x y. omega arith) in
             let c = kept-vec (d₂ .kept) PRODUCT n (λ i x y. omega arith) in
-            let e = d₃ .is in
+            let e = d₃ .is ∙ plus-neg _ _ _ in
             cc;
         direction = kept-vec (d₃ .kept) DIRECTION n (λ i x y. omega arith) ∙ kept-vec (d₂ .kept) DIRECTION n (λ i x y. omega arith)
             ∙ kept-vec (m .does .kept) DIRECTION n (λ i x y. omega arith);

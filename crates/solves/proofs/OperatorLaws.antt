@@ -26,7 +26,7 @@ use Rattle.solves.specs.RegionLaws.{vec-at, vec-in, kept-vec, vec-more}
 use Rattle.solves.specs.Solver.{rowIn, generalizedIn, massIn, tryNumber, sumProducts, dot, pushInto, pushRow, transpose}
 use Rattle.solves.specs.Solver.{scaled, scaleAll, rate, rates, operator, noShare, through, addThrough, crossEnd, crossMass}
 use Rattle.solves.specs.Checked.{added, finiteShare, allFinite, checked}
-use Rattle.solves.specs.View.{rowOn, rowsOn, generalizedAt, sharesIn, massAt, massesAt, systemOn, Rows, VectorPlace, Shares, Beside, Operating}
+use Rattle.solves.specs.View.{rowOn, rowsOn, generalizedAt, sharesIn, massAt, massesAt, systemOn, Rows, RowsAlong, VectorPlace, Shares, Beside, Operating}
 use Rattle.solves.specs.View.{BODIES-MOST, VECTOR, RHS, GENERALIZED, MASSES, END, noGeneralized, noMass}
 use Rattle.solves.specs.DoesLaws.{number-yes, number-no, does-stop, does-then}
 use Rattle.solves.specs.ViewLaws.{out-within, kept-rows, kept-masses, row-in, share-in, mass-in, shares-set, shares-more, shares-none}
@@ -113,10 +113,10 @@ module _ (s : List Float) (body-count : ℕ) where
 abbrev pub rowTurn : List EqualityRow → List Float → ℕ → List Generalized → Result (List Generalized)
 rowTurn rows values k out = pushRow (rowIn rows k) (at values k) out
 
-module _ {z : List Float} {ia ib : List ℕ} {rows n body-count : ℕ} (pre : Rows z ia ib rows n body-count) {values : ℕ}
-    (place : VectorPlace z values) (s₀ : List Float) where
+module _ {z : List Float} {ia ib : List ℕ} {place n body-count : ℕ} (pre : Rows z ia ib place n body-count) {values : ℕ}
+    (vector : VectorPlace z values) (s₀ : List Float) where
   abbrev R : List EqualityRow
-  R = rowsOn ia ib s₀ rows n
+  R = rowsOn ia ib s₀ place n
 
   abbrev Vs : List Float
   Vs = vecAt s₀ values n
@@ -132,10 +132,10 @@ module _ {z : List Float} {ia ib : List ℕ} {rows n body-count : ℕ} (pre : Ro
         is = ap checked zeros ∙ zeros-checked body-count ∙ ap go (sym zeros) ∙ loop-none (rowTurn R Vs) (sharesIn s₀ body-count);
       }
 
-  pub transpose-again : {k : ℕ} {s t : List Float} {row : EqualityRow} {v : Float} → TransposeSo k s → k < n → row ≡ rowOn ia ib s rows k
+  pub transpose-again : {k : ℕ} {s t : List Float} {row : EqualityRow} {v : Float} → TransposeSo k s → k < n → row ≡ rowOn ia ib s place k
       → v ≡ at s (values + k) → Does Shares s t (checked (sharesIn t body-count)) (checked (sharesIn s body-count) >>= pushRow row v) → TransposeSo (k + 1) t
   transpose-again {k} {s} {t} {row} {v} inv h er ev d =
-      let a : row ≡ rowIn R k = row-in (inv .kept) ia ib rows n k (λ i x y. omega arith) h er in
+      let a : row ≡ rowIn R k = row-in (inv .kept) ia ib place n k (λ i x y. omega arith) h er in
       let b : v ≡ at Vs k = vec-in (inv .kept) values n k (λ i x y. omega arith) h ev in
       record {
         kept = kept-then (inv .kept) (d .kept) (λ i x. x);
@@ -155,15 +155,15 @@ module _ {z : List Float} {ia ib : List ℕ} {rows n body-count : ℕ} (pre : Ro
 
   pub transpose-from : {t : List Float} {y : Result (List Generalized)} → Filled GENERALIZED (6 * body-count) (λ _. ratio 0 1) z s₀
       → Does Shares s₀ t y (loop n (rowTurn R Vs) (sharesIn s₀ body-count))
-      → Does Shares z t y (transpose (rowsOn ia ib z rows n) (vecAt z values n) body-count)
+      → Does Shares z t y (transpose (rowsOn ia ib z place n) (vecAt z values n) body-count)
   unfolding transpose
   transpose-from {t} {y} f d = record {
     kept = kept-then (kept-more (f .kept) (λ i x. omega arith)) (d .kept) (λ i x. x);
     is = d .is
-        ∙ ap (λ (l : List EqualityRow). loop n (rowTurn l Vs) (sharesIn s₀ body-count)) (kept-rows (f .kept) ia ib rows n (λ i x y. omega arith))
-        ∙ ap (λ (l : List Float). loop n (rowTurn (rowsOn ia ib z rows n) l) (sharesIn s₀ body-count)) (kept-vec (f .kept) values n (λ i x y. omega arith))
-        ∙ ap (loop n (rowTurn (rowsOn ia ib z rows n) (vecAt z values n))) (shares-none GENERALIZED body-count f)
-        ∙ ap (λ (m : ℕ). loop m (rowTurn (rowsOn ia ib z rows n) (vecAt z values n)) (replicate body-count noShare)) (sym (tab-length n (rowOn ia ib z rows)));
+        ∙ ap (λ (l : List EqualityRow). loop n (rowTurn l Vs) (sharesIn s₀ body-count)) (kept-rows (f .kept) ia ib place n (λ i x y. omega arith))
+        ∙ ap (λ (l : List Float). loop n (rowTurn (rowsOn ia ib z place n) l) (sharesIn s₀ body-count)) (kept-vec (f .kept) values n (λ i x y. omega arith))
+        ∙ ap (loop n (rowTurn (rowsOn ia ib z place n) (vecAt z values n))) (shares-none GENERALIZED body-count f)
+        ∙ ap (λ (m : ℕ). loop m (rowTurn (rowsOn ia ib z place n) (vecAt z values n)) (replicate body-count noShare)) (sym (tab-length n _));
   }
 
 -- scale_all
@@ -203,10 +203,10 @@ module _ (s₀ : List Float) (body-count : ℕ) (most : body-count ≤ BODIES-MO
       record { kept = kept-more (inv .kept) (λ i x. omega arith); is = ap (λ (m : ℕ). go (sharesIn s m)) (sym same) ∙ each-end scaling a b (inv .is) }
 
 -- rates
-module _ {z : List Float} {ia ib : List ℕ} {rows n body-count : ℕ} (pre : Rows z ia ib rows n body-count)
-    {out : ℕ} (place : VectorPlace z out) (s₀ : List Float) where
+module _ {z : List Float} {ia ib : List ℕ} {place n body-count : ℕ} (pre : Rows z ia ib place n body-count)
+    {out : ℕ} (vector : VectorPlace z out) (s₀ : List Float) where
   abbrev Q : List EqualityRow
-  Q = rowsOn ia ib s₀ rows n
+  Q = rowsOn ia ib s₀ place n
 
   abbrev M : List Generalized
   M = sharesIn s₀ body-count
@@ -222,11 +222,11 @@ module _ {z : List Float} {ia ib : List ℕ} {rows n body-count : ℕ} (pre : Ro
   rates-none = record { kept = kept-refl _ s₀; is = each-none rating }
 
   module _ {k : ℕ} {s : List Float} {row : EqualityRow} {a b : Generalized} {v : Float} {t : Bool} (inv : RatesSo k s) (h : k < n)
-      (l : length s ≡ length z) (er : row ≡ rowOn ia ib s rows k)
+      (l : length s ≡ length z) (er : row ≡ rowOn ia ib s place k)
       (ea : a ≡ generalizedAt s GENERALIZED (row .a)) (eb : b ≡ generalizedAt s GENERALIZED (row .b)) (ev : v ≡ rate row a b) (et : t ≡ isFinite v) where
     rate-turn : v ≡ rate (rowIn Q k) (generalizedIn M (rowIn Q k .a)) (generalizedIn M (rowIn Q k .b))
     rate-turn =
-        let x : row ≡ rowIn Q k = row-in (inv .kept) ia ib rows n k (λ i x y. omega arith) h er in
+        let x : row ≡ rowIn Q k = row-in (inv .kept) ia ib place n k (λ i x y. omega arith) h er in
         let la : row .a < body-count = subst (λ (q : EqualityRow). q .a < body-count) (sym er) (pre .a-there k h) in
         let lb : row .b < body-count = subst (λ (q : EqualityRow). q .b < body-count) (sym er) (pre .b-there k h) in
         let y : a ≡ generalizedIn M (row .a) = share-in (inv .kept) GENERALIZED body-count (row .a) (λ i x y. omega arith) la ea in
@@ -248,17 +248,21 @@ module _ {z : List Float} {ia ib : List ℕ} {rows n body-count : ℕ} (pre : Ro
       record { kept = inv .kept; is = ap (λ (m : ℕ). go (vecAt s out m)) (sym same) ∙ each-end rating a b (inv .is) }
 
 -- operator
-pub rows-kept : {s t : List Float} {ia ib : List ℕ} {rows n body-count : ℕ} → Rows s ia ib rows n body-count
-    → length t ≡ length s → Rows t ia ib rows n body-count
+pub rows-kept : {s t : List Float} {ia ib : List ℕ} {place n body-count : ℕ} → Rows s ia ib place n body-count
+    → length t ≡ length s → Rows t ia ib place n body-count
 rows-kept pre e = record { whole = omega arith; table = pre .table; most = pre .most; bodies = pre .bodies; a-there = pre .a-there; b-there = pre .b-there }
 
 -- a vector before the shares is a place for the operator
-pub place-of : {s : List Float} (off : ℕ) → RHS ≤ off → off + VECTOR ≤ GENERALIZED → END ≤ length s → VectorPlace s off
-place-of off h l w = record { low = h; apart = omega arith; there = omega arith }
+pub along-kept : {s t : List Float} {ia ib order : List ℕ} {place n body-count : ℕ} → RowsAlong s ia ib order place n body-count
+    → length t ≡ length s → RowsAlong t ia ib order place n body-count
+along-kept pre e = record { rows = rows-kept (pre .rows) e; along = pre .along }
+
+pub place-of : {s : List Float} (place : ℕ) → RHS ≤ place → place + VECTOR ≤ GENERALIZED → END ≤ length s → VectorPlace s place
+place-of place h l w = record { low = h; apart = omega arith; there = omega arith }
 
 -- a row that was loaded is on bodies below body-count
-module _ {s : List Float} {ia ib : List ℕ} {rows n body-count : ℕ} (pre : Rows s ia ib rows n body-count) {k : ℕ} (h : k < n) (t : List Float)
-    {row : EqualityRow} (e : row ≡ rowOn ia ib t rows k) where
+module _ {s : List Float} {ia ib : List ℕ} {place n body-count : ℕ} (pre : Rows s ia ib place n body-count) {k : ℕ} (h : k < n) (t : List Float)
+    {row : EqualityRow} (e : row ≡ rowOn ia ib t place k) where
   pub on-a : row .a < body-count
   on-a = subst (λ (q : EqualityRow). q .a < body-count) (sym e) (pre .a-there k h)
 

@@ -23,49 +23,50 @@ use Rattle.solves.specs.View.{generalizedAt, massAt}
 use Rattle.solves.specs.DoesLaws.{finite-yes, finite-no}
 
 -- stores
-pub stored-generalized : {s t u : List Float} (off k : ℕ) (g : Generalized)
-    → (Kept (λ j. Out (off + 6 * k) 3 j) s t) × (vec3At t (off + 6 * k) ≡ g .linear)
-    → (Kept (λ j. Out (off + 6 * k + 3) 3 j) t u) × (vec3At u (off + 6 * k + 3) ≡ g .angular)
-    → (Kept (λ j. Out (off + 6 * k) 6 j) s u) × (generalizedAt u off k ≡ g)
-stored-generalized off k g a b = (
+pub stored-generalized : {s t u : List Float} (place k : ℕ) (g : Generalized)
+    → (Kept (λ j. Out (place + 6 * k) 3 j) s t) × (vec3At t (place + 6 * k) ≡ g .linear)
+    → (Kept (λ j. Out (place + 6 * k + 3) 3 j) t u) × (vec3At u (place + 6 * k + 3) ≡ g .angular)
+    → (Kept (λ j. Out (place + 6 * k) 6 j) s u) × (generalizedAt u place k ≡ g)
+stored-generalized place k g a b = (
   kept-then (kept-more (a .0) (λ j q. omega arith)) (b .0) (λ j q. omega arith),
-  λ j. record { linear = (kept-vec3 (b .0) (off + 6 * k) (λ i h l. omega arith) ∙ a .1) j; angular = b .1 j },
+  λ j. record { linear = (kept-vec3 (b .0) (place + 6 * k) (λ i h l. omega arith) ∙ a .1) j; angular = b .1 j },
 )
 
 abbrev pub Stored3 : ℕ → Vec3 → List Float → List Float → Type 0
 Stored3 i v s t = (Kept (λ j. Out i 3 j) s t) × (vec3At t i ≡ v)
 
-module _ (s : List Float) (off k : ℕ) (linear : Float) {x y z : Vec3} (h : off + 10 * k + 10 ≤ length s) {t u w : List Float}
-    (a : Stored3 (off + 10 * k + 1) x (set s (off + 10 * k) linear) t) (b : Stored3 (off + 10 * k + 4) y t u) (c : Stored3 (off + 10 * k + 7) z u w) where
-  pub stored-mass : (Kept (λ j. Out (off + 10 * k) 10 j) s w) × (massAt w off k ≡ record { linear = linear; angular = fromCols x y z })
+module _ (s : List Float) (place k : ℕ) (linear : Float) {x y z : Vec3} (h : place + 10 * k + 10 ≤ length s) {t u w : List Float}
+    (a : Stored3 (place + 10 * k + 1) x (set s (place + 10 * k) linear) t)
+    (b : Stored3 (place + 10 * k + 4) y t u) (c : Stored3 (place + 10 * k + 7) z u w) where
+  pub stored-mass : (Kept (λ j. Out (place + 10 * k) 10 j) s w) × (massAt w place k ≡ record { linear = linear; angular = fromCols x y z })
   stored-mass = (
     kept-then
-        (kept-then (kept-then (kept-more (kept-set s (off + 10 * k) linear) (λ j q. omega arith)) (a .0) (λ j q. omega arith)) (b .0)
+        (kept-then (kept-then (kept-more (kept-set s (place + 10 * k) linear) (λ j q. omega arith)) (a .0) (λ j q. omega arith)) (b .0)
         (λ j q. omega arith))
         (c .0) (λ j q. omega arith),
     λ j. record { linear = first j; angular = cols j },
   )
     where
-      first : at w (off + 10 * k) ≡ linear
+      first : at w (place + 10 * k) ≡ linear
       first =
-          c .0 .same (off + 10 * k) (omega arith) ∙ b .0 .same (off + 10 * k) (omega arith) ∙ a .0 .same (off + 10 * k) (omega arith)
-          ∙ getD-set-same s (off + 10 * k) linear nan (omega arith)
+          c .0 .same (place + 10 * k) (omega arith) ∙ b .0 .same (place + 10 * k) (omega arith) ∙ a .0 .same (place + 10 * k) (omega arith)
+          ∙ getD-set-same s (place + 10 * k) linear nan (omega arith)
 
-      ex : vec3At w (off + 10 * k + 1) ≡ x
-      ex = kept-vec3 (c .0) (off + 10 * k + 1) (λ i h l. omega arith) ∙ kept-vec3 (b .0) (off + 10 * k + 1) (λ i h l. omega arith) ∙ a .1
+      ex : vec3At w (place + 10 * k + 1) ≡ x
+      ex = kept-vec3 (c .0) (place + 10 * k + 1) (λ i h l. omega arith) ∙ kept-vec3 (b .0) (place + 10 * k + 1) (λ i h l. omega arith) ∙ a .1
 
-      ey : vec3At w (off + 10 * k + 4) ≡ y
-      ey = kept-vec3 (c .0) (off + 10 * k + 4) (λ i h l. omega arith) ∙ b .1
+      ey : vec3At w (place + 10 * k + 4) ≡ y
+      ey = kept-vec3 (c .0) (place + 10 * k + 4) (λ i h l. omega arith) ∙ b .1
 
-      cols : fromCols (vec3At w (off + 10 * k + 1)) (vec3At w (off + 10 * k + 4)) (vec3At w (off + 10 * k + 7)) ≡ fromCols x y z
+      cols : fromCols (vec3At w (place + 10 * k + 1)) (vec3At w (place + 10 * k + 4)) (vec3At w (place + 10 * k + 7)) ≡ fromCols x y z
       cols = λ j. fromCols (ex j) (ey j) (c .1 j)
 
-pub mass-loaded : (s : List Float) (off k : ℕ) {m : Mat3} {x y z : Vec3} → x ≡ vec3At s (off + 10 * k + 1) → y ≡ vec3At s (off + 10 * k + 4)
-    → z ≡ vec3At s (off + 10 * k + 7)
-    → m ≡ fromCols x y z → record { linear = at s (off + 10 * k); angular = m } ≡ massAt s off k
-mass-loaded s off k {m} {x} {y} {z} a b c e = λ j. record { linear = at s (off + 10 * k); angular = (e ∙ cols) j }
+pub mass-loaded : (s : List Float) (place k : ℕ) {m : Mat3} {x y z : Vec3} → x ≡ vec3At s (place + 10 * k + 1) → y ≡ vec3At s (place + 10 * k + 4)
+    → z ≡ vec3At s (place + 10 * k + 7)
+    → m ≡ fromCols x y z → record { linear = at s (place + 10 * k); angular = m } ≡ massAt s place k
+mass-loaded s place k {m} {x} {y} {z} a b c e = λ j. record { linear = at s (place + 10 * k); angular = (e ∙ cols) j }
   where
-    cols : fromCols x y z ≡ fromCols (vec3At s (off + 10 * k + 1)) (vec3At s (off + 10 * k + 4)) (vec3At s (off + 10 * k + 7))
+    cols : fromCols x y z ≡ fromCols (vec3At s (place + 10 * k + 1)) (vec3At s (place + 10 * k + 4)) (vec3At s (place + 10 * k + 7))
     cols = λ j. fromCols (a j) (b j) (c j)
 
 -- pure parts, by cases

@@ -78,41 +78,39 @@ module _ {A B : Type 0} (P : ℕ → Type 0) (most : ℕ) (pass : A → Counting
     pub kept : Kept P s₀ s
     pub reached : Reached most nonConvergent pass start k a 0 k
 
-  abbrev Whole : Counting B
-  Whole = upTo most nonConvergent pass start
-
-  pub came-none : Came 0 s₀ start
+module _ {A B : Type 0} {P : ℕ → Type 0} {most : ℕ} {pass : A → Counting (Turn A B)} {s₀ : List Float} {start : A} where
+  pub came-none : Came P most pass s₀ start 0 s₀ start
   came-none = record { kept = kept-refl P s₀; reached = reached-none most nonConvergent pass start }
 
-  module _ {k : ℕ} {s : List Float} {a : A} (inv : Came k s a) (h : k < most) {t : List Float} (kept : Kept P s t) where
-    pub came-again : {b : A} → ran (go (go b)) 0 1 ≡ pass a → Came (k + 1) t b
+  module _ {k : ℕ} {s : List Float} {a : A} (inv : Came P most pass s₀ start k s a) (h : k < most) {t : List Float} (kept : Kept P s t) where
+    pub came-again : {b : A} → ran (go (go b)) 0 1 ≡ pass a → Came P most pass s₀ start (k + 1) t b
     came-again e = record { kept = kept-then (inv .kept) kept (λ i q. q); reached = reached-again most nonConvergent pass start (inv .reached) h e }
 
-    pub came-over : {j : ℕ} (r : Result B) → ran (over r) 0 j ≡ pass a → Does P s₀ t (ran r 0 (k + j)) Whole
+    pub came-over : {j : ℕ} (r : Result B) → ran (over r) 0 j ≡ pass a → Does P s₀ t (ran r 0 (k + j)) (upTo most nonConvergent pass start)
     came-over r e = record { kept = kept-then (inv .kept) kept (λ i q. q); is = reached-over most nonConvergent pass start (inv .reached) h r e }
 
     -- by a turn that counted none
-    pub came-out : (r : Result B) → ran (over r) 0 0 ≡ pass a → Does P s₀ t (ran r 0 k) Whole
+    pub came-out : (r : Result B) → ran (over r) 0 0 ≡ pass a → Does P s₀ t (ran r 0 k) (upTo most nonConvergent pass start)
     came-out r e = does-eq (run-is refl (sym (add-zero k))) (came-over r e)
 
-  pub came-spent : {k : ℕ} {s : List Float} {a : A} → Came k s a → most ≤ k → Does P s₀ s (ran (stop nonConvergent) 0 most) Whole
+  pub came-spent : {k : ℕ} {s : List Float} {a : A} → Came P most pass s₀ start k s a → most ≤ k → Does P s₀ s (ran (stop nonConvergent) 0 most) (upTo most nonConvergent pass start)
   came-spent {k} inv h =
       let same : most ≡ k = omega (arith, inv .reached .turns) in
       record { kept = inv .kept; is = run-is refl same ∙ reached-spent most nonConvergent pass start (inv .reached) h }
 
 -- ---- both searches: rho goes to the next pass
-module _ (n most : ℕ) (pass : Search → Counting (Turn Search (List Float))) (s₀ : List Float) (start : Float) where
-  abbrev pub Searched : ℕ → List Float → Float → Type 0
-  Searched k s rho = Came Passing most pass s₀ (searchAt s₀ n start) k s (searchAt s n rho)
+abbrev pub Searched : ℕ → ℕ → (Search → Counting (Turn Search (List Float))) → List Float → Float → ℕ → List Float → Float → Type 0
+Searched n most pass s₀ start k s rho = Came Passing most pass s₀ (searchAt s₀ n start) k s (searchAt s n rho)
 
-  module _ {k : ℕ} {s : List Float} {rho : Float} (inv : Searched k s rho) (h : k < most) {t : List Float} (r : Next)
+module _ (n : ℕ) {most : ℕ} {pass : Search → Counting (Turn Search (List Float))} {s₀ : List Float} {start : Float} where
+  module _ {k : ℕ} {s : List Float} {rho : Float} (inv : Searched n most pass s₀ start k s rho) (h : k < most) {t : List Float} (r : Next)
       (d : Does Passing s t (searchAs r t n) (pass (searchAt s n rho))) where
     case : {q : Next} → r ≡ q → searchAs q t n ≡ pass (searchAt s n rho)
     case e = sym (ap (λ (q : Next). searchAs q t n) e) ∙ d .is
 
-    pub search-again : {next : Float} → r ≡ Nexts.Rho next → Searched (k + 1) t next
-    search-again e = came-again Passing most pass s₀ (searchAt s₀ n start) inv h (d .kept) (case e)
+    pub search-again : {next : Float} → r ≡ Nexts.Rho next → Searched n most pass s₀ start (k + 1) t next
+    search-again e = came-again inv h (d .kept) (case e)
 
     pub search-over : {end : End} → r ≡ Nexts.Over end
         → Does Passing s₀ t (endedAs (endedWith end k) (vecAt t SOLUTION n)) (upTo most nonConvergent pass (searchAt s₀ n start))
-    search-over {end} e = came-out Passing most pass s₀ (searchAt s₀ n start) inv h (d .kept) (ranAs end (vecAt t SOLUTION n)) (case e)
+    search-over {end} e = came-out inv h (d .kept) (ranAs end (vecAt t SOLUTION n)) (case e)

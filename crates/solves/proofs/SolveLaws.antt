@@ -29,7 +29,7 @@ use Rattle.solves.specs.Path.{Factor, forward, backward, Refined, refine
 use Rattle.solves.specs.Search.{leastSquares, gradients, refinement, pathAlong, Choice, byLeastSquares, byPath, byGradients, ordered, choose}
 use Rattle.solves.specs.Search.{solveBy, linearSolve}
 use Rattle.solves.specs.Answer.{ranAs, testAs, orderAs, endedAs, endedWith}
-use Rattle.solves.specs.View.{rowOn, rowsOn, systemOn, listAt, bandAt, factorAt, refinedAt, Rows, Beside, Operating, Factoring, Refining, Work}
+use Rattle.solves.specs.View.{rowOn, rowsOn, systemOn, listAt, bandAt, factorAt, refinedAt, Rows, RowsAlong, Beside, Operating, Factoring, Refining, Work}
 use Rattle.solves.specs.View.{RHS, SOLUTION, RESIDUAL, PRODUCT, PATH-BAND, PATH-SCALE, PATH-RHS}
 use Rattle.solves.specs.ViewLaws.{system-kept, passing-vector, passing-moves}
 use Rattle.solves.proofs.SearchLaws.{work-system, Came, came-again, came-over, came-out}
@@ -43,16 +43,16 @@ module _ {z : List Float} {ia ib : List ℕ} (table : Table) (pre : Rows z ia ib
   refining-system = system-kept ia ib table (λ i x y. omega arith) (pre .table) (pre .most) (pre .bodies) k
 
   pub refining-rhs : vecAt t RHS (table .rows) ≡ vecAt s RHS (table .rows)
-  refining-rhs = kept-vec k RHS (table .rows) (λ i x y. omega (arith, pre .most))
+  refining-rhs = kept-vec k RHS (table .rows) (λ i x y. omega arith)
 
   pub refining-factor : factorAt t (table .rows) ≡ factorAt s (table .rows)
   refining-factor = λ j. record {
-    scale = kept-vec k PATH-SCALE (table .rows) (λ i x y. omega (arith, pre .most)) j;
-    band = kept-vec k PATH-BAND (12 * table .rows) (λ i x y. omega (arith, pre .most)) j;
+    scale = kept-vec k PATH-SCALE (table .rows) (λ i x y. omega arith) j;
+    band = kept-vec k PATH-BAND (12 * table .rows) (λ i x y. omega arith) j;
   }
 
 -- refine
-module _ {s : List Float} {ia ib : List ℕ} (table : Table) (pre : Rows s ia ib (table .place) (table .rows) (table .bodies)) (order : List ℕ) where
+module _ {s : List Float} {ia ib order : List ℕ} (table : Table) (pre : RowsAlong s ia ib order (table .place) (table .rows) (table .bodies)) where
   abbrev n : ℕ
   n = table .rows
 
@@ -80,15 +80,15 @@ module _ {s : List Float} {ia ib : List ℕ} (table : Table) (pre : Rows s ia ib
       k₂ = kept-then (kept-more (d₁ .kept) (λ i x. x .1)) (d₂ .kept) (λ i x. (x .1, passing-vector SOLUTION (omega arith) (omega arith) i (x .0)))
 
       solution-is : vecAt s₂ SOLUTION n ≡ Solution n
-      solution-is = d₂ .is ∙ λ j. backward n (listAt order n) (kept-vec (d₁ .kept) PATH-SCALE n (λ i x y. omega (arith, pre .most)) j)
-          (kept-vec (d₁ .kept) PATH-BAND (12 * n) (λ i x y. omega (arith, pre .most)) j) (d₁ .is j)
-          (kept-vec (d₁ .kept) SOLUTION n (λ i x y. omega (arith, pre .most)) j)
+      solution-is = d₂ .is ∙ λ j. backward n (listAt order n) (kept-vec (d₁ .kept) PATH-SCALE n (λ i x y. omega arith) j)
+          (kept-vec (d₁ .kept) PATH-BAND (12 * n) (λ i x y. omega arith) j) (d₁ .is j)
+          (kept-vec (d₁ .kept) SOLUTION n (λ i x y. omega arith) j)
 
       abbrev Op : Result (List Float)
       Op = operator (systemOn ia ib s₂ table) (vecAt s₂ SOLUTION n)
 
       op-is : Op ≡ operator (systemOn ia ib s table) (Solution n)
-      op-is = λ j. operator (refining-system table pre k₂ j) (solution-is j)
+      op-is = λ j. operator (refining-system table (pre .rows) k₂ j) (solution-is j)
 
       pub refine-failed : {s₃ : List Float} {f : Fault} → Does (Operating PRODUCT) s₂ s₃ (stop f) Op → Does Refining s s₃ (stop f) Fine
       unfolding refine
@@ -111,14 +111,14 @@ module _ {s : List Float} {ia ib : List ℕ} (table : Table) (pre : Rows s ia ib
 
           sol₄ : vecAt s₄ SOLUTION n ≡ Solution (length (rowsOn ia ib s (table .place) n))
           sol₄ =
-              kept-vec (e .kept) SOLUTION n (λ i x y. omega (arith, pre .most)) ∙ kept-vec (d .kept) SOLUTION n (λ i x y. omega (arith, pre .most))
+              kept-vec (e .kept) SOLUTION n (λ i x y. omega arith) ∙ kept-vec (d .kept) SOLUTION n (λ i x y. omega arith)
               ∙ solution-is ∙ long
 
           res₄ : vecAt s₄ RESIDUAL n ≡ difference (vecAt s RHS n) (vecAt s₃ PRODUCT n)
-          res₄ = e .is ∙ ap (λ (l : List Float). difference l (vecAt s₃ PRODUCT n)) (refining-rhs table pre k₃)
+          res₄ = e .is ∙ ap (λ (l : List Float). difference l (vecAt s₃ PRODUCT n)) (refining-rhs table (pre .rows) k₃)
 
 -- refinements: k were counted, and the next goes on from s
-module _ {z : List Float} {ia ib : List ℕ} (table : Table) (pre : Rows z ia ib (table .place) (table .rows) (table .bodies)) (order : List ℕ)
+module _ {z : List Float} {ia ib order : List ℕ} (table : Table) (pre : RowsAlong z ia ib order (table .place) (table .rows) (table .bodies))
     (tolerance : Float) (s₀ : List Float) where
   abbrev m : ℕ
   m = table .rows
@@ -136,12 +136,12 @@ module _ {z : List Float} {ia ib : List ℕ} (table : Table) (pre : Rows z ia ib
     module _ {t : List Float} where
       fine-is : {x : Result Refined} → Does Refining s t x FineOf
           → x ≡ refine (systemOn ia ib s₀ table) (vecAt s₀ RHS m) (listAt order m) (factorAt s₀ m) (refinedAt s m)
-      fine-is d = d .is ∙ λ j. refine (refining-system table pre (inv .kept) j) (refining-rhs table pre (inv .kept) j) (listAt order m)
-          (refining-factor table pre (inv .kept) j) (refinedAt s m)
+      fine-is d = d .is ∙ λ j. refine (refining-system table (pre .rows) (inv .kept) j) (refining-rhs table (pre .rows) (inv .kept) j) (listAt order m)
+          (refining-factor table (pre .rows) (inv .kept) j) (refinedAt s m)
 
       pub refined-failed : {f : Fault} → Does Refining s t (stop f) FineOf → Does Refining s₀ t (ran (stop f) 0 k) All
       unfolding refinement
-      refined-failed {f} d = came-out Refining 4 Refines s₀ (refinedAt s₀ m) inv h (d .kept) (stop f) (try-stop _ (fine-is d))
+      refined-failed {f} d = came-out inv h (d .kept) (stop f) (try-stop _ (fine-is d))
 
       module _ (d : Does Refining s t (go (refinedAt t m)) FineOf) (r : Pass) (e : testAs r ≡ within (vecAt t RESIDUAL m) tolerance) where
         over-is : (end : End) → ranAs end true ≡ within (vecAt t RESIDUAL m) tolerance
@@ -153,17 +153,17 @@ module _ {z : List Float} {ia ib : List ℕ} (table : Table) (pre : Rows z ia ib
 
         pub refined-over : {end : End} → r ≡ Passes.Over end → Does Refining s₀ t (endedAs (endedWith end (k + 1)) (vecAt t SOLUTION m)) All
         refined-over {end} q =
-            came-over Refining 4 Refines s₀ (refinedAt s₀ m) inv h (d .kept) (ranAs end (vecAt t SOLUTION m)) (over-is end (test-is e q))
+            came-over inv h (d .kept) (ranAs end (vecAt t SOLUTION m)) (over-is end (test-is e q))
 
         again-is : go false ≡ within (vecAt t RESIDUAL m) tolerance → ran (go (go (refinedAt t m))) 0 1 ≡ Refines (refinedAt s m)
         unfolding refinement
         again-is f = ap (after 0 1) (leave-no _ _ refl ∙ try-go _ f) ∙ ticks _ ∙ try-go _ (fine-is d)
 
         pub refined-more : r ≡ Passes.Again → Came Refining 4 Refines s₀ (refinedAt s₀ m) (k + 1) t (refinedAt t m)
-        refined-more q = came-again Refining 4 Refines s₀ (refinedAt s₀ m) inv h (d .kept) (again-is (test-is e q))
+        refined-more q = came-again inv h (d .kept) (again-is (test-is e q))
 
 -- path_along
-module _ {s : List Float} {ia ib : List ℕ} (table : Table) (pre : Rows s ia ib (table .place) (table .rows) (table .bodies)) (order : List ℕ) where
+module _ {s : List Float} {ia ib order : List ℕ} (table : Table) (pre : RowsAlong s ia ib order (table .place) (table .rows) (table .bodies)) where
   abbrev n₁ : ℕ
   n₁ = table .rows
 
@@ -188,7 +188,7 @@ module _ {s : List Float} {ia ib : List ℕ} (table : Table) (pre : Rows s ia ib
     kₐ = kept-more (d .kept) (λ i x. omega arith)
 
     rhs₁ : vecAt t RHS n₁ ≡ vecAt s RHS n₁
-    rhs₁ = kept-vec kₐ RHS n₁ (λ i x y. omega (arith, pre .most))
+    rhs₁ = kept-vec kₐ RHS n₁ (λ i x y. omega arith)
 
     tolerance-is : {r : Result Float} → r ≡ toleranceFor (ratio 1 (10 ^ 12)) (vecAt t RHS n₁) → r ≡ toleranceFor (ratio 1 (10 ^ 12)) (vecAt s RHS n₁)
     tolerance-is e = e ∙ ap (toleranceFor (ratio 1 (10 ^ 12))) rhs₁
@@ -205,19 +205,19 @@ module _ {s : List Float} {ia ib : List ℕ} (table : Table) (pre : Rows s ia ib
       begun : refinedAt u n₁ ≡ record { solution = vecAt s SOLUTION n₁; residual = vecAt s RHS n₁ }
       begun = λ j. record {
         solution =
-            (kept-vec (c .kept) SOLUTION n₁ (λ i x y. omega (arith, pre .most)) ∙ kept-vec (d .kept) SOLUTION n₁ (λ i x y. omega (arith, pre .most)))
+            (kept-vec (c .kept) SOLUTION n₁ (λ i x y. omega arith) ∙ kept-vec (d .kept) SOLUTION n₁ (λ i x y. omega arith))
             j;
         residual = (c .is ∙ rhs₁) j;
       }
 
       factor-is : factorAt u n₁ ≡ factorAt t n₁
       factor-is = λ j. record {
-        scale = kept-vec (c .kept) PATH-SCALE n₁ (λ i x y. omega (arith, pre .most)) j;
-        band = kept-vec (c .kept) PATH-BAND (12 * n₁) (λ i x y. omega (arith, pre .most)) j;
+        scale = kept-vec (c .kept) PATH-SCALE n₁ (λ i x y. omega arith) j;
+        band = kept-vec (c .kept) PATH-BAND (12 * n₁) (λ i x y. omega arith) j;
       }
 
       rhs-is : vecAt u RHS n₁ ≡ vecAt s RHS n₁
-      rhs-is = kept-vec kᵦ RHS n₁ (λ i x y. omega (arith, pre .most))
+      rhs-is = kept-vec kᵦ RHS n₁ (λ i x y. omega arith)
 
       pub along-whole : {v : List Float} {y : Counting (List Float)}
           → Does Work u v y
@@ -227,7 +227,7 @@ module _ {s : List Float} {ia ib : List ℕ} (table : Table) (pre : Rows s ia ib
       along-whole f = record {
         kept = kept-then kᵦ (f .kept) (λ i x. x);
         is = f .is
-            ∙ (λ j. upTo 4 nonConvergent (refinement (work-system table pre kᵦ j) (rhs-is j) (listAt order n₁) (factor-is j) tolerance) (begun j))
+            ∙ (λ j. upTo 4 nonConvergent (refinement (work-system table (pre .rows) kᵦ j) (rhs-is j) (listAt order n₁) (factor-is j) tolerance) (begun j))
             ∙ try-go _ (tolerance-is e) ∙ try-go _ (factored-is (d .is));
       }
 
@@ -259,23 +259,23 @@ module _ {s : List Float} {ia ib : List ℕ} (table : Table) (pre : Rows s ia ib
   Linear = linearSolve cyclic S₂ (vecAt s RHS n₂)
 
   q₁ : Kept Work s s₁
-  q₁ = kept-more (f .kept) (λ i x. omega (arith, pre .most))
+  q₁ = kept-more (f .kept) (λ i x. omega arith)
 
   q₂ : Kept Work s s₂
   q₂ = kept-then q₁ (d .kept) (λ i x. omega arith)
 
   rhs₂ : vecAt s₂ RHS n₂ ≡ vecAt s RHS n₂
-  rhs₂ = kept-vec q₂ RHS n₂ (λ i x y. omega (arith, pre .most))
+  rhs₂ = kept-vec q₂ RHS n₂ (λ i x y. omega arith)
 
   zeros₂ : vecAt s₂ SOLUTION n₂ ≡ zeros
-  zeros₂ = kept-vec (d .kept) SOLUTION n₂ (λ i x y. omega (arith, pre .most)) ∙ filled-vec f
+  zeros₂ = kept-vec (d .kept) SOLUTION n₂ (λ i x y. omega arith) ∙ filled-vec f
       ∙ sym
       (is-tab n₂ (λ _. ratio 0 1) (ratio 0 1) (replicate n₂ (ratio 0 1)) (length-replicate n₂ (ratio 0 1))
       (λ k h. getD-replicate n₂ k (ratio 0 1) (ratio 0 1) h))
       ∙ ap (λ (m : ℕ). replicate m (ratio 0 1)) (sym (tab-length n₂ (rowOn ia ib s (table .place))))
 
   residual₂ : vecAt s₂ RESIDUAL n₂ ≡ vecAt s RHS n₂
-  residual₂ = d .is ∙ kept-vec q₁ RHS n₂ (λ i x y. omega (arith, pre .most))
+  residual₂ = d .is ∙ kept-vec q₁ RHS n₂ (λ i x y. omega arith)
 
   abbrev Chosen : Choice
   Chosen = choose cyclic (sideOf (λ r. r .a) (S₂ .rows)) (sideOf (λ r. r .b) (S₂ .rows)) (length (S₂ .rows))

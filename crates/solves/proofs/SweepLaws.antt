@@ -14,8 +14,8 @@ use Rattle.solves.specs.declared.path.Line.{Line}
 use Rattle.solves.specs.Region.{vecAt, Does}
 use Rattle.solves.specs.RegionLaws.{vec-at, vec-in, kept-vec, vec-set, vec-more}
 use Rattle.solves.specs.Path.{index, cell, lessProducts, reduced, forwardSum, forwardTurn, forward, backwardSum, Back, backwardTurn, backward}
-use Rattle.solves.specs.View.{listAt, bandAt, Along, SOLUTION, RESIDUAL, PATH-BAND, PATH-SCALE, PATH-RHS, Beside}
-use Rattle.solves.specs.PathView.{placeOf, lineAt, Lies, rowLine, columnLine, sideLine}
+use Rattle.solves.specs.View.{listAt, bandAt, Along, SOLUTION, RESIDUAL, PATH-BAND, PATH-SCALE, PATH-RHS, END, Beside}
+use Rattle.solves.specs.PathView.{placeOf, lineAt, InLine, Lie, rowLine, columnLine, sideLine}
 use Rattle.solves.proofs.BlockLaws.{list-at}
 use Rattle.solves.proofs.FactorLaws.{cell-at, cell-first}
 
@@ -52,21 +52,43 @@ column-is s n i t h l =
     let place : PATH-BAND + 12 * (i + 1) + (i + 1 - i) + 13 * t - 0 * t ≡ PATH-BAND + 12 * (i + 1 + t) + (i + 1 + t - i) = omega arith in
     ap (at s) place ∙ cell-at s n (i + 1 + t) (i + 1 + t - i) h (omega arith)
 
-side-is : (s : List Float) (m from t : ℕ) → from + t < m → lineAt s (sideLine from) t ≡ at (vecAt s PATH-RHS m) (from + t)
-side-is s m from t h =
+side-is : (s : List Float) (n from t : ℕ) → from + t < n → lineAt s (sideLine from) t ≡ at (vecAt s PATH-RHS n) (from + t)
+side-is s n from t h =
     let place : PATH-RHS + from + 1 * t - 0 * t ≡ PATH-RHS + (from + t) = omega arith in
-    ap (at s) place ∙ vec-at s PATH-RHS m (from + t) h
+    ap (at s) place ∙ vec-at s PATH-RHS n (from + t) h
 
 -- the lines lie in the scratch
-module _ {line : Line} {terms : ℕ} where
-  pub row-lies : (i from : ℕ) → line ≡ rowLine i from → i < 96 → terms ≤ i - from → Lies line terms
-  row-lies i from e h l = subst (λ (x : Line). Lies x terms) (sym e) (λ t m. (omega arith, omega arith))
+module _ {line : Line} (t : ℕ) where
+  row-lies : (i from : ℕ) → line ≡ rowLine i from → i < 96 → t < i - from → InLine line t
+  row-lies i from e h l = subst (λ (x : Line). InLine x t) (sym e) (omega arith, omega arith)
 
-  pub column-lies : (i from : ℕ) → line ≡ columnLine i from → from ≤ i + 1 → from + terms ≤ 96 → Lies line terms
-  column-lies i from e h l = subst (λ (x : Line). Lies x terms) (sym e) (λ t m. (omega arith, omega arith))
+  column-lies : (i : ℕ) → line ≡ columnLine i (i + 1) → i + 1 + t < 96 → InLine line t
+  column-lies i e l = subst (λ (x : Line). InLine x t) (sym e) (omega arith, omega arith)
 
-  pub side-lies : (from : ℕ) → line ≡ sideLine from → from + terms ≤ 96 → Lies line terms
-  side-lies from e l = subst (λ (x : Line). Lies x terms) (sym e) (λ t m. (omega arith, omega arith))
+  side-lies : (from : ℕ) → line ≡ sideLine from → from + t < 96 → InLine line t
+  side-lies from e l = subst (λ (x : Line). InLine x t) (sym e) (omega arith, omega arith)
+
+module _ {s : List Float} (n i : ℕ) {a b : Line} (whole : END ≤ length s) (most : n ≤ 96) (hi : i < n) where
+  pub reduced-lie : (j from : ℕ) → j ≤ i → from ≡ i - 11 → a ≡ rowLine i from → b ≡ rowLine j from → Lie s a b (j - from)
+  reduced-lie j from h ef ea eb = record {
+    whole = whole;
+    first = λ t l. row-lies t i from ea (omega arith) (omega arith);
+    second = λ t l. row-lies t j from eb (omega arith) l;
+  }
+
+  pub forward-lie : (from : ℕ) → from ≡ i - 11 → a ≡ rowLine i from → b ≡ sideLine from → Lie s a b (i - from)
+  forward-lie from ef ea eb = record {
+    whole = whole;
+    first = λ t l. row-lies t i from ea (omega arith) l;
+    second = λ t l. side-lies t from eb (omega arith);
+  }
+
+  pub backward-lie : (end : ℕ) → end ≡ min n (i + 12) → a ≡ columnLine i (i + 1) → b ≡ sideLine (i + 1) → Lie s a b (end - (i + 1))
+  backward-lie end ee ea eb = record {
+    whole = whole;
+    first = λ t l. column-lies t i ea (omega arith);
+    second = λ t l. side-lies t (i + 1) eb (omega arith);
+  }
 
 -- the three sums
 module _ (s : List Float) (n i : ℕ) (hi : i < n) (start : Float) {a b : Line} {r : Float} where
@@ -88,8 +110,20 @@ module _ (s : List Float) (n i : ℕ) (hi : i < n) (start : Float) {a b : Line} 
   backward-is ee ea eb e = sum-along s start _ _ e ea eb (ap (λ (m : ℕ). m - (i + 1)) ee)
       (λ t q. column-is s n i t (omega arith) (omega arith)) (λ t q. side-is s n (i + 1) t (omega arith))
 
+-- ---- a sweep after k of n rows: what is defined stands there
+pub record Swept {A : Type 0} (P : ℕ → Type 0) (n : ℕ) (order : List ℕ) (s₀ : List Float) (k : ℕ) (s : List Float) (x defined : A) : Type 0 where
+  pub most : n ≤ 96
+  pub along : Along order n
+  pub whole : END ≤ length s
+  pub turned : k ≤ n
+  pub does : Does P s₀ s x defined
+
+swept-more : {A : Type 0} {P : ℕ → Type 0} {n k : ℕ} {order : List ℕ} {s₀ s t : List Float} {x y d e : A} → Swept P n order s₀ k s x d → k < n
+    → Does P s₀ t y e → Swept P n order s₀ (k + 1) t y e
+swept-more w h z = record { most = w .most; along = w .along; whole = omega arith; turned = omega arith; does = z }
+
 -- ---- forward
-module _ (n : ℕ) (most : n ≤ 96) (order : List ℕ) (along : Along order n) (s₀ : List Float) where
+module _ (n : ℕ) (order : List ℕ) (s₀ : List Float) where
   abbrev O : List ℕ
   O = listAt order n
 
@@ -103,22 +137,28 @@ module _ (n : ℕ) (most : n ≤ 96) (order : List ℕ) (along : Along order n) 
   Re = vecAt s₀ RESIDUAL n
 
   abbrev pub ForwardSo : ℕ → List Float → Type 0
-  ForwardSo i s = Does (Beside PATH-RHS) s₀ s (vecAt s PATH-RHS i) (turns (forwardTurn n O Sc Bd Re) i [])
+  ForwardSo i s = Swept (Beside PATH-RHS) n order s₀ i s (vecAt s PATH-RHS i) (turns (forwardTurn n O Sc Bd Re) i [])
 
-  pub forwards-none : ForwardSo 0 s₀
+  pub forwards-none : END ≤ length s₀ → n ≤ 96 → Along order n → ForwardSo 0 s₀
   unfolding tab
-  forwards-none = record { kept = kept-refl _ s₀; is = turns-none (forwardTurn n O Sc Bd Re) [] }
+  forwards-none w m a = record {
+    most = m;
+    along = a;
+    whole = w;
+    turned = omega arith;
+    does = record { kept = kept-refl _ s₀; is = turns-none (forwardTurn n O Sc Bd Re) [] };
+  }
 
-  module _ {i : ℕ} {s : List Float} (inv : ForwardSo i s) (h : i < n) (l : PATH-RHS + 96 ≤ length s) {value : Float}
+  module _ {i : ℕ} {s : List Float} (inv : ForwardSo i s) (h : i < n) {value : Float}
       (ev : value ≡ forwardSum (bandAt s n) (vecAt s PATH-RHS i) i (at s (RESIDUAL + getD order i 0) ⊘ at s (PATH-SCALE + i))) where
     band-is : bandAt s n ≡ Bd
-    band-is = kept-vec (inv .kept) PATH-BAND (12 * n) (λ j x y. omega arith)
+    band-is = kept-vec (inv .does .kept) PATH-BAND (12 * n) (λ j x y. omega arith)
 
     start-is : at s (RESIDUAL + getD order i 0) ≡ at Re (index O i)
-    start-is = vec-in (inv .kept) RESIDUAL n (getD order i 0) (λ j x y. omega arith) (along i h) refl ∙ ap (at Re) (list-at order n i h)
+    start-is = vec-in (inv .does .kept) RESIDUAL n (getD order i 0) (λ j x y. omega arith) (inv .along i h) refl ∙ ap (at Re) (list-at order n i h)
 
     scale-is : at s (PATH-SCALE + i) ≡ at Sc i
-    scale-is = vec-in (inv .kept) PATH-SCALE n i (λ j x y. omega arith) h refl
+    scale-is = vec-in (inv .does .kept) PATH-SCALE n i (λ j x y. omega arith) h refl
 
     abbrev new : Float
     new = value ⊘ at s (PATH-BAND + 12 * i)
@@ -127,17 +167,17 @@ module _ (n : ℕ) (most : n ≤ 96) (order : List ℕ) (along : Along order n) 
     new-is = (λ j. (ev ∙ λ k. forwardSum (band-is k) (vecAt s PATH-RHS i) i (start-is k ⊘ scale-is k)) j ⊘ (cell-first s n i h ∙ λ k. cell (band-is k) i 0) j)
 
     pub forwards-more : ForwardSo (i + 1) (set s (PATH-RHS + i) new)
-    forwards-more = record {
-      kept = kept-then (inv .kept) (kept-set s (PATH-RHS + i) new) (λ j x. omega arith);
+    forwards-more = swept-more inv h record {
+      kept = kept-then (inv .does .kept) (kept-set s (PATH-RHS + i) new) (λ j x. omega arith);
       is = vec-more s PATH-RHS i new (omega arith) ∙ ap (λ (x : Float). vecAt s PATH-RHS i ++ (x ∷ [])) new-is
-          ∙ turns-more (forwardTurn n O Sc Bd Re) i [] (inv .is);
+          ∙ turns-more (forwardTurn n O Sc Bd Re) i [] (inv .does .is);
     }
 
-  pub forwards-end : {i : ℕ} {s : List Float} → ForwardSo i s → i ≤ n → n ≤ i → Does (Beside PATH-RHS) s₀ s (vecAt s PATH-RHS n) (forward n O Sc Bd Re)
+  pub forwards-end : {i : ℕ} {s : List Float} → ForwardSo i s → n ≤ i → Does (Beside PATH-RHS) s₀ s (vecAt s PATH-RHS n) (forward n O Sc Bd Re)
   unfolding forward
-  forwards-end {i} {s} inv a b =
+  forwards-end {i} {s} inv b =
       let same : i ≡ n = omega arith in
-      record { kept = inv .kept; is = ap (vecAt s PATH-RHS) (sym same) ∙ turns-end (forwardTurn n O Sc Bd Re) [] a b (inv .is) }
+      record { kept = inv .does .kept; is = ap (vecAt s PATH-RHS) (sym same) ∙ turns-end (forwardTurn n O Sc Bd Re) [] (inv .turned) b (inv .does .is) }
 
 -- ---- backward
 abbrev pub Backs : ℕ → Type 0
@@ -152,7 +192,7 @@ backs-rhs i k h x = omega arith
 backs-solution : (i k : ℕ) → k < 96 → Beside SOLUTION i → Out (SOLUTION + k) 1 i
 backs-solution i k h x = omega arith
 
-module _ (n : ℕ) (most : n ≤ 96) (order : List ℕ) (along : Along order n) (s₀ : List Float) where
+module _ (n : ℕ) (order : List ℕ) (s₀ : List Float) where
   abbrev O₁ : List ℕ
   O₁ = listAt order n
 
@@ -166,12 +206,18 @@ module _ (n : ℕ) (most : n ≤ 96) (order : List ℕ) (along : Along order n) 
   Turned = backwardTurn n O₁ Sc₁ Bd₁
 
   abbrev pub BackwardSo : ℕ → List Float → Type 0
-  BackwardSo k s = Does Backs s₀ s (backAt s n) (turns (backwardTurn n (listAt order n) (vecAt s₀ PATH-SCALE n) (bandAt s₀ n)) k (backAt s₀ n))
+  BackwardSo k s = Swept Backs n order s₀ k s (backAt s n) (turns (backwardTurn n (listAt order n) (vecAt s₀ PATH-SCALE n) (bandAt s₀ n)) k (backAt s₀ n))
 
-  pub backwards-none : BackwardSo 0 s₀
-  backwards-none = record { kept = kept-refl _ s₀; is = turns-none Turned (backAt s₀ n) }
+  pub backwards-none : END ≤ length s₀ → n ≤ 96 → Along order n → BackwardSo 0 s₀
+  backwards-none w m a = record {
+    most = m;
+    along = a;
+    whole = w;
+    turned = omega arith;
+    does = record { kept = kept-refl _ s₀; is = turns-none Turned (backAt s₀ n) };
+  }
 
-  module _ {k : ℕ} {s : List Float} (inv : BackwardSo k s) (h : k < n) (l : PATH-RHS + 96 ≤ length s) {sum : Float}
+  module _ {k : ℕ} {s : List Float} (inv : BackwardSo k s) (h : k < n) {sum : Float}
       (es : sum ≡ backwardSum n (bandAt s n) (vecAt s PATH-RHS n) (n - 1 - k) (at s (PATH-RHS + (n - 1 - k)))) where
     abbrev i : ℕ
     i = n - 1 - k
@@ -180,7 +226,7 @@ module _ (n : ℕ) (most : n ≤ 96) (order : List ℕ) (along : Along order n) 
     i-there = omega arith
 
     band₁ : bandAt s n ≡ Bd₁
-    band₁ = kept-vec (inv .kept) PATH-BAND (12 * n) (λ j x y. omega arith)
+    band₁ = kept-vec (inv .does .kept) PATH-BAND (12 * n) (λ j x y. omega arith)
 
     abbrev value : Float
     value = sum ⊘ at s (PATH-BAND + 12 * i)
@@ -196,7 +242,7 @@ module _ (n : ℕ) (most : n ≤ 96) (order : List ℕ) (along : Along order n) 
     m = getD order i 0
 
     m-there : m < n
-    m-there = along i i-there
+    m-there = inv .along i i-there
 
     k₁ : Kept (λ j. Out (PATH-RHS + i) 1 j) s s₁
     k₁ = kept-set s (PATH-RHS + i) value
@@ -211,7 +257,7 @@ module _ (n : ℕ) (most : n ≤ 96) (order : List ℕ) (along : Along order n) 
     s₂ = set s₁ (SOLUTION + m) moved
 
     scale₁ : at s₁ (PATH-SCALE + i) ≡ at Sc₁ i
-    scale₁ = k₁ .same (PATH-SCALE + i) (omega arith) ∙ vec-in (inv .kept) PATH-SCALE n i (λ j x y. omega arith) i-there refl
+    scale₁ = k₁ .same (PATH-SCALE + i) (omega arith) ∙ vec-in (inv .does .kept) PATH-SCALE n i (λ j x y. omega arith) i-there refl
 
     old-is : at s₁ (SOLUTION + m) ≡ at (vecAt s SOLUTION n) (index O₁ i)
     old-is = vec-at s₁ SOLUTION n m m-there ∙ λ j. at (sol₁ j) (list-at order n i i-there j)
@@ -229,13 +275,13 @@ module _ (n : ℕ) (most : n ≤ 96) (order : List ℕ) (along : Along order n) 
 
     pub backwards-more : BackwardSo (k + 1) s₂
     unfolding backwardTurn
-    backwards-more = record {
-      kept = kept-then (kept-then (inv .kept) k₁ (λ j x. backs-rhs j i (omega arith) (x .0))) (kept-set s₁ (SOLUTION + m) moved)
+    backwards-more = swept-more inv h record {
+      kept = kept-then (kept-then (inv .does .kept) k₁ (λ j x. backs-rhs j i (omega arith) (x .0))) (kept-set s₁ (SOLUTION + m) moved)
           (λ j x. backs-solution j m (omega (arith, m-there)) (x .1));
-      is = (λ j. record { y = y₂ j; solution = solution₂ j }) ∙ turns-more Turned k (backAt s₀ n) (inv .is);
+      is = (λ j. record { y = y₂ j; solution = solution₂ j }) ∙ turns-more Turned k (backAt s₀ n) (inv .does .is);
     }
 
-  pub backwards-end : {k : ℕ} {s : List Float} → BackwardSo k s → k ≤ n → n ≤ k
+  pub backwards-end : {k : ℕ} {s : List Float} → BackwardSo k s → n ≤ k
       → Does Backs s₀ s (vecAt s SOLUTION n) (backward n O₁ Sc₁ Bd₁ (vecAt s₀ PATH-RHS n) (vecAt s₀ SOLUTION n))
   unfolding backward
-  backwards-end inv a b = record { kept = inv .kept; is = ap (λ (x : Back). x .solution) (turns-end Turned (backAt s₀ n) a b (inv .is)) }
+  backwards-end inv b = record { kept = inv .does .kept; is = ap (λ (x : Back). x .solution) (turns-end Turned (backAt s₀ n) (inv .turned) b (inv .does .is)) }

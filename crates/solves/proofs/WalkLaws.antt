@@ -91,39 +91,39 @@ run-more from i h =
 pub append-none : (order : Order) (from to : ℕ) → length (order .rows) ≡ 96 → Appended order from to from order
 append-none order from to h = record {
   size = h;
-  count = omega arith;
+  longer = omega arith;
   is = sym (append-nil (orderOf order)) ∙ ap (λ (l : List ℕ). orderOf order ++ l) (sym (run-none from));
   rest = λ j q. refl;
   listed = λ n q k. k;
 }
 
-pub append-more : {order : Order} {from to i : ℕ} {out : Order} → Appended order from to i out → from ≤ i → i < to → order .count + (to - from) ≤ 96
-    → Appended order from to (i + 1) (orderAt (set (out .rows) (out .count) i) (out .count + 1))
+pub append-more : {order : Order} {from to i : ℕ} {out : Order} → Appended order from to i out → from ≤ i → i < to → order .listed + (to - from) ≤ 96
+    → Appended order from to (i + 1) (orderAt (set (out .rows) (out .listed) i) (out .listed + 1))
 append-more {order} {from} {to} {i} {out} inv h l m = record {
   size = size;
-  count = omega (arith, inv .count);
-  is = list-more (out .rows) (out .count) i there ∙ ap (λ (x : List ℕ). x ++ (i ∷ [])) (inv .is)
+  longer = omega (arith, inv .longer);
+  is = list-more (out .rows) (out .listed) i there ∙ ap (λ (x : List ℕ). x ++ (i ∷ [])) (inv .is)
       ∙ append-assoc (orderOf order) (run from i) (i ∷ []) ∙ ap (λ (x : List ℕ). orderOf order ++ x) (sym (run-more from i h));
   rest = λ j q. behind j q ∙ inv .rest j (omega arith);
   listed = λ n q k. record {
     size = size;
-    rows = λ j r. by n q (inv .listed n q k) j r (ℕ-discrete j (out .count));
+    rows = λ j r. by n q (inv .listed n q k) j r (ℕ-discrete j (out .listed));
     blank = λ j r m. behind j r ∙ inv .listed n q k .blank j (omega arith) m;
   };
 }
   where
-    there : out .count < length (out .rows)
-    there = omega (arith, inv .size, inv .count)
+    there : out .listed < length (out .rows)
+    there = omega (arith, inv .size, inv .longer)
 
-    size : length (set (out .rows) (out .count) i) ≡ 96
-    size = length-set (out .rows) (out .count) i ∙ inv .size
+    size : length (set (out .rows) (out .listed) i) ≡ 96
+    size = length-set (out .rows) (out .listed) i ∙ inv .size
 
-    behind : (j : ℕ) → out .count + 1 ≤ j → getD (set (out .rows) (out .count) i) j 0 ≡ getD (out .rows) j 0
-    behind j q = getD-set-other (out .rows) (out .count) j i 0 (λ e. omega arith)
+    behind : (j : ℕ) → out .listed + 1 ≤ j → getD (set (out .rows) (out .listed) i) j 0 ≡ getD (out .rows) j 0
+    behind j q = getD-set-other (out .rows) (out .listed) j i 0 (λ e. omega arith)
 
-    by : (n : ℕ) → to ≤ n → Listed out n → (j : ℕ) → j < out .count + 1 → Dec (j ≡ out .count) → getD (set (out .rows) (out .count) i) j 0 < n
-    by n q k j r (yes e) = rw e (rw (getD-set-same (out .rows) (out .count) i 0 there) (omega arith))
-    by n q k j r (no e) = rw (getD-set-other (out .rows) (out .count) j i 0 e) (k .rows j (omega arith))
+    by : (n : ℕ) → to ≤ n → Listed out n → (j : ℕ) → j < out .listed + 1 → Dec (j ≡ out .listed) → getD (set (out .rows) (out .listed) i) j 0 < n
+    by n q k j r (yes e) = rw e (rw (getD-set-same (out .rows) (out .listed) i 0 there) (omega arith))
+    by n q k j r (no e) = rw (getD-set-other (out .rows) (out .listed) j i 0 e) (k .rows j (omega arith))
 
 pub append-ends : {order : Order} {from to i : ℕ} {out : Order} → Appended order from to i out → i ≤ to → to ≤ i → Appended order from to to out
 append-ends {order} {from} {to} {i} {out} inv a b =
@@ -166,7 +166,7 @@ module _ (blocks : Blocks) where
           let y : part (set v c true) k ≡ part v k = part-by (set v c true) k (getD-set-other v c k true false (λ q. omega arith)) in
           omega arith
 
-room-none : {ia ib : List ℕ} {blocks : Blocks} → Blocked ia ib blocks → (k : ℕ) → k ≤ blocks .count
+room-none : {ia ib : List ℕ} {blocks : Blocks} → Blocked ia ib blocks → (k : ℕ) → k ≤ blocks .many
     → room blocks (replicate 96 false) k ≤ getD (blocks .starts) k 0
 unfolding room
 room-none pre zero h = omega arith
@@ -196,7 +196,7 @@ pub record WalkSo (ia ib : List ℕ) (blocks : Blocks) (edges : List ℕ) (start
   pub is : go (record { seen = seenOf order visited; current = current; previous = previous })
       ≡ loop k (walkTurn (listAt ia (rowsOf blocks)) (listAt ib (rowsOf blocks)) (rowsOf blocks) (startsOf blocks) edges)
       (record { seen = seenOf start visited₀; current = first; previous = none })
-  pub here : current < blocks .count
+  pub here : current < blocks .many
   pub free : Free blocks order visited
 
 pub record WalksSo (ia ib : List ℕ) (blocks : Blocks) (edges : List ℕ) (k : ℕ) (order : Order) (visited : List Bool) : Type 0 where
@@ -219,34 +219,34 @@ module _ {ia ib : List ℕ} {blocks : Blocks} {edges : List ℕ} (graph : Graph 
   abbrev Step : ℕ → Walk → Turn Walk (Turn Seen (Unit {0}))
   Step = walkTurn A B (rowsOf blocks) S edges
 
-  count-is : length S ≡ blocks .count
-  count-is = tab-length (blocks .count) (λ j. getD (blocks .starts) j 0)
+  many-is : length S ≡ blocks .many
+  many-is = tab-length (blocks .many) (λ j. getD (blocks .starts) j 0)
 
   -- a block's neighbor on one side, as the code and as the definition name it
-  near : (ix : List ℕ) (current : ℕ) {x : ℕ} → current < blocks .count → x ≡ neighbor edges (getD ix (getD (blocks .starts) current 0) 0) current
+  near : (ix : List ℕ) (current : ℕ) {x : ℕ} → current < blocks .many → x ≡ neighbor edges (getD ix (getD (blocks .starts) current 0) 0) current
       → x ≡ neighbor edges (index (listAt ix (rowsOf blocks)) (index S current)) current
   near ix current here e = e ∙ ap (λ (b : ℕ). neighbor edges b current) (body-is pre here ix)
 
   -- the neighbors of a block on both sides, and the block that follows it
-  module _ (current previous : ℕ) (here : current < blocks .count) {x y next : ℕ}
+  module _ (current previous : ℕ) (here : current < blocks .many) {x y next : ℕ}
       (ex : x ≡ neighbor edges (getD ia (getD (blocks .starts) current 0) 0) current)
       (ey : y ≡ neighbor edges (getD ib (getD (blocks .starts) current 0) 0) current) (en : next ≡ nextBlock x y previous) where
     next-is : next ≡ nextBlock (neighbor edges (index A (index S current)) current) (neighbor edges (index B (index S current)) current) previous
     next-is = en ∙ λ j. nextBlock (near ia current here ex j) (near ib current here ey j) previous
 
-    next-there : (next ≡ 96 → ⊥) → next < blocks .count
+    next-there : (next ≡ 96 → ⊥) → next < blocks .many
     next-there q = linked-there (rw en (next-linked previous lx ly)) q
       where
-        lx : Linked (blocks .count) x
+        lx : Linked (blocks .many) x
         lx = rw ex (neighbor-linked _ current (graph .linking) (a-body pre here))
 
-        ly : Linked (blocks .count) y
+        ly : Linked (blocks .many) y
         ly = rw ey (neighbor-linked _ current (graph .linking) (b-body pre here))
 
   abbrev begun : Order → List Bool → ℕ → Walk
   begun start visited first = record { seen = seenOf start visited; current = first; previous = none }
 
-  pub walk-none : {start : Order} {visited : List Bool} {first : ℕ} → first < blocks .count → Free blocks start visited
+  pub walk-none : {start : Order} {visited : List Bool} {first : ℕ} → first < blocks .many → Free blocks start visited
       → WalkSo ia ib blocks edges start visited first 0 start visited first none
   walk-none {start} {visited} {first} h f = record { is = loop-none Step (begun start visited first); here = h; free = f }
 
@@ -261,15 +261,15 @@ module _ {ia ib : List ℕ} {blocks : Blocks} {edges : List ℕ} (graph : Graph 
     abbrev at-first : Walk
     at-first = begun start visited₀ first
 
-    pub walk-spent : k ≤ blocks .count → blocks .count ≤ k → Walks blocks false order visited Whole
+    pub walk-spent : k ≤ blocks .many → blocks .many ≤ k → Walks blocks false order visited Whole
     unfolding walk
-    walk-spent a b = lost (ap walked (loop-end Step at-first a b (inv .is) ∙ ap (λ (m : ℕ). loop m Step at-first) (sym count-is)))
+    walk-spent a b = lost (ap walked (loop-end Step at-first a b (inv .is) ∙ ap (λ (m : ℕ). loop m Step at-first) (sym many-is)))
 
-    module _ (h : k < blocks .count) where
+    module _ (h : k < blocks .many) where
       -- the turn ends the walk
       whole-is : {d : Turn Seen (Unit {0})} → stop d ≡ Step k (record { seen = seenOf order visited; current = current; previous = previous }) → d ≡ Whole
       unfolding walk
-      whole-is e = ap walked (loop-stop Step at-first (blocks .count) h (inv .is) e ∙ ap (λ (m : ℕ). loop m Step at-first) (sym count-is))
+      whole-is e = ap walked (loop-stop Step at-first (blocks .many) h (inv .is) e ∙ ap (λ (m : ℕ). loop m Step at-first) (sym many-is))
 
       pub walk-met : getD visited current false ≡ true → Walks blocks false order visited Whole
       unfolding walkTurn
@@ -277,11 +277,11 @@ module _ {ia ib : List ℕ} {blocks : Blocks} {edges : List ℕ} (graph : Graph 
 
       module _ (q : getD visited current false ≡ false) where
         -- what the block takes of the room
-        room-is : room blocks (set visited current true) (blocks .count) + sizeOf blocks current ≡ room blocks visited (blocks .count)
-        room-is = room-set blocks visited current (blocks .count) (inv .here) (omega (arith, inv .free .size, inv .here, pre .few, pre .most)) q
+        room-is : room blocks (set visited current true) (blocks .many) + sizeOf blocks current ≡ room blocks visited (blocks .many)
+        room-is = room-set blocks visited current (blocks .many) (inv .here) (omega (arith, inv .free .size, inv .here, pre .few, pre .most)) q
 
         pub append-fits : (getD (blocks .starts) current 0 ≤ getD (blocks .starts) (current + 1) 0) × (getD (blocks .starts) (current + 1) 0 ≤ 96)
-            × (order .count + sizeOf blocks current ≤ 96) × (length (order .rows) ≡ 96)
+            × (order .listed + sizeOf blocks current ≤ 96) × (length (order .rows) ≡ 96)
         append-fits = (
           pre .rising current (inv .here),
           omega (arith, pre .ends current (inv .here), pre .most),
@@ -297,7 +297,7 @@ module _ {ia ib : List ℕ} {blocks : Blocks} {edges : List ℕ} (graph : Graph 
           free-on : Free blocks out visited₁
           free-on = record {
             size = length-set visited current true ∙ inv .free .size;
-            left = omega (arith, inv .free .left, ea .count, room-is);
+            left = omega (arith, inv .free .left, ea .longer, room-is);
             listed = ea .listed (rowsOf blocks) (pre .ends current (inv .here)) (inv .free .listed);
           }
 
@@ -346,7 +346,7 @@ module _ {ia ib : List ℕ} {blocks : Blocks} {edges : List ℕ} (graph : Graph 
     pub end-visited : getD visited block false ≡ true → false ≡ End
     end-visited q = end-by q refl refl
 
-    module _ (h : block < blocks .count) (q : getD visited block false ≡ false) {x : ℕ}
+    module _ (h : block < blocks .many) (q : getD visited block false ≡ false) {x : ℕ}
         (ex : x ≡ neighbor edges (getD ia (getD (blocks .starts) block 0) 0) block) where
       pub end-a : x ≡ 96 → true ≡ End
       end-a w = end-by q (eq-eqb _ _ (sym (near ia block h ex) ∙ w)) refl
@@ -384,12 +384,12 @@ module _ {ia ib : List ℕ} {blocks : Blocks} {edges : List ℕ} (graph : Graph 
     is = loop-none From none-seen;
     free = record {
       size = length-replicate {A = Bool} 96 false;
-      left = omega (arith, room-none pre (blocks .count) (omega arith), pre .most);
+      left = omega (arith, room-none pre (blocks .many) (omega arith), pre .most);
       listed = l;
     };
   }
 
-  module _ {k : ℕ} {order : Order} {visited : List Bool} (inv : Sos k order visited) (h : k < blocks .count) {found : Bool} {out : Order} {t : List Bool}
+  module _ {k : ℕ} {order : Order} {visited : List Bool} (inv : Sos k order visited) (h : k < blocks .many) {found : Bool} {out : Order} {t : List Bool}
       (w : Walks blocks found out t (From k (seenOf order visited))) where
     pub walks-more : found ≡ true → Sos (k + 1) out t
     walks-more e = record { is = loop-more From none-seen (inv .is) (seen-yes w e); free = w .free e }
@@ -397,14 +397,14 @@ module _ {ia ib : List ℕ} {blocks : Blocks} {edges : List ℕ} (graph : Graph 
     pub walks-lost : found ≡ false → {last : Order} → Orders blocks false last All
     unfolding pathWalks
     walks-lost e = record {
-      is = ap orderIn (loop-stop From none-seen (blocks .count) h (inv .is) (seen-no w e) ∙ ap (λ (m : ℕ). loop m From none-seen) (sym count-is));
+      is = ap orderIn (loop-stop From none-seen (blocks .many) h (inv .is) (seen-no w e) ∙ ap (λ (m : ℕ). loop m From none-seen) (sym many-is));
       listed = λ f. absurd (false-true f);
     }
 
-  pub walks-end : {k : ℕ} {order : Order} {visited : List Bool} → Sos k order visited → k ≤ blocks .count → blocks .count ≤ k → Orders blocks true order All
+  pub walks-end : {k : ℕ} {order : Order} {visited : List Bool} → Sos k order visited → k ≤ blocks .many → blocks .many ≤ k → Orders blocks true order All
   unfolding pathWalks
   walks-end inv a b = record {
-    is = ap orderIn (loop-end From none-seen a b (inv .is) ∙ ap (λ (m : ℕ). loop m From none-seen) (sym count-is));
+    is = ap orderIn (loop-end From none-seen a b (inv .is) ∙ ap (λ (m : ℕ). loop m From none-seen) (sym many-is));
     listed = λ _. inv .free .listed;
   }
 
@@ -427,8 +427,8 @@ unfolding finish _>>=_
 finish-is n (go seen) = refl
 finish-is n (stop _) = refl
 
-length-is : (order : Order) → length (orderOf order) ≡ order .count
-length-is order = tab-length (order .count) (λ k. getD (order .rows) k 0)
+length-is : (order : Order) → length (orderOf order) ≡ order .listed
+length-is order = tab-length (order .listed) (λ k. getD (order .rows) k 0)
 
 pub no-path-is : {r : PathOrder} {n : ℕ} {d : Turn (List ℕ) (Unit {0})} → r ≡ noPath → stop tt ≡ d → Ordered n r d
 no-path-is {r} {n} h e = record {
@@ -472,12 +472,12 @@ module _ {ia ib : List ℕ} {n : ℕ} {before starts : List ℕ} {blocks : ℕ} 
       ended-is : finish n (go (orderOf order)) ≡ Defined
       ended-is = ap (finish n) (cond-yes _ _ yes-found) ∙ walked-is
 
-      pub order-short : (order .count ≡ n → ⊥) → stop tt ≡ Defined
+      pub order-short : (order .listed ≡ n → ⊥) → stop tt ≡ Defined
       unfolding finish
       order-short h = then-stop _ (returns-if (tt {0}) (ap not (ne-eqb (length (orderOf order)) n (λ q. h (sym (length-is order) ∙ q))))) ∙ ended-is
 
       -- the path is found: its order lists n rows below n, and behind them its table is 0
-      pub order-found : order .count ≡ n → Ordered n (record { found = true; rows = order .rows }) Defined
+      pub order-found : order .listed ≡ n → Ordered n (record { found = true; rows = order .rows }) Defined
       unfolding finish
       order-found h = record {
         is = ap (λ (m : ℕ). go (listAt (order .rows) m)) (sym h)

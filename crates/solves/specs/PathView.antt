@@ -29,26 +29,26 @@ Bodies l n = (k : ℕ) → k < n → getD l k 0 < 16
 -- the first row of each block; after the last block stands the number of rows
 pub record Blocks : Type 0 where
   pub starts : List ℕ
-  pub count : ℕ
+  pub many : ℕ
 
 abbrev pub blocksAt : List ℕ → ℕ → Blocks
-blocksAt starts count = record { starts = starts; count = count }
+blocksAt starts many = record { starts = starts; many = many }
 
 abbrev pub startsOf : Blocks → List ℕ
-startsOf blocks = listAt (blocks .starts) (blocks .count)
+startsOf blocks = listAt (blocks .starts) (blocks .many)
 
 abbrev pub rowsOf : Blocks → ℕ
-rowsOf blocks = getD (blocks .starts) (blocks .count) 0
+rowsOf blocks = getD (blocks .starts) (blocks .many) 0
 
 abbrev pub sizeOf : Blocks → ℕ → ℕ
 sizeOf blocks k = getD (blocks .starts) (k + 1) 0 - getD (blocks .starts) k 0
 
 pub record Blocked (ia ib : List ℕ) (blocks : Blocks) : Type 0 where
   pub most : rowsOf blocks ≤ 96
-  pub few : blocks .count ≤ rowsOf blocks
-  pub inside : (k : ℕ) → k < blocks .count → getD (blocks .starts) k 0 < rowsOf blocks
-  pub ends : (k : ℕ) → k < blocks .count → getD (blocks .starts) (k + 1) 0 ≤ rowsOf blocks
-  pub rising : (k : ℕ) → k < blocks .count → getD (blocks .starts) k 0 ≤ getD (blocks .starts) (k + 1) 0
+  pub few : blocks .many ≤ rowsOf blocks
+  pub inside : (k : ℕ) → k < blocks .many → getD (blocks .starts) k 0 < rowsOf blocks
+  pub ends : (k : ℕ) → k < blocks .many → getD (blocks .starts) (k + 1) 0 ≤ rowsOf blocks
+  pub rising : (k : ℕ) → k < blocks .many → getD (blocks .starts) k 0 ≤ getD (blocks .starts) (k + 1) 0
   pub a-there : Bodies ia (rowsOf blocks)
   pub b-there : Bodies ib (rowsOf blocks)
 
@@ -77,7 +77,7 @@ pub record Linking (m : ℕ) (edges : List ℕ) : Type 0 where
 -- blocks and their edges, which every walk goes along
 pub record Graph (ia ib : List ℕ) (blocks : Blocks) (edges : List ℕ) : Type 0 where
   pub blocked : Blocked ia ib blocks
-  pub linking : Linking (blocks .count) edges
+  pub linking : Linking (blocks .many) edges
 
 abbrev pub OnGraph : Slice ℕ → Slice ℕ → Slice ℕ → ℕ → Slice ℕ → Type 0
 OnGraph ia ib starts blocks edges = Graph (ia .now) (ib .now) (blocksAt (starts .now) blocks) (edges .now)
@@ -87,16 +87,16 @@ pub record Edged (m : ℕ) (noted : Bool) (edges : List ℕ) (defined : Turn (Li
   pub is : edgesAs noted edges ≡ defined
   pub links : noted ≡ true → Linking m edges
 
--- ---- the order: the first `count` of an array
+-- ---- the order: the first `listed` of an array
 pub record Order : Type 0 where
   pub rows : List ℕ
-  pub count : ℕ
+  pub listed : ℕ
 
 abbrev pub orderAt : List ℕ → ℕ → Order
-orderAt rows count = record { rows = rows; count = count }
+orderAt rows listed = record { rows = rows; listed = listed }
 
 abbrev pub orderOf : Order → List ℕ
-orderOf order = listAt (order .rows) (order .count)
+orderOf order = listAt (order .rows) (order .listed)
 
 abbrev pub seenOf : Order → List Bool → Seen
 seenOf order visited = record { order = orderOf order; visited = visited }
@@ -104,15 +104,15 @@ seenOf order visited = record { order = orderOf order; visited = visited }
 -- what an order lists are rows below n; behind them its table is 0
 pub record Listed (order : Order) (n : ℕ) : Type 0 where
   pub size : length (order .rows) ≡ 96
-  pub rows : (i : ℕ) → i < order .count → getD (order .rows) i 0 < n
-  pub blank : (i : ℕ) → order .count ≤ i → i < 96 → getD (order .rows) i 0 ≡ 0
+  pub rows : (i : ℕ) → i < order .listed → getD (order .rows) i 0 < n
+  pub blank : (i : ℕ) → order .listed ≤ i → i < 96 → getD (order .rows) i 0 ≡ 0
 
 -- `append` of the rows from..to, when it is at i: they stand behind the order, and behind them the table is as it was
 pub record Appended (order : Order) (from to i : ℕ) (out : Order) : Type 0 where
   pub size : length (out .rows) ≡ 96
-  pub count : out .count ≡ order .count + (i - from)
+  pub longer : out .listed ≡ order .listed + (i - from)
   pub is : orderOf out ≡ orderOf order ++ run from i
-  pub rest : (j : ℕ) → out .count ≤ j → getD (out .rows) j 0 ≡ getD (order .rows) j 0
+  pub rest : (j : ℕ) → out .listed ≤ j → getD (out .rows) j 0 ≡ getD (order .rows) j 0
   pub listed : (n : ℕ) → to ≤ n → Listed order n → Listed out n
 
 -- how many rows the blocks before k have that were not visited
@@ -123,7 +123,7 @@ room blocks visited (suc k) = room blocks visited k + cond (getD visited k false
 -- an order and what was visited: there is room for the rows of all other blocks
 pub record Free (blocks : Blocks) (order : Order) (visited : List Bool) : Type 0 where
   pub size : length visited ≡ 96
-  pub left : order .count + room blocks visited (blocks .count) ≤ 96
+  pub left : order .listed + room blocks visited (blocks .many) ≤ 96
   pub listed : Listed order (rowsOf blocks)
 
 -- ---- the definitions on the arrays
@@ -199,12 +199,14 @@ placeOf line t = line .first + line .on * t - line .back * t
 abbrev pub lineAt : List Float → Line → ℕ → Float
 lineAt s line t = at s (placeOf line t)
 
--- number t of a line stands in the scratch, and so do the first `terms`
+-- number t of a line stands in the scratch, and so do the first `terms` of two lines
 abbrev pub InLine : Line → ℕ → Type 0
 InLine line t = (line .back * t ≤ line .first + line .on * t) × (line .first + line .on * t < END)
 
-abbrev pub Lies : Line → ℕ → Type 0
-Lies line terms = (t : ℕ) → t < terms → InLine line t
+pub record Lie (s : List Float) (a b : Line) (terms : ℕ) : Type 0 where
+  pub whole : END ≤ length s
+  pub first : (t : ℕ) → t < terms → InLine a t
+  pub second : (t : ℕ) → t < terms → InLine b t
 
 -- path_band[i][i - k], path_band[k][k - i] and path_rhs[k], for k from `from` on
 abbrev pub rowLine : ℕ → ℕ → Line

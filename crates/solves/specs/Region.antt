@@ -7,9 +7,9 @@ use Rattle.arith.specs.Flow.{tab}
 use Rattle.rows.specs.View.{at, Kept}
 pub use Rattle.rows.specs.Append.{Filled}
 
--- the n doubles at off
+-- the n doubles at place
 abbrev pub vecAt : List Float → ℕ → ℕ → List Float
-vecAt s off n = tab n (λ k. at s (off + k))
+vecAt s place n = tab n (λ k. at s (place + k))
 
 -- what a function does: it leaves t for s as P allows, and its answer x is what is defined
 pub record Does {A : Type 0} (P : ℕ → Type 0) (s t : List Float) (x defined : A) : Type 0 where

@@ -32,18 +32,18 @@ noGeneralized = generalizedIn [] 0
 abbrev pub noMass : MassResponse
 noMass = massIn [] 0
 
--- a row is 14 doubles at off + 14 k, and its bodies are in two lists beside the scratch
+-- a row is 14 doubles at place + 14 k, and its bodies are in two lists beside the scratch
 abbrev pub rowOn : List ℕ → List ℕ → List Float → ℕ → ℕ → EqualityRow
-rowOn ia ib s off k = rowAt s (off + 14 * k) (getD ia k 0) (getD ib k 0)
+rowOn ia ib s place k = rowAt s (place + 14 * k) (getD ia k 0) (getD ib k 0)
 
 abbrev pub rowsOn : List ℕ → List ℕ → List Float → ℕ → ℕ → List EqualityRow
-rowsOn ia ib s off n = tab n (rowOn ia ib s off)
+rowsOn ia ib s place n = tab n (rowOn ia ib s place)
 
 abbrev pub generalizedAt : List Float → ℕ → ℕ → Generalized
-generalizedAt s off i = record { linear = vec3At s (off + 6 * i); angular = vec3At s (off + 6 * i + 3) }
+generalizedAt s place i = record { linear = vec3At s (place + 6 * i); angular = vec3At s (place + 6 * i + 3) }
 
 abbrev pub generalizedsAt : List Float → ℕ → ℕ → List Generalized
-generalizedsAt s off body-count = tab body-count (generalizedAt s off)
+generalizedsAt s place body-count = tab body-count (generalizedAt s place)
 
 -- the bodies' shares, where `transpose` leaves them
 abbrev pub sharesIn : List Float → ℕ → List Generalized
@@ -53,10 +53,10 @@ abbrev pub massOf : Float → Vec3 → Vec3 → Vec3 → MassResponse
 massOf linear x y z = record { linear = linear; angular = fromCols x y z }
 
 abbrev pub massAt : List Float → ℕ → ℕ → MassResponse
-massAt s off i = massOf (at s (off + 10 * i)) (vec3At s (off + 10 * i + 1)) (vec3At s (off + 10 * i + 4)) (vec3At s (off + 10 * i + 7))
+massAt s place i = massOf (at s (place + 10 * i)) (vec3At s (place + 10 * i + 1)) (vec3At s (place + 10 * i + 4)) (vec3At s (place + 10 * i + 7))
 
 abbrev pub massesAt : List Float → ℕ → ℕ → List MassResponse
-massesAt s off body-count = tab body-count (massAt s off)
+massesAt s place body-count = tab body-count (massAt s place)
 
 -- the system that stands in a table of rows
 abbrev pub systemOn : List ℕ → List ℕ → List Float → Table → System
@@ -97,7 +97,7 @@ preparedAt s n rho = record { diagonal = vecAt s DIAGONAL n; direction = vecAt s
 -- found and of the shares only those of its bodies that a transpose made, and it sets the scratch's first 6,144 doubles to zero before it answers.
 -- Outside of one vector, and of the bodies' shares. A transpose leaves free: the shares behind the last body and, where it overflows, all.
 abbrev pub Beside : ℕ → ℕ → Type 0
-Beside off i = Out off VECTOR i
+Beside place i = Out place VECTOR i
 
 abbrev pub Shares : ℕ → Type 0
 Shares i = Out GENERALIZED SHARES i
@@ -150,10 +150,10 @@ abbrev pub Ready : Slice Float → Slice ℕ → Slice ℕ → Table → Type 0
 Ready s ia ib t = Rows (s .now) (ia .now) (ib .now) (t .place) (t .rows) (t .bodies)
 
 -- a vector's place: behind rows and masses, and apart from the bodies' shares
-pub record VectorPlace (s : List Float) (off : ℕ) : Type 0 where
-  pub low : RHS ≤ off
-  pub apart : min (off + VECTOR - GENERALIZED) (GENERALIZED + SHARES - off) ≡ 0
-  pub there : off + VECTOR ≤ length s
+pub record VectorPlace (s : List Float) (place : ℕ) : Type 0 where
+  pub low : RHS ≤ place
+  pub apart : min (place + VECTOR - GENERALIZED) (GENERALIZED + SHARES - place) ≡ 0
+  pub there : place + VECTOR ≤ length s
 
 -- what stands at `from` is read before a loop over `to` writes there
 abbrev pub Ahead : ℕ → ℕ → Type 0
@@ -175,6 +175,14 @@ Along order n = (i : ℕ) → i < n → getD order i 0 < n
 -- and the others are 0
 abbrev pub Blank : List ℕ → ℕ → Type 0
 Blank order n = (i : ℕ) → n ≤ i → i < 96 → getD order i 0 ≡ 0
+
+-- n rows, and an order of them
+pub record RowsAlong (s : List Float) (ia ib order : List ℕ) (place n body-count : ℕ) : Type 0 where
+  pub rows : Rows s ia ib place n body-count
+  pub along : Along order n
+
+abbrev pub ReadyAlong : Slice Float → Slice ℕ → Slice ℕ → Table → Slice ℕ → Type 0
+ReadyAlong s ia ib t order = RowsAlong (s .now) (ia .now) (ib .now) (order .now) (t .place) (t .rows) (t .bodies)
 
 -- no path
 abbrev pub noPath : PathOrder

@@ -22,76 +22,80 @@ use Rattle.solves.specs.View.{RESIDUAL, DIRECTION, PRODUCT, DIAGONAL, NO
 
 -- views that a write keeps, and elements of them
 module _ {P : ℕ → Type 0} {s t : List Float} (kept : Kept P s t) where
-  pub kept-rows : (ia ib : List ℕ) (off n : ℕ) → Over P off (14 * n) → rowsOn ia ib t off n ≡ rowsOn ia ib s off n
-  kept-rows ia ib off n w = tab-ext n λ k h. kept-row kept (off + 14 * k) (getD ia k 0) (getD ib k 0) (λ i a b. w i (omega arith) (omega arith))
+  pub kept-rows : (ia ib : List ℕ) (place n : ℕ) → Over P place (14 * n) → rowsOn ia ib t place n ≡ rowsOn ia ib s place n
+  kept-rows ia ib place n w = tab-ext n λ k h. kept-row kept (place + 14 * k) (getD ia k 0) (getD ib k 0) (λ i a b. w i (omega arith) (omega arith))
 
-  pub kept-share : (off i : ℕ) → Over P (off + 6 * i) 6 → generalizedAt t off i ≡ generalizedAt s off i
-  kept-share off i w = λ j. record {
-    linear = kept-vec3 kept (off + 6 * i) (λ k a b. w k (omega arith) (omega arith)) j;
-    angular = kept-vec3 kept (off + 6 * i + 3) (λ k a b. w k (omega arith) (omega arith)) j;
+  pub kept-share : (place i : ℕ) → Over P (place + 6 * i) 6 → generalizedAt t place i ≡ generalizedAt s place i
+  kept-share place i w = λ j. record {
+    linear = kept-vec3 kept (place + 6 * i) (λ k a b. w k (omega arith) (omega arith)) j;
+    angular = kept-vec3 kept (place + 6 * i + 3) (λ k a b. w k (omega arith) (omega arith)) j;
   }
 
-  kept-mass : (off i : ℕ) → Over P (off + 10 * i) 10 → massAt t off i ≡ massAt s off i
-  kept-mass off i w = λ j. record {
-    linear = kept .same (off + 10 * i) (w (off + 10 * i) (omega arith) (omega arith)) j;
+  kept-mass : (place i : ℕ) → Over P (place + 10 * i) 10 → massAt t place i ≡ massAt s place i
+  kept-mass place i w = λ j. record {
+    linear = kept .same (place + 10 * i) (w (place + 10 * i) (omega arith) (omega arith)) j;
     angular = fromCols
-        (kept-vec3 kept (off + 10 * i + 1) (λ k a b. w k (omega arith) (omega arith)) j)
-        (kept-vec3 kept (off + 10 * i + 4) (λ k a b. w k (omega arith) (omega arith)) j)
-        (kept-vec3 kept (off + 10 * i + 7) (λ k a b. w k (omega arith) (omega arith)) j);
+        (kept-vec3 kept (place + 10 * i + 1) (λ k a b. w k (omega arith) (omega arith)) j)
+        (kept-vec3 kept (place + 10 * i + 4) (λ k a b. w k (omega arith) (omega arith)) j)
+        (kept-vec3 kept (place + 10 * i + 7) (λ k a b. w k (omega arith) (omega arith)) j);
   }
 
-  pub kept-masses : (off m : ℕ) → Over P off (10 * m) → massesAt t off m ≡ massesAt s off m
-  kept-masses off m w = tab-ext m λ i h. kept-mass off i (λ k a b. w k (omega arith) (omega arith))
+  pub kept-masses : (place body-count : ℕ) → Over P place (10 * body-count) → massesAt t place body-count ≡ massesAt s place body-count
+  kept-masses place body-count w = tab-ext body-count λ i h. kept-mass place i (λ k a b. w k (omega arith) (omega arith))
 
-  pub row-in : (ia ib : List ℕ) (off n k : ℕ) {row : EqualityRow} → Over P off (14 * n) → k < n → row ≡ rowOn ia ib t off k
-      → row ≡ rowIn (rowsOn ia ib s off n) k
-  row-in ia ib off n k w h e = e ∙ sym (tab-at n (rowOn ia ib t off) noRow k h) ∙ ap (λ (l : List EqualityRow). rowIn l k) (kept-rows ia ib off n w)
+  pub row-in : (ia ib : List ℕ) (place n k : ℕ) {row : EqualityRow} → Over P place (14 * n) → k < n → row ≡ rowOn ia ib t place k
+      → row ≡ rowIn (rowsOn ia ib s place n) k
+  row-in ia ib place n k w h e = e ∙ sym (tab-at n (rowOn ia ib t place) noRow k h) ∙ ap (λ (l : List EqualityRow). rowIn l k) (kept-rows ia ib place n w)
 
-  pub share-in : (off m i : ℕ) {g : Generalized} → Over P (off + 6 * i) 6 → i < m → g ≡ generalizedAt t off i → g ≡ generalizedIn (generalizedsAt s off m) i
-  share-in off m i w h e = e ∙ kept-share off i w ∙ sym (tab-at m (generalizedAt s off) noGeneralized i h)
+  pub share-in : (place body-count i : ℕ) {g : Generalized} → Over P (place + 6 * i) 6 → i < body-count → g ≡ generalizedAt t place i
+      → g ≡ generalizedIn (generalizedsAt s place body-count) i
+  share-in place body-count i w h e = e ∙ kept-share place i w ∙ sym (tab-at body-count (generalizedAt s place) noGeneralized i h)
 
-  pub mass-in : (off m i : ℕ) {g : MassResponse} → Over P off (10 * m) → i < m → g ≡ massAt t off i → g ≡ massIn (massesAt s off m) i
-  mass-in off m i w h e = e ∙ sym (tab-at m (massAt t off) noMass i h) ∙ ap (λ (l : List MassResponse). massIn l i) (kept-masses off m w)
+  pub mass-in : (place body-count i : ℕ) {g : MassResponse} → Over P place (10 * body-count) → i < body-count → g ≡ massAt t place i
+      → g ≡ massIn (massesAt s place body-count) i
+  mass-in place body-count i w h e = e ∙ sym (tab-at body-count _ noMass i h) ∙ ap (λ (l : List MassResponse). massIn l i) (kept-masses place body-count w)
 
 -- the share of one body, written: the list with it set; or, read so far, one longer
-pub shares-set : {s t : List Float} (off m i : ℕ) {g : Generalized} → i < m → (Kept (λ j. Out (off + 6 * i) 6 j) s t) × (generalizedAt t off i ≡ g)
-    → set (generalizedsAt s off m) i g ≡ generalizedsAt t off m
-shares-set {s} {t} off m i {g} h e =
-    ap (set (generalizedsAt s off m) i) (sym (e .1))
-    ∙ tab-set m (generalizedAt s off) (generalizedAt t off) g i h λ k l r. kept-share (e .0) off k (λ x y z. omega arith)
+pub shares-set : {s t : List Float} (place body-count i : ℕ) {g : Generalized} → i < body-count
+    → (Kept (λ j. Out (place + 6 * i) 6 j) s t) × (generalizedAt t place i ≡ g)
+    → set (generalizedsAt s place body-count) i g ≡ generalizedsAt t place body-count
+shares-set {s} {t} place body-count i {g} h e =
+    ap (set (generalizedsAt s place body-count) i) (sym (e .1))
+    ∙ tab-set body-count (generalizedAt s place) (generalizedAt t place) g i h λ k l r. kept-share (e .0) place k (λ x y z. omega arith)
 
-pub shares-more : {s t : List Float} (off k : ℕ) {g : Generalized} → (Kept (λ j. Out (off + 6 * k) 6 j) s t) × (generalizedAt t off k ≡ g)
-    → generalizedsAt t off (k + 1) ≡ generalizedsAt s off k ++ (g ∷ [])
-shares-more {s} {t} off k {g} e = tab-more k (λ i h. kept-share (e .0) off i (λ x y z. omega arith)) (e .1)
+pub shares-more : {s t : List Float} (place k : ℕ) {g : Generalized} → (Kept (λ j. Out (place + 6 * k) 6 j) s t) × (generalizedAt t place k ≡ g)
+    → generalizedsAt t place (k + 1) ≡ generalizedsAt s place k ++ (g ∷ [])
+shares-more {s} {t} place k {g} e = tab-more k (λ i h. kept-share (e .0) place i (λ x y z. omega arith)) (e .1)
 
 -- the mass response of one body more
-pub masses-more : {s t : List Float} (off k : ℕ) {g : MassResponse} → (Kept (λ j. Out (off + 10 * k) 10 j) s t) × (massAt t off k ≡ g)
-    → massesAt t off (k + 1) ≡ massesAt s off k ++ (g ∷ [])
-masses-more {s} {t} off k {g} e = tab-more k (λ i h. kept-mass (e .0) off i (λ x y z. omega arith)) (e .1)
+pub masses-more : {s t : List Float} (place k : ℕ) {g : MassResponse} → (Kept (λ j. Out (place + 10 * k) 10 j) s t) × (massAt t place k ≡ g)
+    → massesAt t place (k + 1) ≡ massesAt s place k ++ (g ∷ [])
+masses-more {s} {t} place k {g} e = tab-more k (λ i h. kept-mass (e .0) place i (λ x y z. omega arith)) (e .1)
 
 -- cleared: no body has a share
-pub shares-none : {s t : List Float} (off m : ℕ) → Filled off (6 * m) (λ _. ratio 0 1) s t → generalizedsAt t off m ≡ replicate m noShare
-shares-none {s} {t} off m e = sym (is-tab m (generalizedAt t off) noShare (replicate m noShare) (length-replicate m noShare) λ k h.
-    getD-replicate m k noShare noShare h ∙ sym (share k h))
+pub shares-none : {s t : List Float} (place body-count : ℕ) → Filled place (6 * body-count) (λ _. ratio 0 1) s t
+    → generalizedsAt t place body-count ≡ replicate body-count noShare
+shares-none {s} {t} place body-count e = sym (is-tab body-count _ noShare (replicate body-count noShare) (length-replicate body-count noShare) λ k h.
+    getD-replicate body-count k noShare noShare h ∙ sym (share k h))
   where
-    zeroed : (k i : ℕ) → k < m → off ≤ i → i < off + 6 * m → at t i ≡ ratio 0 1
+    zeroed : (k i : ℕ) → k < body-count → place ≤ i → i < place + 6 * body-count → at t i ≡ ratio 0 1
     zeroed k i h a b =
-        let x : off + (i - off) ≡ i = omega arith in
-        ap (at t) (sym x) ∙ e .there (i - off) (omega arith)
+        let x : place + (i - place) ≡ i = omega arith in
+        ap (at t) (sym x) ∙ e .there (i - place) (omega arith)
 
-    share : (k : ℕ) → k < m → generalizedAt t off k ≡ noShare
+    share : (k : ℕ) → k < body-count → generalizedAt t place k ≡ noShare
     share k h = λ j. record {
       linear =
           record {
-            x = zeroed k (off + 6 * k) h (omega arith) (omega arith) j;
-            y = zeroed k (off + 6 * k + 1) h (omega arith) (omega arith) j;
-            z = zeroed k (off + 6 * k + 2) h (omega arith) (omega arith) j;
+            x = zeroed k (place + 6 * k) h (omega arith) (omega arith) j;
+            y = zeroed k (place + 6 * k + 1) h (omega arith) (omega arith) j;
+            z = zeroed k (place + 6 * k + 2) h (omega arith) (omega arith) j;
           };
       angular =
           record {
-            x = zeroed k (off + 6 * k + 3) h (omega arith) (omega arith) j;
-            y = zeroed k (off + 6 * k + 3 + 1) h (omega arith) (omega arith) j;
-            z = zeroed k (off + 6 * k + 3 + 2) h (omega arith) (omega arith) j;
+            x = zeroed k (place + 6 * k + 3) h (omega arith) (omega arith) j;
+            y = zeroed k (place + 6 * k + 3 + 1) h (omega arith) (omega arith) j;
+            z = zeroed k (place + 6 * k + 3 + 2) h (omega arith) (omega arith) j;
           };
     }
 
@@ -100,11 +104,11 @@ pub out-within : (a n b m i : ℕ) → a ≤ b → b + m ≤ a + n → Out a n i
 out-within a n b m i h l x = omega arith
 
 -- what a pass writes: a vector before the diagonal, the normal, and the shares
-pub passing-vector : (off : ℕ) → SOLUTION ≤ off → off + VECTOR ≤ DIAGONAL → (i : ℕ) → Passing i → Beside off i
-passing-vector off h l i x = out-within SOLUTION (DIAGONAL - SOLUTION) off VECTOR i h (omega arith) (x .0)
+pub passing-vector : (place : ℕ) → SOLUTION ≤ place → place + VECTOR ≤ DIAGONAL → (i : ℕ) → Passing i → Beside place i
+passing-vector place h l i x = out-within SOLUTION (DIAGONAL - SOLUTION) place VECTOR i h (omega arith) (x .0)
 
-pub passing-moves : (off : ℕ) → SOLUTION ≤ off → off + VECTOR ≤ DIAGONAL → (i : ℕ) → Passing i → Operating off i
-passing-moves off h l i x = (out-within NORMAL (PATH-BAND - NORMAL) GENERALIZED SHARES i (omega arith) (omega arith) (x .1), passing-vector off h l i x)
+pub passing-moves : (place : ℕ) → SOLUTION ≤ place → place + VECTOR ≤ DIAGONAL → (i : ℕ) → Passing i → Operating place i
+passing-moves place h l i x = (out-within NORMAL (PATH-BAND - NORMAL) GENERALIZED SHARES i (omega arith) (omega arith) (x .1), passing-vector place h l i x)
 
 pub passing-normal : (i : ℕ) → Passing i → Operating NORMAL i
 passing-normal i x = (
@@ -176,7 +180,7 @@ tables-work i t =
 -- what a solve leaves of the system that it began with
 pub system-kept : {P : ℕ → Type 0} {s t : List Float} (ia ib : List ℕ) (table : Table) → Over P 0 RHS → table .place ≤ ROWS → table .rows ≤ ROWS-MOST
     → table .bodies ≤ BODIES-MOST → Kept P s t → systemOn ia ib t table ≡ systemOn ia ib s table
-system-kept ia ib table w place rows bodies k = λ j. record {
+system-kept ia ib table w low most few k = λ j. record {
   rows = kept-rows k ia ib (table .place) (table .rows) (λ i x y. w i (omega arith) (omega arith)) j;
   masses = kept-masses k MASSES (table .bodies) (λ i x y. w i (omega arith) (omega arith)) j;
 }

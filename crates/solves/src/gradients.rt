@@ -3,6 +3,7 @@ use crate::End;
 use crate::Ended;
 use crate::Next;
 use crate::Pass;
+use crate::PerRow;
 use crate::Sum;
 use crate::Table;
 use crate::done;
@@ -23,7 +24,6 @@ use crate::search::Which;
 use crate::search::search;
 use crate::values::add_scaled;
 use crate::values::difference;
-use crate::values::sub_scaled;
 use arith::number::is_finite;
 use arith::root::sqrt;
 use rows::geometry::EqualityRow;
@@ -69,7 +69,7 @@ fn diagonal_entry(row: EqualityRow, ma: MassResponse, mb: MassResponse) -> f64
 }
 
 // The diagonal, the first direction, and rho.
-fn prepare(s: &mut [f64], ia: &[usize; 96], ib: &[usize; 96], t: Table) -> Begun
+fn prepare(s: &mut [f64], ia: &PerRow, ib: &PerRow, t: Table) -> Begun
     requires { ⌜ Ready s ia ib t ⌝ }
     ensures { λ r. ⌜ Does Preparing (came s) (left s) (preparedAs r (left s) (t .rows)) (prepareOf (systemIn s ia ib t) (residualOn s t)) ⌝ }
 {
@@ -119,13 +119,7 @@ fn next_direction(s: &mut [f64], beta: f64, n: usize)
 }
 
 // Recomputes the residual, to prevent a success of the recurrence only. Over where it is within the tolerance still.
-fn true_residual(
-    s: &mut [f64],
-    ia: &[usize; 96],
-    ib: &[usize; 96],
-    t: Table,
-    tolerance: f64,
-) -> Pass
+fn true_residual(s: &mut [f64], ia: &PerRow, ib: &PerRow, t: Table, tolerance: f64) -> Pass
     requires { ⌜ Ready s ia ib t ⌝ }
     ensures { λ r. ⌜ Does Testing (came s) (left s) (trueAs r (vecAt (left s) RESIDUAL (t .rows)))
         (trueResidual (systemIn s ia ib t) (rhsOn s t) tolerance (solutionOn s t) (residualOn s t)) ⌝ }
@@ -146,7 +140,7 @@ fn true_residual(
 }
 
 // The first half of a pass: along the direction as far as the curvature says.
-fn advance(s: &mut [f64], ia: &[usize; 96], ib: &[usize; 96], t: Table, rho: f64) -> End
+fn advance(s: &mut [f64], ia: &PerRow, ib: &PerRow, t: Table, rho: f64) -> End
     requires { ⌜ Ready s ia ib t ⌝ }
     ensures { λ r. ⌜ Does Passing (came s) (left s) (ranAs r (searchAt (left s) (t .rows) rho)) (advanceOf (systemIn s ia ib t) (searchOn s t rho)) ⌝ }
 {
@@ -166,19 +160,13 @@ fn advance(s: &mut [f64], ia: &[usize; 96], ib: &[usize; 96], t: Table, rho: f64
     }
     let alpha = rho / curvature;
     add_scaled(s, SOLUTION, SOLUTION, alpha, DIRECTION, n);
-    sub_scaled(s, RESIDUAL, RESIDUAL, alpha, PRODUCT, n);
+    // a - alpha * b is a + (-alpha) * b, bit for bit
+    add_scaled(s, RESIDUAL, RESIDUAL, -alpha, PRODUCT, n);
     End::Done
 }
 
 // The second half: done, or the next direction.
-fn settle(
-    s: &mut [f64],
-    ia: &[usize; 96],
-    ib: &[usize; 96],
-    t: Table,
-    tolerance: f64,
-    rho: f64,
-) -> Next
+fn settle(s: &mut [f64], ia: &PerRow, ib: &PerRow, t: Table, tolerance: f64, rho: f64) -> Next
     requires { ⌜ Ready s ia ib t ⌝ }
     ensures { λ r. ⌜ Does Passing (came s) (left s) (searchAs r (left s) (t .rows))
         (settleOf (systemIn s ia ib t) (rhsOn s t) (diagonalOn s t) tolerance (searchOn s t rho)) ⌝ }
@@ -194,8 +182,8 @@ fn settle(
 
 pub(crate) fn gradient_pass(
     s: &mut [f64],
-    ia: &[usize; 96],
-    ib: &[usize; 96],
+    ia: &PerRow,
+    ib: &PerRow,
     t: Table,
     tolerance: f64,
     rho: f64,
@@ -214,7 +202,7 @@ pub(crate) fn gradient_pass(
     settle(s, ia, ib, t, tolerance, rho)
 }
 
-pub(crate) fn gradients(s: &mut [f64], ia: &[usize; 96], ib: &[usize; 96], t: Table) -> Ended
+pub(crate) fn gradients(s: &mut [f64], ia: &PerRow, ib: &PerRow, t: Table) -> Ended
     requires { ⌜ Ready s ia ib t ⌝ }
     ensures { λ r. ⌜ Solves s ia ib t r (λ system. gradientsOf system (rhsOn s t) (solutionOn s t) (residualOn s t)) ⌝ }
 {

@@ -3,6 +3,7 @@
 use crate::End;
 use crate::Ended;
 use crate::Next;
+use crate::PerRow;
 use crate::Sum;
 use crate::Table;
 use crate::done;
@@ -18,7 +19,6 @@ use crate::search::Which;
 use crate::search::search;
 use crate::values::add_scaled;
 use crate::values::copy;
-use crate::values::sub_scaled;
 use arith::root::sqrt;
 ghost use Rattle.solves.specs.Search.{leastPass, leastSquares};
 ghost use Rattle.solves.specs.Answer.{searchAs, Solves};
@@ -28,8 +28,8 @@ ghost use Rattle.solves.specs.View.{systemIn, rhsOn, solutionOn, residua
 
 pub(crate) fn least_pass(
     s: &mut [f64],
-    ia: &[usize; 96],
-    ib: &[usize; 96],
+    ia: &PerRow,
+    ib: &PerRow,
     t: Table,
     tolerance: f64,
     norm: f64,
@@ -53,7 +53,8 @@ pub(crate) fn least_pass(
     }
     let alpha = norm / denominator;
     add_scaled(s, SOLUTION, SOLUTION, alpha, DIRECTION, n);
-    sub_scaled(s, RESIDUAL, RESIDUAL, alpha, PRODUCT, n);
+    // a - alpha * b is a + (-alpha) * b, bit for bit
+    add_scaled(s, RESIDUAL, RESIDUAL, -alpha, PRODUCT, n);
     let back = operator(s, ia, ib, t, RESIDUAL, NORMAL);
     if !done(back) {
         return Next::Over(back);
@@ -65,7 +66,7 @@ pub(crate) fn least_pass(
     Next::Rho(next)
 }
 
-pub(crate) fn least_squares(s: &mut [f64], ia: &[usize; 96], ib: &[usize; 96], t: Table) -> Ended
+pub(crate) fn least_squares(s: &mut [f64], ia: &PerRow, ib: &PerRow, t: Table) -> Ended
     requires { ⌜ Ready s ia ib t ⌝ }
     ensures { λ r. ⌜ Solves s ia ib t r (λ system. leastSquares system (rhsOn s t) (solutionOn s t) (residualOn s t)) ⌝ }
 {

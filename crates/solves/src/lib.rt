@@ -39,6 +39,9 @@ pub struct Ended {
     pub linear: usize,
 }
 
+// A number for each row: one of its bodies, or the row at its place in an order. There are at most 96 rows.
+pub type PerRow = [usize; 96];
+
 // Rows in the scratch: where they stand, how many, and on how many bodies.
 pub struct Table {
     pub place: usize,

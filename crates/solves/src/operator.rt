@@ -1,5 +1,6 @@
 // `dot`, `transpose`, `operator` and `cross_mass` of solver.rs.
 use crate::End;
+use crate::PerRow;
 use crate::Sum;
 use crate::Table;
 use crate::done;
@@ -124,7 +125,7 @@ fn shares_finite(s: &[f64], body_count: usize) -> bool
 }
 
 // Each body's share of the rows times their values.
-pub fn transpose(s: &mut [f64], ia: &[usize; 96], ib: &[usize; 96], t: Table, values: usize) -> End
+pub fn transpose(s: &mut [f64], ia: &PerRow, ib: &PerRow, t: Table, values: usize) -> End
     requires { ⌜ (Ready s ia ib t) × (VectorPlace (now s) values) ⌝ }
     ensures { λ r. ⌜ Pushes s ia ib t r (λ rows. transposeOf rows (vecAt (came s) values (t .rows)) (t .bodies)) ⌝ }
 {
@@ -186,7 +187,7 @@ fn rate(row: EqualityRow, a: Generalized, b: Generalized) -> f64
         + row.angular_b.dot(b.angular)
 }
 
-fn rates(s: &mut [f64], ia: &[usize; 96], ib: &[usize; 96], t: Table, out: usize) -> End
+fn rates(s: &mut [f64], ia: &PerRow, ib: &PerRow, t: Table, out: usize) -> End
     requires { ⌜ (Ready s ia ib t) × (VectorPlace (now s) out) ⌝ }
     ensures { λ r. ⌜ Does (Beside out) (came s) (left s) (ranAs r (vecAt (left s) out (t .rows)))
         (ratesOf (systemIn s ia ib t .rows) (t .rows) (sharesIn (came s) (t .bodies))) ⌝ }
@@ -208,8 +209,8 @@ fn rates(s: &mut [f64], ia: &[usize; 96], ib: &[usize; 96], t: Table, out: usize
 // The rows' Schur operator on `input`: back to the bodies, through their masses, and along the rows again.
 pub(crate) fn operator(
     s: &mut [f64],
-    ia: &[usize; 96],
-    ib: &[usize; 96],
+    ia: &PerRow,
+    ib: &PerRow,
     t: Table,
     input: usize,
     out: usize,

@@ -3,6 +3,7 @@
 use crate::End;
 use crate::Ended;
 use crate::Pass;
+use crate::PerRow;
 use crate::Sum;
 use crate::Table;
 use crate::done;
@@ -39,12 +40,12 @@ ghost use Rattle.solves.specs.Answer.{sumAs, ranAs, edgesAs, Solves};
 ghost use Rattle.solves.specs.Lent.{came, left};
 ghost use Rattle.solves.specs.PathView.{Bodies, blocksAt, rowsOf, Noted, Parted, OnGraph, Edged, orderAt, Listed, Appended, Free};
 ghost use Rattle.solves.specs.PathView.{edgesOn, walkOn, endOn, fromOn, walksOn, walkedWith, WalksOn, Orders, Ordered, onPath, BandAs, byFactor};
-ghost use Rattle.solves.specs.PathView.{placeOf, lineAt, InLine, Lies, rowLine, columnLine, sideLine};
+ghost use Rattle.solves.specs.PathView.{placeOf, lineAt, InLine, Lie, rowLine, columnLine, sideLine};
 ghost use Rattle.solves.specs.Region.{vecAt, Does};
 ghost use Rattle.solves.specs.View.{listAt, Along, noPath, bandAt, factorAt, refinedAt, Refining, Factoring};
 ghost use Rattle.solves.specs.View.{SOLUTION, RESIDUAL, PATH-SCALE, PATH-RHS, END, Beside};
 ghost use Rattle.solves.specs.Search.{refinement, pathAlong};
-ghost use Rattle.solves.specs.View.{systemIn, rhsOn, solutionOn, orderOn, Ready};
+ghost use Rattle.solves.specs.View.{systemIn, rhsOn, solutionOn, orderOn, ReadyAlong};
 
 // No block: the Rust's `usize::MAX`. There are at most 96 blocks.
 const NONE: usize = 96;
@@ -52,7 +53,7 @@ const NONE: usize = 96;
 // Whether the graph is a path, and the rows in its order.
 pub(crate) struct PathOrder {
     pub found: bool,
-    pub rows: [usize; 96],
+    pub rows: PerRow,
 }
 
 // Whether a walk came to an end of the path, and how many rows stand in order then.
@@ -70,7 +71,7 @@ impl Walked {
 }
 
 // How many runs of rows on one pair of bodies there are: block k is the rows from `starts[k]` to before `starts[k + 1]`.
-fn path_blocks(ia: &[usize; 96], ib: &[usize; 96], n: usize, starts: &mut [usize; 97]) -> usize
+fn path_blocks(ia: &PerRow, ib: &PerRow, n: usize, starts: &mut [usize; 97]) -> usize
     requires { ⌜ (n ≤ 96) × (Bodies (now ia) n) × (Bodies (now ib) n) × (length (now starts) ≡ 97) ⌝ }
     ensures { λ r. ⌜ Parted (came ia) (came ib) n (came starts) (left starts) r ⌝ }
 {
@@ -83,7 +84,7 @@ fn path_blocks(ia: &[usize; 96], ib: &[usize; 96], n: usize, starts: &mut [usize
 }
 
 // Whether row i joins another pair than the row before it.
-fn begins(ia: &[usize; 96], ib: &[usize; 96], i: usize) -> bool
+fn begins(ia: &PerRow, ib: &PerRow, i: usize) -> bool
     requires { ⌜ i < 96 ⌝ }
     ensures { λ r. ⌜ r ≡ beginsOf (came ia) (came ib) i ⌝ }
 {
@@ -99,13 +100,7 @@ fn begins(ia: &[usize; 96], ib: &[usize; 96], i: usize) -> bool
 }
 
 // Notes row i where a block begins with it, and how many blocks there are then.
-fn note_start(
-    ia: &[usize; 96],
-    ib: &[usize; 96],
-    starts: &mut [usize; 97],
-    blocks: usize,
-    i: usize,
-) -> usize
+fn note_start(ia: &PerRow, ib: &PerRow, starts: &mut [usize; 97], blocks: usize, i: usize) -> usize
     requires { ⌜ (i < 96) × (blocks < 97) ⌝ }
     ensures { λ r. ⌜ Noted (beginsOf (came ia) (came ib) i) (came starts) blocks i (left starts) r ⌝ }
 {
@@ -133,8 +128,8 @@ fn add_edge(edges: &mut [usize; 32], body: usize, block: usize) -> bool
 }
 
 fn path_edges(
-    ia: &[usize; 96],
-    ib: &[usize; 96],
+    ia: &PerRow,
+    ib: &PerRow,
     starts: &[usize; 97],
     blocks: usize,
     edges: &mut [usize; 32],
@@ -189,7 +184,7 @@ fn next_block(a: usize, b: usize, previous: usize) -> usize
 }
 
 // The rows of a block at the end of the order, and how many stand there then.
-fn append(rows: &mut [usize; 96], listed: usize, from: usize, to: usize) -> usize
+fn append(rows: &mut PerRow, listed: usize, from: usize, to: usize) -> usize
     requires { ⌜ (from ≤ to) × (to ≤ 96) × (listed + (to - from) ≤ 96) × (length (now rows) ≡ 96) ⌝ }
     ensures { λ r. ⌜ Appended (orderAt (came rows) listed) from to to (orderAt (left rows) r) ⌝ }
 {
@@ -203,14 +198,14 @@ fn append(rows: &mut [usize; 96], listed: usize, from: usize, to: usize) -> usiz
 
 // Follows the blocks from `first` to the other end. The order is lent, so that no table is copied from call to call.
 fn walk(
-    ia: &[usize; 96],
-    ib: &[usize; 96],
+    ia: &PerRow,
+    ib: &PerRow,
     starts: &[usize; 97],
     blocks: usize,
     edges: &[usize; 32],
     visited: &mut [bool; 96],
     first: usize,
-    rows: &mut [usize; 96],
+    rows: &mut PerRow,
     listed: usize,
 ) -> Walked
     requires { ⌜ (OnGraph ia ib starts blocks edges) × (first < blocks) × (Free (blocksAt (now starts) blocks) (orderAt (now rows) listed) (now visited)) ⌝ }
@@ -242,8 +237,8 @@ fn walk(
 
 // Whether a block has a free end and was not visited yet.
 fn is_end(
-    ia: &[usize; 96],
-    ib: &[usize; 96],
+    ia: &PerRow,
+    ib: &PerRow,
     starts: &[usize; 97],
     blocks: usize,
     edges: &[usize; 32],
@@ -265,14 +260,14 @@ fn is_end(
 
 // Follows the blocks from `first` if a path ends there.
 fn walk_from(
-    ia: &[usize; 96],
-    ib: &[usize; 96],
+    ia: &PerRow,
+    ib: &PerRow,
     starts: &[usize; 97],
     blocks: usize,
     edges: &[usize; 32],
     visited: &mut [bool; 96],
     first: usize,
-    rows: &mut [usize; 96],
+    rows: &mut PerRow,
     listed: usize,
 ) -> Walked
     requires { ⌜ (OnGraph ia ib starts blocks edges) × (first < blocks) × (Free (blocksAt (now starts) blocks) (orderAt (now rows) listed) (now visited)) ⌝ }
@@ -286,12 +281,12 @@ fn walk_from(
 
 // Walks from every end into `rows`, which comes blank.
 fn path_walks(
-    ia: &[usize; 96],
-    ib: &[usize; 96],
+    ia: &PerRow,
+    ib: &PerRow,
     starts: &[usize; 97],
     blocks: usize,
     edges: &[usize; 32],
-    rows: &mut [usize; 96],
+    rows: &mut PerRow,
 ) -> Walked
     requires { ⌜ (OnGraph ia ib starts blocks edges) × (Listed (orderAt (now rows) 0) (rowsOf (blocksAt (now starts) blocks))) ⌝ }
     ensures { λ r. ⌜ Orders (blocksAt (came starts) blocks) (r .found) (orderAt (left rows) (r .listed))
@@ -329,7 +324,7 @@ fn no_path() -> PathOrder
 }
 
 // The rows along the path, if the graph is one.
-pub(crate) fn path_order(ia: &[usize; 96], ib: &[usize; 96], n: usize) -> PathOrder
+pub(crate) fn path_order(ia: &PerRow, ib: &PerRow, n: usize) -> PathOrder
     requires { ⌜ (n ≤ 96) × (Bodies (now ia) n) × (Bodies (now ib) n) ⌝ }
     ensures { λ r. ⌜ Ordered n r (pathOrder (listAt (came ia) n) (listAt (came ib) n) n) ⌝ }
 {
@@ -402,7 +397,7 @@ fn place(line: Line, k: usize) -> usize
 
 // `start` less the products of two lines, one after the other: the three sums of the Rust.
 fn less_products(s: &[f64], start: f64, a: Line, b: Line, terms: usize) -> f64
-    requires { ⌜ (END ≤ length (now s)) × (Lies a terms) × (Lies b terms) ⌝ }
+    requires { ⌜ Lie (now s) a b terms ⌝ }
     ensures { λ r. ⌜ r ≡ lessProducts (lineAt (came s) a) (lineAt (came s) b) terms start ⌝ }
 {
     let mut value = start;
@@ -425,14 +420,14 @@ fn band_start(i: usize) -> usize
 // The Schur matrix's entry at places i and j of the order.
 fn cross_at(
     s: &[f64],
-    ia: &[usize; 96],
-    ib: &[usize; 96],
+    ia: &PerRow,
+    ib: &PerRow,
     t: Table,
-    order: &[usize; 96],
+    order: &PerRow,
     i: usize,
     j: usize,
 ) -> Sum
-    requires { ⌜ (Ready s ia ib t) × (Along (now order) (t .rows)) × (i < t .rows) × (j < t .rows) ⌝ }
+    requires { ⌜ (ReadyAlong s ia ib t order) × (i < t .rows) × (j < t .rows) ⌝ }
     ensures { λ r. ⌜ sumAs r ≡ onPath s ia ib t order (λ r m o. crossMass (rowOf r m o i) (rowOf r m o j) m) ⌝ }
 {
     let a = load_row(s, ia, ib, t.place, order[i]);
@@ -440,14 +435,8 @@ fn cross_at(
     cross_mass(s, a, b, t.bodies)
 }
 
-fn path_scale(
-    s: &mut [f64],
-    ia: &[usize; 96],
-    ib: &[usize; 96],
-    t: Table,
-    order: &[usize; 96],
-) -> End
-    requires { ⌜ (Ready s ia ib t) × (Along (now order) (t .rows)) ⌝ }
+fn path_scale(s: &mut [f64], ia: &PerRow, ib: &PerRow, t: Table, order: &PerRow) -> End
+    requires { ⌜ ReadyAlong s ia ib t order ⌝ }
     ensures { λ r. ⌜ Does (Beside PATH-SCALE) (came s) (left s) (ranAs r (vecAt (left s) PATH-SCALE (t .rows)))
         (onPath s ia ib t order pathScale (t .rows)) ⌝ }
 {
@@ -474,14 +463,14 @@ fn reduced(s: &[f64], entry: f64, i: usize, j: usize, n: usize) -> f64
 
 fn path_entry(
     s: &mut [f64],
-    ia: &[usize; 96],
-    ib: &[usize; 96],
+    ia: &PerRow,
+    ib: &PerRow,
     t: Table,
-    order: &[usize; 96],
+    order: &PerRow,
     i: usize,
     j: usize,
 ) -> End
-    requires { ⌜ (Ready s ia ib t) × (Along (now order) (t .rows)) × (i < t .rows) × (j ≤ i) × (i ≤ j + 11) ⌝ }
+    requires { ⌜ (ReadyAlong s ia ib t order) × (i < t .rows) × (j ≤ i) × (i ≤ j + 11) ⌝ }
     ensures { λ r. ⌜ BandAs s ia ib t order r (λ rows masses order scale. pathEntry rows masses order scale i j) ⌝ }
 {
     let Sum::Value(entry) = cross_at(s, ia, ib, t, order, i, j) else {
@@ -508,15 +497,8 @@ fn path_entry(
     End::Done
 }
 
-fn path_row(
-    s: &mut [f64],
-    ia: &[usize; 96],
-    ib: &[usize; 96],
-    t: Table,
-    order: &[usize; 96],
-    i: usize,
-) -> End
-    requires { ⌜ (Ready s ia ib t) × (Along (now order) (t .rows)) × (i < t .rows) ⌝ }
+fn path_row(s: &mut [f64], ia: &PerRow, ib: &PerRow, t: Table, order: &PerRow, i: usize) -> End
+    requires { ⌜ (ReadyAlong s ia ib t order) × (i < t .rows) ⌝ }
     ensures { λ r. ⌜ BandAs s ia ib t order r (λ rows masses order scale. pathRow rows masses order scale i) ⌝ }
 {
     for j in band_start(i)..i + 1 {
@@ -528,14 +510,8 @@ fn path_row(
     End::Done
 }
 
-fn path_factor(
-    s: &mut [f64],
-    ia: &[usize; 96],
-    ib: &[usize; 96],
-    t: Table,
-    order: &[usize; 96],
-) -> End
-    requires { ⌜ (Ready s ia ib t) × (Along (now order) (t .rows)) ⌝ }
+fn path_factor(s: &mut [f64], ia: &PerRow, ib: &PerRow, t: Table, order: &PerRow) -> End
+    requires { ⌜ ReadyAlong s ia ib t order ⌝ }
     ensures { λ r. ⌜ BandAs s ia ib t order r (λ rows masses order scale _. pathFactor rows masses order scale (t .rows)) ⌝ }
 {
     clear(s, PATH_BAND, BAND_WIDTH * t.rows);
@@ -556,7 +532,7 @@ fn forward_sum(s: &[f64], start: f64, i: usize, n: usize) -> f64
     less_products(s, start, row_line(i, from), side_line(from), i - from)
 }
 
-fn forward(s: &mut [f64], order: &[usize; 96], n: usize)
+fn forward(s: &mut [f64], order: &PerRow, n: usize)
     requires { ⌜ (END ≤ length (now s)) × (n ≤ 96) × (Along (now order) n) ⌝ }
     ensures { λ _. ⌜ Does (Beside PATH-RHS) (came s) (left s) (vecAt (left s) PATH-RHS n) (byFactor s order n forwardOf (vecAt (came s) RESIDUAL n)) ⌝ }
 {
@@ -592,7 +568,7 @@ fn backward_sum(s: &[f64], start: f64, i: usize, n: usize) -> f64
 }
 
 // From the last row to the first, with the correction added to the solution.
-fn backward(s: &mut [f64], order: &[usize; 96], n: usize)
+fn backward(s: &mut [f64], order: &PerRow, n: usize)
     requires { ⌜ (END ≤ length (now s)) × (n ≤ 96) × (Along (now order) n) ⌝ }
     ensures { λ _. ⌜ Does (λ i. (Beside PATH-RHS i) × (Beside SOLUTION i)) (came s) (left s) (vecAt (left s) SOLUTION n)
         (byFactor s order n backwardOf (vecAt (came s) PATH-RHS n) (vecAt (came s) SOLUTION n)) ⌝ }
@@ -606,14 +582,8 @@ fn backward(s: &mut [f64], order: &[usize; 96], n: usize)
     }
 }
 
-fn path_factored(
-    s: &mut [f64],
-    ia: &[usize; 96],
-    ib: &[usize; 96],
-    t: Table,
-    order: &[usize; 96],
-) -> End
-    requires { ⌜ (Ready s ia ib t) × (Along (now order) (t .rows)) ⌝ }
+fn path_factored(s: &mut [f64], ia: &PerRow, ib: &PerRow, t: Table, order: &PerRow) -> End
+    requires { ⌜ ReadyAlong s ia ib t order ⌝ }
     ensures { λ r. ⌜ Does Factoring (came s) (left s) (ranAs r (factorAt (left s) (t .rows))) (onPath s ia ib t order pathFactored (t .rows)) ⌝ }
 {
     let end = path_scale(s, ia, ib, t, order);
@@ -624,8 +594,8 @@ fn path_factored(
 }
 
 // One refinement, up to the new residual.
-fn refine(s: &mut [f64], ia: &[usize; 96], ib: &[usize; 96], t: Table, order: &[usize; 96]) -> End
-    requires { ⌜ (Ready s ia ib t) × (Along (now order) (t .rows)) ⌝ }
+fn refine(s: &mut [f64], ia: &PerRow, ib: &PerRow, t: Table, order: &PerRow) -> End
+    requires { ⌜ ReadyAlong s ia ib t order ⌝ }
     ensures { λ r. ⌜ Does Refining (came s) (left s) (ranAs r (refinedAt (left s) (t .rows)))
         (refineOf (systemIn s ia ib t) (rhsOn s t) (orderOn order t) (factorAt (came s) (t .rows)) (refinedAt (came s) (t .rows))) ⌝ }
 {
@@ -643,13 +613,13 @@ fn refine(s: &mut [f64], ia: &[usize; 96], ib: &[usize; 96], t: Table, order: &[
 // At most 4 refinements, each counted once its residual is known.
 fn refinements(
     s: &mut [f64],
-    ia: &[usize; 96],
-    ib: &[usize; 96],
+    ia: &PerRow,
+    ib: &PerRow,
     t: Table,
-    order: &[usize; 96],
+    order: &PerRow,
     tolerance: f64,
 ) -> Ended
-    requires { ⌜ (Ready s ia ib t) × (Along (now order) (t .rows)) ⌝ }
+    requires { ⌜ ReadyAlong s ia ib t order ⌝ }
     ensures { λ r. ⌜ Solves s ia ib t r (λ system.
         upTo 4 nonConvergent (refinement system (rhsOn s t) (orderOn order t) (factorAt (came s) (t .rows)) tolerance) (refinedAt (came s) (t .rows))) ⌝ }
 {
@@ -666,14 +636,8 @@ fn refinements(
 }
 
 // The path's solve along an order of the rows, from the right side as residual.
-pub(crate) fn path_along(
-    s: &mut [f64],
-    ia: &[usize; 96],
-    ib: &[usize; 96],
-    t: Table,
-    order: &[usize; 96],
-) -> Ended
-    requires { ⌜ (Ready s ia ib t) × (Along (now order) (t .rows)) ⌝ }
+pub(crate) fn path_along(s: &mut [f64], ia: &PerRow, ib: &PerRow, t: Table, order: &PerRow) -> Ended
+    requires { ⌜ ReadyAlong s ia ib t order ⌝ }
     ensures { λ r. ⌜ Solves s ia ib t r (λ system. pathAlong system (rhsOn s t) (solutionOn s t) (orderOn order t)) ⌝ }
 {
     let n = t.rows;

@@ -1,4 +1,5 @@
 // Loads and stores of the scratch: a body's share of the rows, and its mass response.
+use crate::PerRow;
 use crate::layout::MASS;
 use crate::layout::SHARE;
 use rows::geometry::EqualityRow;
@@ -25,13 +26,7 @@ pub struct MassResponse {
     pub angular: Mat3,
 }
 
-pub fn load_row(
-    s: &[f64],
-    ia: &[usize; 96],
-    ib: &[usize; 96],
-    place: usize,
-    k: usize,
-) -> EqualityRow
+pub fn load_row(s: &[f64], ia: &PerRow, ib: &PerRow, place: usize, k: usize) -> EqualityRow
     requires { ⌜ (place + 14 * k + 14 ≤ length (now s)) × (k < 96) ⌝ }
     ensures { λ r. ⌜ r ≡ rowOn (came ia) (came ib) (came s) place k ⌝ }
 {

@@ -2,6 +2,7 @@
 use crate::End;
 use crate::Ended;
 use crate::Next;
+use crate::PerRow;
 use crate::Table;
 use crate::gradients::gradient_pass;
 use crate::least_squares::least_pass;
@@ -32,8 +33,8 @@ fn limit(which: Which, n: usize) -> usize
 
 fn search_pass(
     s: &mut [f64],
-    ia: &[usize; 96],
-    ib: &[usize; 96],
+    ia: &PerRow,
+    ib: &PerRow,
     t: Table,
     which: Which,
     tolerance: f64,
@@ -52,8 +53,8 @@ fn search_pass(
 // A pass is counted when it was gone through whole, and there is no test after the last.
 pub(crate) fn search(
     s: &mut [f64],
-    ia: &[usize; 96],
-    ib: &[usize; 96],
+    ia: &PerRow,
+    ib: &PerRow,
     t: Table,
     which: Which,
     tolerance: f64,

@@ -1,5 +1,6 @@
 // `linear_solve` of solver.rs: which solve is taken, from a solution of zeros and the right side as residual.
 use crate::Ended;
+use crate::PerRow;
 use crate::Table;
 use crate::gradients::gradients;
 use crate::layout::RESIDUAL;
@@ -14,13 +15,7 @@ ghost use Rattle.solves.specs.Search.{linearSolve};
 ghost use Rattle.solves.specs.Answer.{SolvesNumbered};
 ghost use Rattle.solves.specs.View.{rhsOn, Ready};
 
-pub fn linear_solve(
-    s: &mut [f64],
-    ia: &[usize; 96],
-    ib: &[usize; 96],
-    t: Table,
-    cyclic: bool,
-) -> Ended
+pub fn linear_solve(s: &mut [f64], ia: &PerRow, ib: &PerRow, t: Table, cyclic: bool) -> Ended
     requires { ⌜ Ready s ia ib t ⌝ }
     ensures { λ r. ⌜ SolvesNumbered s ia ib t r (λ system. linearSolve cyclic system (rhsOn s t)) ⌝ }
 {

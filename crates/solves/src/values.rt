@@ -1,5 +1,5 @@
 // Loops over whole vectors of the scratch.
-ghost use Rattle.solves.specs.Solver.{plus, minus, difference as differenceOf};
+ghost use Rattle.solves.specs.Solver.{plus, difference as differenceOf};
 ghost use Rattle.solves.specs.Lent.{came, left};
 ghost use Rattle.solves.specs.Region.{vecAt, Does};
 ghost use Rattle.solves.specs.View.{Beside, Onto};
@@ -20,16 +20,6 @@ pub(crate) fn add_scaled(s: &mut [f64], x: usize, a: usize, alpha: f64, b: usize
 {
     for k in 0..n {
         s[x + k] = s[a + k] + alpha * s[b + k];
-    }
-}
-
-// x = a - alpha * b
-pub(crate) fn sub_scaled(s: &mut [f64], x: usize, a: usize, alpha: f64, b: usize, n: usize)
-    requires { ⌜ (Onto s n x a) × (Onto s n x b) ⌝ }
-    ensures { λ _. ⌜ Does (Beside x) (came s) (left s) (vecAt (left s) x n) (minus (vecAt (came s) a n) alpha (vecAt (came s) b n)) ⌝ }
-{
-    for k in 0..n {
-        s[x + k] = s[a + k] - alpha * s[b + k];
     }
 }
 

@@ -1,5 +1,5 @@
 -- Laws of `lib.Ieee`'s `round` and `mul`, at any format: a value that the format holds is told by its sign and its fraction
--- (`value-unique`) and is its own rounding (`round-self`); the sign goes through (`round-neg`); a product of fractions
+-- (`value-unique`) and is its own rounding (`round-self`); the sign goes through (`round-neg`, `mul-neg`); a product of fractions
 -- (`mul-values`).
 use mathlib.Core.Path.{_≡_, refl, sym, ap, _∙_, subst}
 use mathlib.Core.Bool.{Bool, true, false, not, _&&_, cond}
@@ -11,7 +11,7 @@ use lib.IntN.{ℤ, pos, negsuc}
 use lib.Dec.{T, leb, ltb, eqb, leb→le, ltb→lt}
 use lib.Pow.{pow-add, pow-pos, pow-lt}
 use lib.Ieee.{Float, nan, inf, fin, Format, prec, emax, low, hid, top, unlike, up, down, size, nearest, odd, units}
-use lib.Ieee.{round, neg, mul, fits, ofBits, toBits}
+use lib.Ieee.{round, neg, add, sub, mul, fits, ofBits, toBits}
 use lib.Ieee.Fits.{round-is, round-fits, down-pos, and-l, and-r}
 use lib.Ieee.Exact.{HasValue, round-exact}
 use lib.Ieee.Scale.{round-same}
@@ -146,6 +146,27 @@ round-neg f s a c =
     round-is f (not s) a c
     ∙ units-neg f s (nearest (n / u) (compare (n % u * 2) u)) k
     ∙ ap neg (sym (round-is f s a c))
+
+unlike-neg : (s t : Bool) → unlike (not s) t ≡ not (unlike s t)
+unlike-neg true true = refl
+unlike-neg true false = refl
+unlike-neg false true = refl
+unlike-neg false false = refl
+
+mul-neg : (f : Format) (x y : Float) → mul f (neg x) y ≡ neg (mul f x y)
+unfolding mul neg
+mul-neg f nan y = refl
+mul-neg f (inf s) nan = refl
+mul-neg f (inf s) (inf t) = ap inf (unlike-neg s t)
+mul-neg f (inf s) (fin t n d) = rw unlike-neg (cond-neg (eqb n 0) nan (inf (unlike s t)))
+mul-neg f (fin s m e) nan = refl
+mul-neg f (fin s m e) (inf t) = rw unlike-neg (cond-neg (eqb m 0) nan (inf (unlike s t)))
+mul-neg f (fin s m e) (fin t n d) = rw unlike-neg (round-neg f (unlike s t) (m * up e * (n * up d)) (down e * down d))
+
+-- x - a y is x + (-a) y, bit for bit
+pub add-neg-mul : (f : Format) (x a y : Float) → add f x (mul f (neg a) y) ≡ sub f x (mul f a y)
+unfolding sub
+add-neg-mul f x a y = rw mul-neg
 
 -- ---- a product of fractions, rounded once
 pub mul-values : (f : Format) (x y : Float) (s t : Bool) (a c b d : ℕ) → 0 < c → 0 < d

@@ -10,13 +10,6 @@ use Rattle.solves.proofs.OperatorLaws.{rows-kept}
 use Rattle.solves.proofs.gradients.gradient_pass.Statement.{statement}
 use Rattle.solves.proofs.gradients.gradient_pass.Tie as tie
 
-returns : tie.Need-returns
-returns c =
-    let at-end = c .before in
-    let start = at-end .before .before .before .before .before in
-    pass-over _ (start .pre) _ _ (at-end .end .given .0 .0) (at-end .end .given .1)
-    (at-end .before .before .residual-test .ensures)
-
 advance-requires : tie.Need-advance-requires
 advance-requires c κs =
     let start = c .before .before .before .before .before .before in
@@ -33,26 +26,9 @@ returns-2 c =
     (pass-stuck _ (start .pre) _ _ (at-advance .before .before .enum-told .given .1)
     (at-residual-test .residual-test .ensures) (failed _ end (at-done .done .ensures) (at-advance .advance .ensures) (c .if1 .taken)))
 
-settle-requires : tie.Need-settle-requires
-settle-requires c κs =
-    let at-advance = c .before .before .before .before .before in
-    let at-slice-known = at-advance .before .before .before .before .before .before in
-    let start = at-slice-known .before in
-    rows-kept (start .pre) (at-advance .advance .ensures .kept .size)
-
-returns-3 : tie.Need-returns-3
-returns-3 c =
-    let at-if1 = c .before .before .before .before in
-    let at-advance = at-if1 .before .before .before .before in
-    let at-residual-test = at-advance .before .before .before .before in
-    let start = at-residual-test .before .before .before in
-    pass-on _ (start .pre) _ _ (at-advance .before .before .enum-told .given .1)
-    (at-residual-test .residual-test .ensures)
-    (went _ (at-advance .advance .result) (at-if1 .before .done .ensures) (at-advance .advance .ensures) (at-if1 .if1 .left))
-    (c .before .before .settle .ensures)
-
 pub gradient-pass-spec : {M : Type 1} → statement M
 gradient-pass-spec =
     tie.close (tie.spec
-    (λ c κs. omega arith) (λ c. search needs) (λ c. search needs) returns (λ c. search needs) advance-requires
-    (λ c κs. search needs) (λ c. omega arith) returns-2 settle-requires (λ c. omega arith) returns-3)
+    (λ c κs. omega arith) (λ c. search needs) (λ c. search needs) (λ c. search pass-over) (λ c. search needs)
+    advance-requires (λ c κs. search needs) (λ c. omega arith) returns-2 (λ c κs. search rows-kept) (λ c. omega arith)
+    (λ c. search (pass-on, went)))

@@ -1,13 +1,10 @@
 -- gradients: the diagonal, the tolerance, and the search.
 use native.Mathlib.Omega.{arith}
 use borrow.Author.Needs.{needs}
-use mathlib.Core.Path.{_∙_, ap}
 use Prim.Native.Nat.{_-_}
-use lib.Ieee.{Float}
 use Rattle.solves.specs.Region.{vecAt}
-use Rattle.solves.specs.View.{RHS, SOLUTION}
+use Rattle.solves.specs.View.{SOLUTION}
 use Rattle.solves.specs.DoesLaws.{sum-there, sum-over, does-as}
-use Rattle.solves.specs.Solver.{toleranceFor}
 use Rattle.solves.specs.Answer.{preparedAs}
 use Rattle.solves.proofs.GradientLaws.{gradients-refused, gradients-intolerant, gradients-whole}
 use Rattle.solves.proofs.OperatorLaws.{rows-kept}
@@ -30,17 +27,10 @@ returns-2 c =
     let at-rho = at-tolerance-for .before .before .before in
     let at-prepare = at-rho .before .before .before .before in
     let start = at-prepare .before .before .before in
-    new-ended (vecAt (at-prepare .prepare .last .0) SOLUTION (start .args .t .rows)) (c .new2 .ensures)
-    (gradients-intolerant (start .args .t) (start .pre)
+    new-ended (vecAt (at-prepare .prepare .last .0) SOLUTION _) (c .new2 .ensures)
+    (gradients-intolerant _ (start .pre)
     (does-as (λ r. preparedAs r (at-prepare .prepare .last .0) (start .args .t .rows)) (at-rho .rho .given .1) (at-prepare .prepare .ensures))
-    (sum-over (at-tolerance-for .tolerance-for .ensures) (c .before .enum-told2 .given .1) ∙ ap
-    (λ (x : Float). toleranceFor x (vecAt (at-prepare .prepare .last .0) RHS (start .args .t .rows))) tenth-12))
-
-search-requires : tie.Need-search-requires
-search-requires c κs =
-    let at-known-told = c .before .before .before .before .before .before in
-    let at-prepare = at-known-told .before .before .before .before .before in
-    rows-kept (at-prepare .before .before .before .pre) (at-prepare .prepare .ensures .kept .size)
+    (rw tenth-12 at (sum-over (at-tolerance-for .tolerance-for .ensures) (c .before .enum-told2 .given .1))))
 
 returns-3 : tie.Need-returns-3
 returns-3 c =
@@ -50,13 +40,12 @@ returns-3 c =
     let start = at-prepare .before .before .before in
     gradients-whole _ (start .pre)
     (does-as (λ r. preparedAs r (at-prepare .prepare .last .0) (start .args .t .rows)) (at-rho .rho .given .1) (at-prepare .prepare .ensures))
-    (sum-there (at-tolerance .before .before .tolerance-for .ensures) (at-tolerance .tolerance .given .1) ∙ ap
-    (λ (x : Float). toleranceFor x (vecAt (at-prepare .prepare .last .0) RHS (start .args .t .rows))) tenth-12)
+    (rw tenth-12 at (sum-there (at-tolerance .before .before .tolerance-for .ensures) (at-tolerance .tolerance .given .1)))
     (c .before .before .search .ensures)
 
 pub gradients-spec : {M : Type 1} → statement M
 gradients-spec =
     tie.close (tie.spec
-    (λ c κs. c .before .before .pre) (λ c. search needs) (λ c. search needs) (λ c κs. search needs)
-    (λ c. omega arith) returns (λ c κs. omega arith) (λ c. search needs) (λ c. search needs) (λ c κs. search needs)
-    (λ c. omega arith) returns-2 search-requires (λ c. omega arith) returns-3)
+    (λ c κs. c .before .before .pre) (λ c. search needs) (λ c. search needs) (λ c κs. search needs) (λ c. omega arith)
+    returns (λ c κs. omega arith) (λ c. search needs) (λ c. search needs) (λ c κs. search needs) (λ c. omega arith)
+    returns-2 (λ c κs. search rows-kept) (λ c. omega arith) returns-3)

@@ -19,10 +19,10 @@ abbrev μ-loop : tie.MeasureT-loop
 loop-again : tie.Need-loop-again Inv-loop μ-loop
 loop-again c =
     let at-loop = c .before .before .before .before in
-    (omega arith, simp length-set (omega arith), direct-more _ (at-loop .before .args .beta) (at-loop .loop .inv .2) (omega arith) (omega arith))
+    (omega arith, simp length-set (omega arith), direct-more _ _ (at-loop .loop .inv .2) (omega arith) (omega arith))
 
 returns : tie.Need-returns Inv-loop μ-loop
-returns c = direct-is _ (c .before .before .args .beta) (c .before .loop .inv .2) (omega arith) (c .loop-test .left) (omega arith)
+returns c = direct-is _ _ (c .before .loop .inv .2) (omega arith) (c .loop-test .left) (omega arith)
 
 pub next-direction-spec : {M : Type 1} → statement M
 next-direction-spec =

@@ -28,15 +28,9 @@ loop-again c =
           (at-loop .loop .inv .1),
     )
 
-returns : tie.Need-returns Inv-loop μ-loop
-returns c =
-    let at-loop = c .before in
-    let start = at-loop .before in
-    square-ends (now (start .args .s)) RESIDUAL DIAGONAL _ _ (at-loop .loop .inv .0) (c .loop-test .left) (at-loop .loop .inv .1)
-
 pub scaled-square-spec : {M : Type 1} → statement M
 scaled-square-spec =
     tie.close (tie.spec
-    Inv-loop μ-loop (λ c. (omega arith, zero-is ∙ turns-none _ _)) (λ c. omega arith) (λ c. omega arith)
-    (λ c. omega arith) (λ c. omega arith) (λ c. omega arith) (λ c. omega arith) (λ c. omega arith)
-    (λ c. omega arith) loop-again returns)
+    Inv-loop μ-loop (λ c. (omega arith, zero-is ∙ turns-none _ _)) (λ c. omega arith) (λ c. omega arith) (λ c. omega arith)
+    (λ c. omega arith) (λ c. omega arith) (λ c. omega arith) (λ c. omega arith) (λ c. omega arith) loop-again
+    (λ c. search square-ends))

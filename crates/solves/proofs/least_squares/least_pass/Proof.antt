@@ -22,18 +22,18 @@ start-of c = c .before .before .before .before .before
 abbrev first-of : tie.Else2 → tie.After-operator
 first-of c = c .before .before .before .before
 
-abbrev denominator-of : tie.After-sub-scaled → tie.After-denominator
+abbrev denominator-of : tie.After-add-scaled2 → tie.After-denominator
 denominator-of c =
     let at-add-scaled = c .before .before .before .before in
     at-add-scaled .before .before .before .before
 
-abbrev went-of : tie.After-sub-scaled → tie.Else2
+abbrev went-of : tie.After-add-scaled2 → tie.Else2
 went-of c = denominator-of c .before .before .before .before
 
-abbrev sub-of : tie.After-operator2 → tie.After-sub-scaled
-sub-of c = c .before .before .before .before
+abbrev second-of : tie.After-operator2 → tie.After-add-scaled2
+second-of c = c .before .before .before .before
 
-abbrev begin-of : tie.After-sub-scaled → tie.Start
+abbrev begin-of : tie.After-add-scaled2 → tie.Start
 begin-of c = start-of (first-of (went-of c))
 
 -- ---- what is known there
@@ -43,32 +43,30 @@ moved : (c : tie.Else2) → let start = start-of (first-of c) in
 moved c =
     let at-operator = first-of c in
     let at-if1 = at-operator .before .before in
-    pass-moved (start-of at-operator .args .t) (start-of at-operator .pre) _ _ (at-if1 .before .sqrt .ensures .is) (at-if1 .if1 .left)
+    pass-moved _ (start-of at-operator .pre) _ _ (at-if1 .before .sqrt .ensures .is) (at-if1 .if1 .left)
     (went _ (at-operator .operator .result) (c .before .done .ensures) (at-operator .operator .ensures) (c .if2 .left))
 
-advanced : (c : tie.After-sub-scaled) → let start = begin-of c in
+advanced : (c : tie.After-add-scaled2) → let start = begin-of c in
     Advanced (now (start .args .s)) (now (start .args .ia)) (now (start .args .ib)) (start .args .t) (start .args .tolerance) (start .args .norm)
-    (first-of (went-of c) .operator .last .0) (denominator-of c .denominator .given .0 .0) (c .sub-scaled .last .0)
+    (first-of (went-of c) .operator .last .0) (denominator-of c .denominator .given .0 .0) (c .add-scaled2 .last .0)
 advanced c =
     let at-add-scaled = c .before .before .before .before in
     let at-denominator = denominator-of c in
-    pass-advanced (begin-of c .args .t) (begin-of c .pre) _ _ (moved (went-of c)) zero-is
+    pass-advanced _ (begin-of c .pre) _ _ (moved (went-of c)) zero-is
     (sum-there (at-denominator .before .before .dot .ensures) (at-denominator .denominator .given .1)) (at-add-scaled .before .before .if3 .left)
-    (at-add-scaled .add-scaled .ensures) (c .sub-scaled .ensures)
+    (at-add-scaled .add-scaled .ensures) (c .add-scaled2 .ensures)
 
-size : (c : tie.After-sub-scaled) → length (c .sub-scaled .last .0) ≡ length (now (begin-of c .args .s))
+size : (c : tie.After-add-scaled2) → length (c .add-scaled2 .last .0) ≡ length (now (begin-of c .args .s))
 size c =
     let at-add-scaled = c .before .before .before .before in
-    c .sub-scaled .ensures .kept .size ∙ at-add-scaled .add-scaled .ensures .kept .size ∙ first-of (went-of c) .operator .ensures .kept .size
+    c .add-scaled2 .ensures .kept .size ∙ at-add-scaled .add-scaled .ensures .kept .size ∙ first-of (went-of c) .operator .ensures .kept .size
 
-size-back : (c : tie.After-operator2) → length (c .operator2 .last .0) ≡ length (now (begin-of (sub-of c) .args .s))
-size-back c = c .operator2 .ensures .kept .size ∙ size (sub-of c)
+size-back : (c : tie.After-operator2) → length (c .operator2 .last .0) ≡ length (now (begin-of (second-of c) .args .s))
+size-back c = c .operator2 .ensures .kept .size ∙ size (second-of c)
 
 -- ---- the needs
 returns : tie.Need-returns
-returns c =
-    let start = c .before .before .before in
-    pass-solved (start .args .t) (start .pre) _ _ (c .before .sqrt .ensures .is) (c .if1 .taken)
+returns c = search pass-solved
 
 operator-requires : tie.Need-operator-requires
 operator-requires c κs =
@@ -83,7 +81,7 @@ returns-2 c =
     let at-if1 = at-operator .before .before in
     let end = at-operator .operator .result in
     does-eq (ap (λ x. ran x 0 0) (fails-over _ end (at-done .done .ensures) (c .if2 .taken)))
-    (pass-unmoved (start-of at-operator .args .t) (start-of at-operator .pre) _ _ (at-if1 .before .sqrt .ensures .is) (at-if1 .if1 .left)
+    (pass-unmoved _ (start-of at-operator .pre) _ _ (at-if1 .before .sqrt .ensures .is) (at-if1 .if1 .left)
     (failed _ end (at-done .done .ensures) (at-operator .operator .ensures) (c .if2 .taken)))
 
 returns-3 : tie.Need-returns-3
@@ -102,59 +100,59 @@ returns-4 c =
 
 operator-requires-2 : tie.Need-operator-requires-2
 operator-requires-2 c κs =
-    let at-sub-scaled = c .before .before .before in
-    let pre = begin-of at-sub-scaled .pre in
+    let at-second = c .before .before .before in
+    let pre = begin-of at-second .pre in
     let there = pre .whole in
-    let same = size at-sub-scaled in
+    let same = size at-second in
     (rows-kept pre same, place-of RESIDUAL (omega arith) (omega arith) (omega arith), place-of NORMAL (omega arith) (omega arith) (omega arith))
 
 returns-5 : tie.Need-returns-5
 returns-5 c =
     let at-done2 = c .before in
     let at-operator2 = at-done2 .before .before .before in
-    let start = begin-of (sub-of at-operator2) in
+    let start = begin-of (second-of at-operator2) in
     let end = at-operator2 .operator2 .result in
     does-eq (ap (λ x. ran x 0 0) (fails-over _ end (at-done2 .done2 .ensures) (c .if4 .taken)))
-    (pass-unreturned _ (start .pre) _ _ (advanced (sub-of at-operator2))
+    (pass-unreturned _ (start .pre) _ _ (advanced (second-of at-operator2))
     (failed _ end (at-done2 .done2 .ensures) (at-operator2 .operator2 .ensures) (c .if4 .taken)))
 
 dot-requires-2 : tie.Need-dot-requires-2
 dot-requires-2 c κs =
     let at-operator2 = c .before .before .before .before .before in
-    let pre = begin-of (sub-of at-operator2) .pre in
+    let pre = begin-of (second-of at-operator2) .pre in
     omega (arith, pre .whole, pre .most, size-back at-operator2)
 
 returns-6 : tie.Need-returns-6
 returns-6 c =
     let at-if4 = c .before .before .before .before in
     let at-operator2 = at-if4 .before .before .before .before in
-    let start = begin-of (sub-of at-operator2) in
-    pass-unmeasured-again _ (start .pre) _ _ (advanced (sub-of at-operator2))
+    let start = begin-of (second-of at-operator2) in
+    pass-unmeasured-again _ (start .pre) _ _ (advanced (second-of at-operator2))
     (went _ (at-operator2 .operator2 .result) (at-if4 .before .done2 .ensures) (at-operator2 .operator2 .ensures) (at-if4 .if4 .left))
     (sum-over (c .before .before .dot2 .ensures) (c .enum-told2 .given .1))
 
-add-scaled-requires-2 : tie.Need-add-scaled-requires-2
-add-scaled-requires-2 c κs =
+add-scaled-requires-3 : tie.Need-add-scaled-requires-3
+add-scaled-requires-3 c κs =
     let at-if4 = c .before .before .before .before .before .before in
     let at-operator2 = at-if4 .before .before .before .before in
-    let pre = begin-of (sub-of at-operator2) .pre in
+    let pre = begin-of (second-of at-operator2) .pre in
     omega (arith, pre .whole, pre .most, size-back at-operator2)
 
 same-length-6 : tie.Need-same-length-6
 same-length-6 c =
     let at-next = c .before .before .before .before .before in
     let at-if4 = at-next .before .before .before .before in
-    c .before .before .add-scaled2 .ensures .kept .size ∙ size-back (at-if4 .before .before .before .before)
+    c .before .before .add-scaled3 .ensures .kept .size ∙ size-back (at-if4 .before .before .before .before)
 
 returns-7 : tie.Need-returns-7
 returns-7 c =
     let at-next = c .before .before .before .before .before in
     let at-if4 = at-next .before .before .before .before in
     let at-operator2 = at-if4 .before .before .before .before in
-    let start = begin-of (sub-of at-operator2) in
-    pass-next _ (start .pre) _ _ (advanced (sub-of at-operator2))
+    let start = begin-of (second-of at-operator2) in
+    pass-next _ (start .pre) _ _ (advanced (second-of at-operator2))
     (went _ (at-operator2 .operator2 .result) (at-if4 .before .done2 .ensures) (at-operator2 .operator2 .ensures) (at-if4 .if4 .left))
-    (sum-there (at-next .before .before .dot2 .ensures) (at-next .next .given .1)) (c .before .before .add-scaled2 .ensures)
+    (sum-there (at-next .before .before .dot2 .ensures) (at-next .next .given .1)) (c .before .before .add-scaled3 .ensures)
 
 pub least-pass-spec : {M : Type 1} → statement M
 least-pass-spec =
@@ -168,4 +166,4 @@ least-pass-spec =
     (λ c. size-back (c .before .before .before .before)) returns-5 dot-requires-2 (λ c. search needs)
     (λ c. search needs)
     (λ c. let at-if4 = c .before .before .before .before in size-back (at-if4 .before .before .before .before))
-    returns-6 add-scaled-requires-2 same-length-6 returns-7)
+    returns-6 add-scaled-requires-3 same-length-6 returns-7)

@@ -3,15 +3,13 @@ use native.Mathlib.Omega.{arith}
 use borrow.Author.Needs.{needs}
 use mathlib.Core.Path.{_∙_, ap}
 use Prim.Native.Nat.{_-_}
-use lib.Ieee.{Float}
 use Rattle.arith.specs.Run.{ran}
 use Rattle.solves.specs.Region.{vecAt}
-use Rattle.solves.specs.View.{RHS, SOLUTION, RESIDUAL, NORMAL}
+use Rattle.solves.specs.View.{SOLUTION, RESIDUAL, NORMAL}
 use Rattle.solves.specs.DoesLaws.{sum-there, sum-over, went, failed, fails, does-eq}
 use Rattle.solves.proofs.OperatorLaws.{rows-kept, place-of}
 use Rattle.solves.proofs.LeastLaws.{least-unmoved, least-unmeasured, least-intolerant, least-whole}
 use Rattle.solves.proofs.SearchLaws.{tenth-14, new-ended}
-use Rattle.solves.specs.Solver.{toleranceFor}
 use Rattle.solves.proofs.least_squares.least_squares.Statement.{statement}
 use Rattle.solves.proofs.least_squares.least_squares.Tie as tie
 
@@ -35,17 +33,6 @@ returns c =
     (does-eq (ap (λ x. ran x 0 0) (fails _ end (at-done .done .ensures) (at-if1 .if1 .taken)))
     (least-unmoved _ (start .pre) (failed _ end (at-done .done .ensures) (at-operator .operator .ensures) (at-if1 .if1 .taken))))
 
-returns-2 : tie.Need-returns-2
-returns-2 c =
-    let at-dot = c .before .before .before in
-    let at-done = at-dot .before .before .before in
-    let at-operator = at-done .before .before .before in
-    let start = at-operator .before .before .before in
-    new-ended (vecAt (at-operator .operator .last .0) SOLUTION _) (c .new2 .ensures)
-    (least-unmeasured _ (start .pre)
-    (went _ (at-operator .operator .result) (at-done .done .ensures) (at-operator .operator .ensures) (at-dot .before .before .if1 .left))
-    (sum-over (at-dot .dot .ensures) (c .before .enum-told .given .1)))
-
 returns-3 : tie.Need-returns-3
 returns-3 c =
     let at-tolerance-for = c .before .before .before in
@@ -57,8 +44,7 @@ returns-3 c =
     (least-intolerant _ (start .pre)
     (went _ (at-operator .operator .result) (at-if1 .before .done .ensures) (at-operator .operator .ensures) (at-if1 .if1 .left))
     (sum-there (at-norm .before .before .dot .ensures) (at-norm .norm .given .1))
-    (sum-over (at-tolerance-for .tolerance-for .ensures) (c .before .enum-told2 .given .1) ∙ ap
-    (λ (x : Float). toleranceFor x (vecAt (at-operator .operator .last .0) RHS (start .args .t .rows))) tenth-14))
+    (rw tenth-14 at (sum-over (at-tolerance-for .tolerance-for .ensures) (c .before .enum-told2 .given .1))))
 
 search-requires : tie.Need-search-requires
 search-requires c κs =
@@ -79,14 +65,14 @@ returns-4 c =
     least-whole _ (start .pre)
     (went _ (at-operator .operator .result) (at-if1 .before .done .ensures) (at-operator .operator .ensures) (at-if1 .if1 .left))
     (sum-there (at-norm .before .before .dot .ensures) (at-norm .norm .given .1))
-    (sum-there (at-tolerance .before .before .tolerance-for .ensures) (at-tolerance .tolerance .given .1) ∙ ap
-    (λ (x : Float). toleranceFor x (vecAt (at-operator .operator .last .0) RHS (start .args .t .rows))) tenth-14)
+    (rw tenth-14 at (sum-there (at-tolerance .before .before .tolerance-for .ensures) (at-tolerance .tolerance .given .1)))
     (at-copy .copy .ensures) (c .before .before .search .ensures)
 
 pub least-squares-spec : {M : Type 1} → statement M
 least-squares-spec =
     tie.close (tie.spec
     operator-requires (λ c κs. search needs) (λ c κs. search needs) (λ c. omega arith) returns (λ c κs. omega arith)
-    (λ c. search needs) (λ c. search needs) (λ c κs. search needs) (λ c. omega arith) returns-2
-    (λ c κs. omega arith) (λ c. search needs) (λ c. search needs) (λ c κs. search needs) (λ c. omega arith)
-    returns-3 (λ c κs. omega arith) search-requires (λ c. omega arith) returns-4)
+    (λ c. search needs) (λ c. search needs) (λ c κs. search needs) (λ c. omega arith)
+    (λ c. search (new-ended, least-unmeasured, went, sum-over)) (λ c κs. omega arith) (λ c. search needs)
+    (λ c. search needs) (λ c κs. search needs) (λ c. omega arith) returns-3 (λ c κs. omega arith) search-requires
+    (λ c. omega arith) returns-4)

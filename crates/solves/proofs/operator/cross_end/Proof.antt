@@ -4,10 +4,6 @@ use Rattle.solves.proofs.OperatorLaws.{end-is}
 use Rattle.solves.proofs.operator.cross_end.Statement.{statement}
 use Rattle.solves.proofs.operator.cross_end.Tie as tie
 
-returns : tie.Need-returns
-returns c =
-    end-is _ _ _ _ _ _ (c .before .add-through .ensures) (c .add-through2 .ensures)
-
 pub cross-end-spec : {M : Type 1} → statement M
 cross-end-spec =
-    tie.close (tie.spec (λ c κs. search needs) (λ c κs. search needs) returns)
+    tie.close (tie.spec (λ c κs. search needs) (λ c κs. search needs) (λ c. search end-is))

@@ -22,18 +22,13 @@ loop-again c =
     let at-loop = c .before .before .before in
     let start = at-loop .before in (
       omega arith,
-      products-more (now (start .args .s)) (start .args .a) (start .args .b) _ _ (c .before .before .loop-test .taken)
+      products-more (now (start .args .s)) _ _ _ _ (c .before .before .loop-test .taken)
           (at-loop .loop .inv .1),
     )
-
-returns : tie.Need-returns Inv-loop μ-loop
-returns c =
-    let at-loop = c .before in
-    turns-end _ _ (at-loop .loop .inv .0) (c .loop-test .left) (at-loop .loop .inv .1)
 
 pub products-spec : {M : Type 1} → statement M
 products-spec =
     tie.close (tie.spec
-    Inv-loop μ-loop (λ c. (omega arith, zero-is ∙ turns-none _ _)) (λ c. omega arith) (λ c. omega arith)
-    (λ c. omega arith) (λ c. omega arith) (λ c. omega arith) (λ c. omega arith) (λ c. omega arith)
-    (λ c. omega arith) loop-again returns)
+    Inv-loop μ-loop (λ c. (omega arith, zero-is ∙ turns-none _ _)) (λ c. omega arith) (λ c. omega arith) (λ c. omega arith)
+    (λ c. omega arith) (λ c. omega arith) (λ c. omega arith) (λ c. omega arith) (λ c. omega arith) loop-again
+    (λ c. search turns-end))

@@ -16,23 +16,15 @@ use Rattle.solves.proofs.operator.scale_all.Statement.{statement}
 use Rattle.solves.proofs.operator.scale_all.Tie as tie
 
 abbrev Inv-loop : tie.InvT-loop
-Inv-loop s₀ bodies k₀ s k =
-    (k ≤ bodies) × (length s ≡ length s₀)
-    × (Does (λ i. Out GENERALIZED (6 * k) i) s₀ s (go (sharesIn s k)) (scaleAll (sharesIn s₀ bodies) (massesAt s₀ MASSES bodies) k))
+Inv-loop s₀ body-count k₀ s k =
+    (k ≤ body-count) × (length s ≡ length s₀)
+    × (Does (λ i. Out GENERALIZED (6 * k) i) s₀ s (go (sharesIn s k)) (scaleAll (sharesIn s₀ body-count) (massesAt s₀ MASSES body-count) k))
 
 abbrev μ-loop : tie.MeasureT-loop
-μ-loop s₀ bodies k₀ s k = bodies - k
+μ-loop s₀ body-count k₀ s k = body-count - k
 
 loop-holds : tie.Need-loop-holds Inv-loop μ-loop
 loop-holds c = (omega arith, refl, scale-none _ _ (c .before .pre .1))
-
-returns : tie.Need-returns Inv-loop μ-loop
-returns c =
-    let at-load-mass = c .before .before .before in
-    let in-loop = at-load-mass .before .before .before .before in
-    scale-stops _ _ (in-loop .before .before .before .pre .1) (in-loop .before .loop .inv .2) (in-loop .loop-test .taken)
-    (at-load-mass .before .before .load-generalized .ensures) (at-load-mass .load-mass .ensures)
-    (share-over (c .before .before .scaled .ensures) (c .enum-told .given .1))
 
 loop-again : tie.Need-loop-again Inv-loop μ-loop
 loop-again c =
@@ -54,6 +46,6 @@ returns-2 c = scale-ends _ _ (c .before .before .before .pre .1) (c .before .loo
 pub scale-all-spec : {M : Type 1} → statement M
 scale-all-spec =
     tie.close (tie.spec
-    Inv-loop μ-loop loop-holds (λ c κs. omega arith) (λ c κs. omega arith) (λ c κs. omega arith)
-    (λ c. search needs) (λ c κs. omega arith) (λ c. search needs) (λ c. omega arith) returns
-    (λ c. omega arith) (λ c. omega arith) loop-again (λ c. omega arith) returns-2)
+    Inv-loop μ-loop loop-holds (λ c κs. omega arith) (λ c κs. omega arith) (λ c κs. omega arith) (λ c. search needs)
+    (λ c κs. omega arith) (λ c. search needs) (λ c. omega arith) (λ c. search (scale-stops, share-over)) (λ c. omega arith)
+    (λ c. omega arith) loop-again (λ c. omega arith) returns-2)

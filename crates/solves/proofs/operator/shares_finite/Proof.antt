@@ -11,31 +11,10 @@ use Rattle.solves.proofs.operator.shares_finite.Statement.{statement}
 use Rattle.solves.proofs.operator.shares_finite.Tie as tie
 
 abbrev Inv-loop : tie.InvT-loop
-Inv-loop s bodies k₀ k = (k ≤ bodies) × (true ≡ every k (shareTest s bodies))
+Inv-loop s body-count k₀ k = (k ≤ body-count) × (true ≡ every k (shareTest s body-count))
 
 abbrev μ-loop : tie.MeasureT-loop
-μ-loop s bodies k₀ k = bodies - k
-
-returns : tie.Need-returns Inv-loop μ-loop
-returns c =
-    let at-load-generalized = c .before .before in
-    let in-loop = at-load-generalized .before in
-    let start = in-loop .before .before .before in
-    let s = now (start .args .s) in
-    let h = in-loop .loop-test .taken in
-    all-of s _ (every-fail _ _ h (linear-wild s _ h (at-load-generalized .load-generalized .ensures) (c .before .is-finite .ensures) (c .if1 .taken)))
-
-returns-2 : tie.Need-returns-2 Inv-loop μ-loop
-returns-2 c =
-    let at-if1 = c .before .before in
-    let at-load-generalized = at-if1 .before .before in
-    let in-loop = at-load-generalized .before in
-    let start = in-loop .before .before .before in
-    let s = now (start .args .s) in
-    let h = in-loop .loop-test .taken in
-    all-of s _ (every-fail _ _ h
-    (angular-wild s _ h (at-load-generalized .load-generalized .ensures) (at-if1 .before .is-finite .ensures) (at-if1 .if1 .left)
-    (c .before .is-finite2 .ensures) (c .if2 .taken)))
+μ-loop s body-count k₀ k = body-count - k
 
 loop-again : tie.Need-loop-again Inv-loop μ-loop
 loop-again c =
@@ -51,13 +30,9 @@ loop-again c =
           (c .before .is-finite2 .ensures) (c .if2 .left)),
     )
 
-returns-3 : tie.Need-returns-3 Inv-loop μ-loop
-returns-3 c =
-    let start = c .before .before .before in
-    all-of (now (start .args .s)) _ (every-end _ (c .before .loop .inv .0) (c .loop-test .left) (c .before .loop .inv .1))
-
 pub shares-finite-spec : {M : Type 1} → statement M
 shares-finite-spec =
     tie.close (tie.spec
-    Inv-loop μ-loop (λ c. (omega arith, every-none _)) (λ c κs. omega arith) (λ c κs. omega arith) returns
-    (λ c κs. omega arith) returns-2 (λ c. omega arith) (λ c. omega arith) loop-again returns-3)
+    Inv-loop μ-loop (λ c. (omega arith, every-none _)) (λ c κs. omega arith) (λ c κs. omega arith)
+    (λ c. search (all-of, every-fail, linear-wild)) (λ c κs. omega arith) (λ c. search (all-of, every-fail, angular-wild))
+    (λ c. omega arith) (λ c. omega arith) loop-again (λ c. search (all-of, every-end)))

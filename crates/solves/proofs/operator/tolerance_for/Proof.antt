@@ -6,17 +6,8 @@ use Rattle.solves.proofs.SearchLaws.{tolerance-go, tolerance-stop}
 use Rattle.solves.proofs.operator.tolerance_for.Statement.{statement}
 use Rattle.solves.proofs.operator.tolerance_for.Tie as tie
 
-returns : tie.Need-returns
-returns c =
-    tolerance-stop _ _ (sum-over (c .before .before .dot .ensures) (c .enum-told .given .1))
-
-returns-2 : tie.Need-returns-2
-returns-2 c =
-    let at-dot = c .before .before .before .before in
-    tolerance-go (at-dot .before .before .args .scale) _ (sum-there (at-dot .dot .ensures) (c .before .before .square .given .1))
-    (c .sqrt .ensures .is) one-is
-
 pub tolerance-for-spec : {M : Type 1} → statement M
 tolerance-for-spec =
     tie.close (tie.spec
-    (λ c κs. search needs) (λ c. search needs) (λ c. search needs) returns (λ c κs. search needs) returns-2)
+    (λ c κs. search needs) (λ c. search needs) (λ c. search needs) (λ c. search (tolerance-stop, sum-over))
+    (λ c κs. search needs) (λ c. search (tolerance-go, sum-there, one-is)))

@@ -20,13 +20,13 @@ use Rattle.solves.proofs.operator.transpose.Statement.{statement}
 use Rattle.solves.proofs.operator.transpose.Tie as tie
 
 abbrev Inv-loop : tie.InvT-loop
-Inv-loop s₀ ia ib t values n bodies k₀ s k =
+Inv-loop s₀ ia ib t values n body-count k₀ s k =
     (k ≤ t .rows) × (length s ≡ length s₀)
     × (Does Shares s₀ s (checked (sharesIn s (t .bodies)))
     (loop k (rowTurn (rowsOn ia ib s₀ (t .place) (t .rows)) (vecAt s₀ values (t .rows))) (sharesIn s₀ (t .bodies))))
 
 abbrev μ-loop : tie.MeasureT-loop
-μ-loop s₀ ia ib t values n bodies k₀ s k = t .rows - k
+μ-loop s₀ ia ib t values n body-count k₀ s k = t .rows - k
 
 loop-holds : tie.Need-loop-holds Inv-loop μ-loop
 loop-holds c =

@@ -20,13 +20,8 @@ loop-again c =
     let at-loop = c .before in
     (omega arith, omega arith, append-more (at-loop .loop .inv .2) (at-loop .loop .inv .0) (c .loop-test .taken) (at-loop .before .pre .2))
 
-returns : tie.Need-returns Inv-loop μ-loop
-returns c =
-    let at-loop = c .before in
-    append-ends (at-loop .loop .inv .2) (at-loop .loop .inv .1) (c .loop-test .left)
-
 pub append-spec : {M : Type 1} → statement M
 append-spec =
     tie.close (tie.spec
     Inv-loop μ-loop loop-holds (λ c. omega arith) (λ c. omega arith) (λ c. omega arith) (λ c. omega arith)
-    (λ c. omega arith) loop-again returns)
+    (λ c. omega arith) loop-again (λ c. search append-ends))

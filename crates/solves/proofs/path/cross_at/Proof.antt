@@ -10,13 +10,13 @@ load-row-requires : tie.Need-load-row-requires
 load-row-requires c κs =
     let start = c .before .before in
     let pre = start .pre in
-    omega (arith, pre .1 _ (pre .2), pre .0 .whole, pre .0 .most, pre .0 .table)
+    omega (arith, pre .0 .along _ (pre .1), pre .0 .rows .whole, pre .0 .rows .most, pre .0 .rows .table)
 
 load-row-requires-2 : tie.Need-load-row-requires-2
 load-row-requires-2 c κs =
     let start = c .before .before .before .before in
     let pre = start .pre in
-    omega (arith, pre .1 _ (pre .3), pre .0 .whole, pre .0 .most, pre .0 .table)
+    omega (arith, pre .0 .along _ (pre .2), pre .0 .rows .whole, pre .0 .rows .most, pre .0 .rows .table)
 
 cross-mass-requires : tie.Need-cross-mass-requires
 cross-mass-requires c κs =
@@ -24,24 +24,14 @@ cross-mass-requires c κs =
     let start = at-load-row .before .before .before in
     let args = start .args in
     let pre = start .pre in (
-      pre .0 .whole,
-      on-a (pre .0) (pre .1 (args .i) (pre .2)) (now (args .s)) (at-load-row .load-row .ensures),
-      on-b (pre .0) (pre .1 (args .i) (pre .2)) (now (args .s)) (at-load-row .load-row .ensures),
-      pre .0 .bodies,
+      pre .0 .rows .whole,
+      on-a (pre .0 .rows) (pre .0 .along _ (pre .1)) (now (args .s)) (at-load-row .load-row .ensures),
+      on-b (pre .0 .rows) (pre .0 .along _ (pre .1)) (now (args .s)) (at-load-row .load-row .ensures),
+      pre .0 .rows .bodies,
     )
-
-returns : tie.Need-returns
-returns c =
-    let at-load-row2 = c .before in
-    let at-load-row = at-load-row2 .before .before in
-    let start = at-load-row .before .before .before in
-    let args = start .args in
-    let pre = start .pre in
-    cross-at (pre .0) (now (args .order)) (pre .1) (args .i) (args .j) (pre .2) (pre .3) (at-load-row .load-row .ensures)
-    (at-load-row2 .load-row2 .ensures) (c .cross-mass .ensures)
 
 pub cross-at-spec : {M : Type 1} → statement M
 cross-at-spec =
     tie.close (tie.spec
-    (λ c. omega arith) (λ c. omega arith) load-row-requires (λ c. omega arith) (λ c. omega arith)
-    load-row-requires-2 cross-mass-requires returns)
+    (λ c. omega arith) (λ c. omega arith) load-row-requires (λ c. omega arith) (λ c. omega arith) load-row-requires-2
+    cross-mass-requires (λ c. search cross-at))

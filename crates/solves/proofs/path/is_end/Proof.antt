@@ -1,7 +1,6 @@
 -- `is_end` meets its contract: by the three tests of the definition.
 use native.Mathlib.Omega.{arith}
 use borrow.Author.Needs.{needs}
-use mathlib.Core.Path.{refl}
 use Prim.Native.Nat.{_<_}
 use lib.ListN.{getD}
 use denote.Ref.{now}
@@ -9,13 +8,6 @@ use Rattle.solves.proofs.BlockLaws.{row-there, a-body, b-body}
 use Rattle.solves.proofs.WalkLaws.{end-visited, end-a, end-b}
 use Rattle.solves.proofs.path.is_end.Statement.{statement}
 use Rattle.solves.proofs.path.is_end.Tie as tie
-
-returns : tie.Need-returns
-returns c =
-    let start = c .before .before in
-    let args = start .args in
-    let pre = start .pre in
-    end-visited (pre .0) (now (args .visited)) (args .block) (c .if1 .taken)
 
 -- the block's first row, and its bodies
 row-of : (c : tie.Start) → getD (now (c .args .starts)) (c .args .block) 0 < 96
@@ -33,32 +25,10 @@ neighbor-requires-2 c κs =
     let at-if2 = c .before .before .before .before .before .before in
     b-body (at-if2 .before .pre .0 .blocked) (at-if2 .before .pre .1)
 
-returns-2 : tie.Need-returns-2
-returns-2 c =
-    let at-neighbor = c .before in
-    let at-if1 = at-neighbor .before .before .before in
-    let start = at-if1 .before .before in
-    let args = start .args in
-    let pre = start .pre in
-    end-a (pre .0) (now (args .visited)) (args .block) (pre .1) (at-if1 .if1 .left) (at-neighbor .neighbor .ensures) (c .if2 .taken)
-
-returns-3 : tie.Need-returns-3
-returns-3 c =
-    let at-if2 = c .before .before in
-    let at-neighbor = at-if2 .before in
-    let at-if1 = at-neighbor .before .before .before in
-    let start = at-if1 .before .before in
-    let args = start .args in
-    let pre = start .pre in
-    end-b (pre .0) (now (args .visited)) (args .block) (pre .1) (at-if1 .if1 .left) (at-neighbor .neighbor .ensures) (at-if2 .if2 .left)
-    (c .neighbor2 .ensures) refl
-
 pub is-end-spec : {M : Type 1} → statement M
 is-end-spec =
     tie.close (tie.spec
-    (λ c. search needs) returns (λ c. search needs) (λ c. search needs)
-    (λ c. omega (arith, row-of (c .before .before .before)))
-    (λ c. omega (arith, row-of (c .before .before .before))) neighbor-requires returns-2
-    (λ c. omega (arith, row-of (c .before .before .before .before .before .before)))
-    (λ c. omega (arith, row-of (c .before .before .before .before .before .before))) neighbor-requires-2
-    returns-3)
+    (λ c. search needs) (λ c. search end-visited) (λ c. search needs) (λ c. search needs)
+    (λ c. omega (arith, row-of (c .before .before .before))) (λ c. omega (arith, row-of (c .before .before .before)))
+    neighbor-requires (λ c. search end-a) (λ c. omega (arith, row-of (c .before .before .before .before .before .before)))
+    (λ c. omega (arith, row-of (c .before .before .before .before .before .before))) neighbor-requires-2 (λ c. search end-b))

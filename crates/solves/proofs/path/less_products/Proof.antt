@@ -21,7 +21,7 @@ both : (c : tie.In-loop Inv-loop μ-loop) → let args = c .before .before .befo
     (InLine (args .a) (c .before .loop .k)) × (InLine (args .b) (c .before .loop .k))
 both c =
     let pre = c .before .before .before .pre in
-    (pre .1 (c .before .loop .k) (c .loop-test .taken), pre .2 (c .before .loop .k) (c .loop-test .taken))
+    (pre .first (c .before .loop .k) (c .loop-test .taken), pre .second (c .before .loop .k) (c .loop-test .taken))
 
 loop-again : tie.Need-loop-again Inv-loop μ-loop
 loop-again c =
@@ -30,20 +30,14 @@ loop-again c =
     let at-loop = at-place .before .before in
     let args = at-loop .before .before .args in (
       omega arith,
-      products-more (now (args .s)) (args .start) (args .a) (args .b) (at-loop .loop .k) (at-loop .loop .inv .1) (at-place .place .ensures)
+      products-more (now (args .s)) _ _ _ (at-loop .loop .k) (at-loop .loop .inv .1) (at-place .place .ensures)
           (at-place2 .place2 .ensures),
     )
-
-returns : tie.Need-returns Inv-loop μ-loop
-returns c =
-    let at-loop = c .before in
-    turns-end _ _ (at-loop .loop .inv .0) (c .loop-test .left) (at-loop .loop .inv .1)
 
 pub less-products-spec : {M : Type 1} → statement M
 less-products-spec =
     tie.close (tie.spec
-    Inv-loop μ-loop (λ c. (omega arith, turns-none _ _)) (λ c κs. both c .0)
-    (λ c. omega (arith, both (c .before))) (λ c. omega (arith, both (c .before .before)))
-    (λ c κs. both (c .before .before) .1) (λ c. omega (arith, both (c .before .before .before)))
-    (λ c. omega (arith, both (c .before .before .before .before))) (λ c. omega arith) (λ c. omega arith)
-    loop-again returns)
+    Inv-loop μ-loop (λ c. (omega arith, turns-none _ _)) (λ c κs. both c .0) (λ c. omega (arith, both (c .before)))
+    (λ c. omega (arith, both (c .before .before))) (λ c κs. both (c .before .before) .1)
+    (λ c. omega (arith, both (c .before .before .before))) (λ c. omega (arith, both (c .before .before .before .before)))
+    (λ c. omega arith) (λ c. omega arith) loop-again (λ c. search turns-end))

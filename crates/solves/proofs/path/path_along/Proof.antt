@@ -3,14 +3,11 @@ use native.Mathlib.Omega.{arith}
 use borrow.Author.Needs.{needs}
 use mathlib.Core.Path.{_∙_, ap}
 use Prim.Native.Nat.{_-_}
-use lib.Ieee.{Float}
-use denote.Ref.{now}
 use Rattle.arith.specs.Run.{ran}
 use Rattle.solves.specs.Region.{vecAt}
-use Rattle.solves.specs.View.{RHS, SOLUTION}
+use Rattle.solves.specs.View.{SOLUTION}
 use Rattle.solves.specs.DoesLaws.{sum-there, sum-over, went, failed, fails, does-eq}
-use Rattle.solves.specs.Solver.{toleranceFor}
-use Rattle.solves.proofs.OperatorLaws.{rows-kept}
+use Rattle.solves.proofs.OperatorLaws.{along-kept}
 use Rattle.solves.proofs.SearchLaws.{tenth-12, new-ended}
 use Rattle.solves.proofs.SolveLaws.{along-refused, along-intolerant, along-whole}
 use Rattle.solves.proofs.path.path_along.Statement.{statement}
@@ -25,7 +22,7 @@ returns c =
     let end = at-path-factored .path-factored .result in
     new-ended (vecAt (at-path-factored .path-factored .last .0) SOLUTION _) (c .new .ensures)
     (does-eq (ap (λ x. ran x 0 0) (fails _ end (at-done .done .ensures) (at-if1 .if1 .taken)))
-    (along-refused _ (start .pre .0) (now (start .args .order))
+    (along-refused _ (start .pre)
     (failed _ end (at-done .done .ensures) (at-path-factored .path-factored .ensures) (at-if1 .if1 .taken))))
 
 returns-2 : tie.Need-returns-2
@@ -35,11 +32,10 @@ returns-2 c =
     let at-path-factored = at-done .before .before .before in
     let start = at-path-factored .before .before .before in
     new-ended (vecAt (at-path-factored .path-factored .last .0) SOLUTION _) (c .new2 .ensures)
-    (along-intolerant _ (start .pre .0) (now (start .args .order))
+    (along-intolerant _ (start .pre)
     (went _ (at-path-factored .path-factored .result) (at-done .done .ensures) (at-path-factored .path-factored .ensures)
     (at-tolerance-for .before .before .if1 .left))
-    (sum-over (at-tolerance-for .tolerance-for .ensures) (c .before .enum-told .given .1) ∙ ap
-    (λ (x : Float). toleranceFor x (vecAt (at-path-factored .path-factored .last .0) RHS (start .args .t .rows))) tenth-12))
+    (rw tenth-12 at (sum-over (at-tolerance-for .tolerance-for .ensures) (c .before .enum-told .given .1))))
 
 refinements-requires : tie.Need-refinements-requires
 refinements-requires c κs =
@@ -47,7 +43,7 @@ refinements-requires c κs =
     let at-tolerance-for-arg = at-copy .before .before .before .before .before .before in
     let at-path-factored = at-tolerance-for-arg .before .before .before .before .before in
     let start = at-path-factored .before .before .before in
-    (rows-kept (start .pre .0) (at-copy .copy .ensures .kept .size ∙ at-path-factored .path-factored .ensures .kept .size), start .pre .1)
+    along-kept (start .pre) (at-copy .copy .ensures .kept .size ∙ at-path-factored .path-factored .ensures .kept .size)
 
 returns-3 : tie.Need-returns-3
 returns-3 c =
@@ -56,10 +52,9 @@ returns-3 c =
     let at-if1 = at-tolerance .before .before .before .before in
     let at-path-factored = at-if1 .before .before .before .before in
     let start = at-path-factored .before .before .before in
-    along-whole _ (start .pre .0) (now (start .args .order))
+    along-whole _ (start .pre)
     (went _ (at-path-factored .path-factored .result) (at-if1 .before .done .ensures) (at-path-factored .path-factored .ensures) (at-if1 .if1 .left))
-    (sum-there (at-tolerance .before .before .tolerance-for .ensures) (at-tolerance .tolerance .given .1) ∙ ap
-    (λ (x : Float). toleranceFor x (vecAt (at-path-factored .path-factored .last .0) RHS (start .args .t .rows))) tenth-12)
+    (rw tenth-12 at (sum-there (at-tolerance .before .before .tolerance-for .ensures) (at-tolerance .tolerance .given .1)))
     (at-copy .copy .ensures) (c .before .before .refinements .ensures)
 
 pub path-along-spec : {M : Type 1} → statement M

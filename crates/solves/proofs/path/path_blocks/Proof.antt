@@ -20,14 +20,8 @@ loop-again c =
           (c .note-start .ensures .written),
     )
 
-returns : tie.Need-returns Inv-loop μ-loop
-returns c =
-    let at-loop = c .before in
-    let pre = at-loop .before .pre in
-    blocks-made _ _ _ _ (pre .0) (pre .1) (pre .2) (at-loop .loop .inv .1) (at-loop .loop .inv .0) (c .loop-test .left)
-
 pub path-blocks-spec : {M : Type 1} → statement M
 path-blocks-spec =
     tie.close (tie.spec
-    Inv-loop μ-loop (λ c. (omega arith, starts-none _ _ _ _ (c .pre .3))) (λ c κs. omega arith)
-    (λ c. omega arith) (λ c. omega arith) loop-again (λ c. omega arith) (λ c. omega arith) returns)
+    Inv-loop μ-loop (λ c. (omega arith, starts-none _ _ _ _ (c .pre .3))) (λ c κs. omega arith) (λ c. omega arith)
+    (λ c. omega arith) loop-again (λ c. omega arith) (λ c. omega arith) (λ c. search blocks-made))

@@ -72,16 +72,11 @@ loop-again c =
           (edges-yes (at-add-edge2 .add-edge2 .result) (at-add-edge2 .add-edge2 .last .0) (at-add-edge2 .add-edge2 .ensures) (not-no _ (c .if2 .left))),
     )
 
-returns-3 : tie.Need-returns-3 Inv-loop μ-loop
-returns-3 c =
-    let at-loop = c .before in
-    record { is = loop-end _ _ (at-loop .loop .inv .0) (c .loop-test .left) (at-loop .loop .inv .1 .is); links = λ e. at-loop .loop .inv .1 .links }
-
 pub path-edges-spec : {M : Type 1} → statement M
 path-edges-spec =
     tie.close (tie.spec
     Inv-loop μ-loop (λ c. (omega arith, edges-none (c .pre .linking))) (λ c. omega arith) (λ c. omega arith)
-    (λ c. omega (arith, row-of (c .before .before))) (λ c. omega (arith, row-of (c .before .before)))
-    add-edge-requires returns (λ c. omega (arith, row-of (c .before .before .before .before .before .before)))
-    (λ c. omega (arith, row-of (c .before .before .before .before .before .before))) add-edge-requires-2
-    returns-2 (λ c. omega arith) (λ c. omega arith) loop-again returns-3)
+    (λ c. omega (arith, row-of (c .before .before))) (λ c. omega (arith, row-of (c .before .before))) add-edge-requires
+    returns (λ c. omega (arith, row-of (c .before .before .before .before .before .before)))
+    (λ c. omega (arith, row-of (c .before .before .before .before .before .before))) add-edge-requires-2 returns-2
+    (λ c. omega arith) (λ c. omega arith) loop-again (λ c. search loop-end))

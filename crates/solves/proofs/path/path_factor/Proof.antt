@@ -1,12 +1,10 @@
 -- `path_factor` meets its contract: row by row by FactorLaws `rows-more`, from the cleared band by `factor-from`.
 use native.Mathlib.Omega.{arith}
 use borrow.Author.Needs.{needs}
-use mathlib.Core.Path.{_∙_}
 use Prim.Native.Nat.{_≤_, _-_}
-use denote.Ref.{now}
 use Rattle.solves.specs.Path.{pathRow}
 use Rattle.solves.specs.DoesLaws.{went, failed, fails, does-eq}
-use Rattle.solves.proofs.OperatorLaws.{rows-kept}
+use Rattle.solves.proofs.OperatorLaws.{along-kept}
 use Rattle.solves.proofs.FactorLaws.{BandSo, bandOn, rows-none, rows-more, rows-stop, rows-end, factor-from}
 use Rattle.solves.proofs.path.path_factor.Statement.{statement}
 use Rattle.solves.proofs.path.path_factor.Tie as tie
@@ -21,14 +19,7 @@ abbrev μ-loop : tie.MeasureT-loop
 loop-holds : tie.Need-loop-holds Inv-loop μ-loop
 loop-holds c =
     let start = c .before .before .before .before .before .before in
-    (omega arith, rows-none (start .pre .0) (now (start .args .order)) _)
-
-path-row-requires : tie.Need-path-row-requires Inv-loop μ-loop
-path-row-requires c κs =
-    let at-loop = c .before .before in
-    let at-clear = at-loop .before .before .before in
-    let pre = at-clear .before .before .before .before .pre in
-    (rows-kept (pre .0) (at-loop .loop .inv .1 .kept .size ∙ at-clear .clear .ensures .kept .size), pre .1, c .before .loop-test .taken)
+    (omega arith, rows-none (start .pre) _)
 
 returns : tie.Need-returns Inv-loop μ-loop
 returns c =
@@ -39,8 +30,8 @@ returns c =
     let start = at-clear .before .before .before .before in
     let end = at-path-row .path-row .result in
     does-eq (fails _ end (at-done .done .ensures) (c .if1 .taken))
-    (factor-from (start .pre .0) (now (start .args .order)) _ (at-clear .clear .ensures)
-    (rows-stop (start .pre .0) (now (start .args .order)) _ (at-loop .loop .i) (at-loop .loop .inv .1) (at-path-row .before .before .loop-test .taken)
+    (factor-from (start .pre) _ (at-clear .clear .ensures)
+    (rows-stop (start .pre) _ (at-loop .loop .i) (at-loop .loop .inv .1) (at-path-row .before .before .loop-test .taken)
     (failed _ end (at-done .done .ensures) (at-path-row .path-row .ensures) (c .if1 .taken))))
 
 loop-again : tie.Need-loop-again Inv-loop μ-loop
@@ -51,21 +42,13 @@ loop-again c =
     let at-clear = at-loop .before .before .before in
     let start = at-clear .before .before .before .before in (
       omega (arith, at-path-row .before .before .loop-test .taken),
-      rows-more (start .pre .0) (now (start .args .order)) _ (at-loop .loop .i) (at-loop .loop .inv .1)
+      rows-more (start .pre) _ (at-loop .loop .i) (at-loop .loop .inv .1)
           (went _ (at-path-row .path-row .result) (at-done .done .ensures) (at-path-row .path-row .ensures) (c .if1 .left)),
     )
-
-returns-2 : tie.Need-returns-2 Inv-loop μ-loop
-returns-2 c =
-    let at-loop = c .before in
-    let at-clear = at-loop .before .before .before in
-    let start = at-clear .before .before .before .before in
-    factor-from (start .pre .0) (now (start .args .order)) _ (at-clear .clear .ensures)
-    (rows-end (start .pre .0) (now (start .args .order)) _ (at-loop .loop .inv .1) (at-loop .loop .inv .0) (c .loop-test .left))
 
 pub path-factor-spec : {M : Type 1} → statement M
 path-factor-spec =
     tie.close (tie.spec
-    Inv-loop μ-loop (λ c. omega arith) (λ c κs. omega arith) loop-holds path-row-requires
-    (λ c κs. search needs) (λ c. omega arith) returns (λ c. omega arith) (λ c. omega arith) loop-again (λ c. omega arith)
-    returns-2)
+    Inv-loop μ-loop (λ c. omega arith) (λ c κs. omega arith) loop-holds (λ c κs. search along-kept) (λ c κs. search needs)
+    (λ c. omega arith) returns (λ c. omega arith) (λ c. omega arith) loop-again (λ c. omega arith)
+    (λ c. search (factor-from, rows-end)))

@@ -9,14 +9,6 @@ use Rattle.solves.proofs.path.path_order.Tie as tie
 path-edges-requires : tie.Need-path-edges-requires
 path-edges-requires c κs = record { blocked = c .before .before .path-blocks .ensures .are; linking = linked-none _ }
 
-returns : tie.Need-returns
-returns c =
-    let at-if1 = c .before in
-    let at-path-edges = at-if1 .before in
-    no-path-is (c .no-path .ensures)
-    (order-declined (at-path-edges .before .before .before .path-blocks .ensures)
-    (edges-no (at-path-edges .path-edges .result) _ (at-path-edges .path-edges .ensures .is) (not-yes _ (at-if1 .if1 .taken))))
-
 path-walks-requires : tie.Need-path-walks-requires
 path-walks-requires c κs =
     let at-if1 = c .before .before .before in
@@ -25,17 +17,6 @@ path-walks-requires c κs =
       record { blocked = at-path-blocks .path-blocks .ensures .are; linking = at-path-edges .path-edges .ensures .links (not-no _ (at-if1 .if1 .left)) },
       listed-none _,
     )
-
-returns-2 : tie.Need-returns-2
-returns-2 c =
-    let at-if2 = c .before in
-    let at-path-walks = at-if2 .before .before in
-    let at-if1 = at-path-walks .before .before .before .before in
-    let at-path-edges = at-if1 .before in
-    no-path-is (c .no-path2 .ensures)
-    (order-lost (at-path-edges .before .before .before .path-blocks .ensures)
-    (edges-yes (at-path-edges .path-edges .result) _ (at-path-edges .path-edges .ensures .is) (not-no _ (at-if1 .if1 .left)))
-    (at-path-walks .path-walks .ensures) (not-yes _ (at-if2 .if2 .taken)))
 
 returns-3 : tie.Need-returns-3
 returns-3 c =
@@ -47,20 +28,10 @@ returns-3 c =
     (edges-yes (at-path-edges .path-edges .result) _ (at-path-edges .path-edges .ensures .is) (not-no _ (at-if1 .if1 .left)))
     (at-path-walks .path-walks .ensures) (not-no _ (at-if2 .if2 .left)) (c .if3 .taken)
 
-returns-4 : tie.Need-returns-4
-returns-4 c =
-    let at-if3 = c .before in
-    let at-if2 = at-if3 .before .before in
-    let at-path-walks = at-if2 .before .before in
-    let at-if1 = at-path-walks .before .before .before .before in
-    let at-path-edges = at-if1 .before in
-    no-path-is (c .no-path3 .ensures)
-    (order-short (at-path-edges .before .before .before .path-blocks .ensures)
-    (edges-yes (at-path-edges .path-edges .result) _ (at-path-edges .path-edges .ensures .is) (not-no _ (at-if1 .if1 .left)))
-    (at-path-walks .path-walks .ensures) (not-no _ (at-if2 .if2 .left)) (at-if3 .if3 .left))
-
 pub path-order-spec : {M : Type 1} → statement M
 path-order-spec =
     tie.close (tie.spec
-    (λ c κs. search needs) path-edges-requires (λ c κs. search needs) returns path-walks-requires
-    (λ c κs. search needs) returns-2 returns-3 (λ c κs. search needs) returns-4)
+    (λ c κs. search needs) path-edges-requires (λ c κs. search needs)
+    (λ c. search (no-path-is, order-declined, edges-no, not-yes)) path-walks-requires (λ c κs. search needs)
+    (λ c. search (no-path-is, order-lost, edges-yes, not-no, not-yes)) returns-3 (λ c κs. search needs)
+    (λ c. search (no-path-is, order-short, edges-yes, not-no)))

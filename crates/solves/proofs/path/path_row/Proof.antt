@@ -3,10 +3,9 @@ use native.Mathlib.Omega.{arith}
 use borrow.Author.Needs.{needs}
 use mathlib.Core.Path.{refl}
 use Prim.Native.Nat.{_+_, _≤_, _-_}
-use denote.Ref.{now}
 use Rattle.solves.specs.Path.{pathEntry}
 use Rattle.solves.specs.DoesLaws.{went, failed, fails, does-eq}
-use Rattle.solves.proofs.OperatorLaws.{rows-kept}
+use Rattle.solves.proofs.OperatorLaws.{along-kept}
 use Rattle.solves.proofs.FactorLaws.{BandSo, bandOn, entries-start, entries-more, entries-stop, entries-end}
 use Rattle.solves.proofs.path.path_row.Statement.{statement}
 use Rattle.solves.proofs.path.path_row.Tie as tie
@@ -26,7 +25,7 @@ loop-holds c =
     let args = start .args in (
       omega (arith, c .band-start .ensures),
       omega (arith, c .band-start .ensures),
-      does-eq refl (entries-start (start .pre .0) (now (args .order)) (args .i) _ (c .band-start .ensures)),
+      does-eq refl (entries-start (start .pre .0) _ _ (c .band-start .ensures)),
     )
 
 path-entry-requires : tie.Need-path-entry-requires Inv-loop μ-loop
@@ -35,7 +34,7 @@ path-entry-requires c κs =
     let at-loop = at-loop-test .before in
     let pre = at-loop .before .before .before .pre in
     let so = at-loop .loop .inv in
-    (rows-kept (pre .0) (so .2 .kept .size), pre .1, pre .2, omega (arith, at-loop-test .loop-test .taken), omega (arith, so .0))
+    (along-kept (pre .0) (so .2 .kept .size), pre .1, omega (arith, at-loop-test .loop-test .taken), omega (arith, so .0))
 
 returns : tie.Need-returns Inv-loop μ-loop
 returns c =
@@ -46,7 +45,7 @@ returns c =
     let start = at-loop .before .before .before in
     let end = at-path-entry .path-entry .result in
     does-eq (fails _ end (at-done .done .ensures) (c .if1 .taken))
-    (entries-stop (start .pre .0) (now (start .args .order)) _ _ (at-loop .loop .inv .2) (at-loop .loop .inv .0)
+    (entries-stop (start .pre .0) _ _ (at-loop .loop .inv .2) (at-loop .loop .inv .0)
     (at-loop-test .loop-test .taken) (failed _ end (at-done .done .ensures) (at-path-entry .path-entry .ensures) (c .if1 .taken)))
 
 loop-again : tie.Need-loop-again Inv-loop μ-loop
@@ -58,19 +57,13 @@ loop-again c =
     let start = at-loop .before .before .before in (
       omega (arith, at-loop .loop .inv .0),
       omega (arith, at-loop-test .loop-test .taken),
-      entries-more (start .pre .0) (now (start .args .order)) _ _ (at-loop .loop .inv .2) (at-loop .loop .inv .0)
+      entries-more (start .pre .0) _ _ (at-loop .loop .inv .2) (at-loop .loop .inv .0)
           (went _ (at-path-entry .path-entry .result) (at-done .done .ensures) (at-path-entry .path-entry .ensures) (c .if1 .left)),
     )
-
-returns-2 : tie.Need-returns-2 Inv-loop μ-loop
-returns-2 c =
-    let at-loop = c .before in
-    let start = at-loop .before .before .before in
-    entries-end (start .pre .0) (now (start .args .order)) _ _ (at-loop .loop .inv .2) (at-loop .loop .inv .1) (c .loop-test .left)
 
 pub path-row-spec : {M : Type 1} → statement M
 path-row-spec =
     tie.close (tie.spec
-    Inv-loop μ-loop (λ c κs. search needs) (λ c. omega arith) loop-holds path-entry-requires
-    (λ c κs. search needs) (λ c. omega arith) returns (λ c. omega arith) (λ c. omega arith) loop-again
-    (λ c. c .before .loop .inv .2 .kept .size) returns-2)
+    Inv-loop μ-loop (λ c κs. search needs) (λ c. omega arith) loop-holds path-entry-requires (λ c κs. search needs)
+    (λ c. omega arith) returns (λ c. omega arith) (λ c. omega arith) loop-again (λ c. c .before .loop .inv .2 .kept .size)
+    (λ c. search entries-end))

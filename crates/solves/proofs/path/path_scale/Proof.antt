@@ -4,14 +4,13 @@ use borrow.Author.Needs.{needs}
 use mathlib.Core.Path.{_≡_, refl}
 use Prim.Native.Nat.{_≤_, _-_}
 use lib.ListN.{length, length-set}
-use denote.Ref.{now}
 use Rattle.arith.specs.Laws.Constants.{zero-is}
 use Rattle.arith.specs.Flow.{go}
 use Rattle.solves.specs.Path.{pathScale}
 use Rattle.solves.specs.Region.{vecAt, Does}
 use Rattle.solves.specs.View.{rowsOn, massesAt, listAt, MASSES, PATH-SCALE, Beside}
 use Rattle.solves.specs.DoesLaws.{sum-there, sum-over}
-use Rattle.solves.proofs.OperatorLaws.{rows-kept}
+use Rattle.solves.proofs.OperatorLaws.{along-kept}
 use Rattle.solves.proofs.FactorLaws.{scales-none, scales-lost, scales-refused, scales-more, scales-end}
 use Rattle.solves.proofs.path.path_scale.Statement.{statement}
 use Rattle.solves.proofs.path.path_scale.Tie as tie
@@ -28,35 +27,7 @@ loop-holds : tie.Need-loop-holds Inv-loop μ-loop
 loop-holds c =
     let start = c .before in
     let pre = start .pre in
-    (omega arith, refl, scales-none (pre .0) (now (start .args .order)) (pre .1) _)
-
-cross-at-requires : tie.Need-cross-at-requires Inv-loop μ-loop
-cross-at-requires c κs =
-    let at-loop-test = c .before in
-    let at-loop = at-loop-test .before in
-    let pre = at-loop .before .before .pre in
-    (rows-kept (pre .0) (at-loop .loop .inv .1), pre .1, at-loop-test .loop-test .taken, at-loop-test .loop-test .taken)
-
-returns : tie.Need-returns Inv-loop μ-loop
-returns c =
-    let at-cross-at = c .before .before in
-    let at-loop-test = at-cross-at .before .before in
-    let at-loop = at-loop-test .before in
-    let start = at-loop .before .before in
-    let pre = start .pre in
-    scales-lost (pre .0) (now (start .args .order)) (pre .1) _ (at-loop .loop .inv .2) (at-loop-test .loop-test .taken) (at-loop .loop .inv .1)
-    (sum-over (at-cross-at .cross-at .ensures) (c .enum-told .given .1))
-
-returns-2 : tie.Need-returns-2 Inv-loop μ-loop
-returns-2 c =
-    let at-value = c .before .before in
-    let at-cross-at = at-value .before .before in
-    let at-loop-test = at-cross-at .before .before in
-    let at-loop = at-loop-test .before in
-    let start = at-loop .before .before in
-    let pre = start .pre in
-    scales-refused (pre .0) (now (start .args .order)) (pre .1) _ (at-loop .loop .inv .2) (at-loop-test .loop-test .taken) (at-loop .loop .inv .1)
-    zero-is (sum-there (at-cross-at .cross-at .ensures) (at-value .value .given .1)) (c .if1 .taken)
+    (omega arith, refl, scales-none pre _)
 
 loop-again : tie.Need-loop-again Inv-loop μ-loop
 loop-again c =
@@ -69,20 +40,14 @@ loop-again c =
     let pre = start .pre in (
       omega (arith, at-loop-test .loop-test .taken),
       simp length-set (at-loop .loop .inv .1),
-      scales-more (pre .0) (now (start .args .order)) (pre .1) _ (at-loop .loop .inv .2) (at-loop-test .loop-test .taken) (at-loop .loop .inv .1)
+      scales-more pre _ (at-loop .loop .inv .2) (at-loop-test .loop-test .taken) (at-loop .loop .inv .1)
           zero-is (sum-there (at-cross-at .cross-at .ensures) (at-value .value .given .1)) (at-if1 .if1 .left) (c .sqrt .ensures .is),
     )
-
-returns-3 : tie.Need-returns-3 Inv-loop μ-loop
-returns-3 c =
-    let at-loop = c .before in
-    let start = at-loop .before .before in
-    let pre = start .pre in
-    scales-end (pre .0) (now (start .args .order)) (pre .1) _ (at-loop .loop .inv .2) (at-loop .loop .inv .0) (c .loop-test .left)
 
 pub path-scale-spec : {M : Type 1} → statement M
 path-scale-spec =
     tie.close (tie.spec
-    Inv-loop μ-loop loop-holds cross-at-requires (λ c. search needs) (λ c. search needs) (λ c. omega arith) returns
-    (λ c. omega arith) returns-2 (λ c κs. search needs) (λ c. omega arith) (λ c. omega arith) (λ c. omega arith)
-    (λ c. omega arith) (λ c. omega arith) loop-again (λ c. c .before .loop .inv .1) returns-3)
+    Inv-loop μ-loop loop-holds (λ c κs. search along-kept) (λ c. search needs) (λ c. search needs) (λ c. omega arith)
+    (λ c. search (scales-lost, sum-over)) (λ c. omega arith) (λ c. search (scales-refused, zero-is, sum-there))
+    (λ c κs. search needs) (λ c. omega arith) (λ c. omega arith) (λ c. omega arith) (λ c. omega arith) (λ c. omega arith)
+    loop-again (λ c. c .before .loop .inv .1) (λ c. search scales-end))

@@ -3,7 +3,6 @@ use native.Mathlib.Omega.{arith}
 use borrow.Author.Needs.{needs}
 use mathlib.Core.Path.{_∙_}
 use Prim.Native.Nat.{_-_}
-use denote.Ref.{now}
 use Rattle.solves.specs.View.{SOLUTION, PRODUCT}
 use Rattle.solves.specs.DoesLaws.{went, failed, fails, does-eq}
 use Rattle.solves.proofs.OperatorLaws.{rows-kept, place-of}
@@ -14,13 +13,13 @@ use Rattle.solves.proofs.path.refine.Tie as tie
 forward-requires : tie.Need-forward-requires
 forward-requires c κs =
     let start = c .before .before in
-    (start .pre .0 .whole, start .pre .0 .most, start .pre .1)
+    (start .pre .rows .whole, start .pre .rows .most, start .pre .along)
 
 backward-requires : tie.Need-backward-requires
 backward-requires c κs =
     let at-forward = c .before .before .before in
     let start = at-forward .before .before .before in
-    (omega (arith, at-forward .forward .ensures .kept .size, start .pre .0 .whole), start .pre .0 .most, start .pre .1)
+    (omega (arith, at-forward .forward .ensures .kept .size, start .pre .rows .whole), start .pre .rows .most, start .pre .along)
 
 operator-requires : tie.Need-operator-requires
 operator-requires c κs =
@@ -28,9 +27,9 @@ operator-requires c κs =
     let at-forward = at-backward .before .before .before .before in
     let start = at-forward .before .before .before in
     let size = at-backward .backward .ensures .kept .size ∙ at-forward .forward .ensures .kept .size in (
-      rows-kept (start .pre .0) size,
-      place-of SOLUTION (omega arith) (omega arith) (omega (arith, size, start .pre .0 .whole)),
-      place-of PRODUCT (omega arith) (omega arith) (omega (arith, size, start .pre .0 .whole)),
+      rows-kept (start .pre .rows) size,
+      place-of SOLUTION (omega arith) (omega arith) (omega (arith, size, start .pre .rows .whole)),
+      place-of PRODUCT (omega arith) (omega arith) (omega (arith, size, start .pre .rows .whole)),
     )
 
 returns : tie.Need-returns
@@ -42,22 +41,11 @@ returns c =
     let start = at-forward .before .before .before in
     let end = at-operator .operator .result in
     does-eq (fails _ end (at-done .done .ensures) (c .if1 .taken))
-    (refine-failed _ (start .pre .0) (now (start .args .order)) (at-forward .forward .ensures) (at-backward .backward .ensures)
+    (refine-failed _ (start .pre) (at-forward .forward .ensures) (at-backward .backward .ensures)
     (failed _ end (at-done .done .ensures) (at-operator .operator .ensures) (c .if1 .taken)))
-
-returns-2 : tie.Need-returns-2
-returns-2 c =
-    let at-if1 = c .before .before .before .before in
-    let at-operator = at-if1 .before .before .before .before in
-    let at-backward = at-operator .before .before .before .before in
-    let at-forward = at-backward .before .before .before .before in
-    let start = at-forward .before .before .before in
-    refine-done _ (start .pre .0) (now (start .args .order)) (at-forward .forward .ensures) (at-backward .backward .ensures)
-    (went _ (at-operator .operator .result) (at-if1 .before .done .ensures) (at-operator .operator .ensures) (at-if1 .if1 .left))
-    (c .before .before .difference .ensures)
 
 pub refine-spec : {M : Type 1} → statement M
 refine-spec =
     tie.close (tie.spec
     forward-requires backward-requires operator-requires (λ c κs. search needs) (λ c. omega arith) returns
-    (λ c κs. omega arith) (λ c. omega arith) returns-2)
+    (λ c κs. omega arith) (λ c. omega arith) (λ c. search (refine-done, went)))

@@ -1,29 +1,19 @@
 -- `walk_from` meets its contract: by what `is_end` says, and from an end by what `walk` says.
 use borrow.Author.Needs.{needs}
-use denote.Ref.{now}
 use Rattle.solves.specs.PathView.{orderAt}
 use Rattle.solves.proofs.WalkLaws.{from-end, from-other}
 use Rattle.solves.proofs.path.walk_from.Statement.{statement}
 use Rattle.solves.proofs.path.walk_from.Tie as tie
 
-returns : tie.Need-returns
-returns c =
-    let at-if1 = c .before .before .before in
-    let at-is-end = at-if1 .before in
-    let start = at-is-end .before .before in
-    let args = start .args in
-    from-end (start .pre .0) (orderAt (now (args .rows)) (args .listed)) (now (args .visited)) (args .first) (at-is-end .is-end .ensures)
-    (at-if1 .if1 .taken) (c .walk .ensures)
-
 returns-2 : tie.Need-returns-2
 returns-2 c =
     let at-is-end = c .before .before in
     let start = at-is-end .before .before in
-    let args = start .args in
     rw (c .new .ensures)
-    (from-other (start .pre .0) (orderAt (now (args .rows)) (args .listed)) (now (args .visited)) (args .first) (at-is-end .is-end .ensures)
+    (from-other (start .pre .0) (orderAt _ _) _ _ (at-is-end .is-end .ensures)
     (c .before .if1 .left) (start .pre .2))
 
 pub walk-from-spec : {M : Type 1} → statement M
 walk-from-spec =
-    tie.close (tie.spec (λ c κs. search needs) (λ c κs. search needs) returns (λ c κs. search needs) returns-2)
+    tie.close (tie.spec
+    (λ c κs. search needs) (λ c κs. search needs) (λ c. search from-end) (λ c κs. search needs) returns-2)

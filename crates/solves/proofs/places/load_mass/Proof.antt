@@ -9,7 +9,7 @@ returns : tie.Need-returns
 returns c =
     let at-load32 = c .before .before .before in
     let start = at-load32 .before .before .before in
-    mass-loaded (now (start .args .s)) (start .args .place) (start .args .k) (at-load32 .before .load3 .ensures) (at-load32 .load32 .ensures)
+    mass-loaded (now (start .args .s)) _ _ (at-load32 .before .load3 .ensures) (at-load32 .load32 .ensures)
     (c .before .before .load33 .ensures) (c .from-cols .ensures)
 
 pub load-mass-spec : {M : Type 1} → statement M

@@ -1,20 +1,15 @@
 -- search: the passes of a search, turn by turn by SearchLaws `search-again`.
 use native.Mathlib.Omega.{arith}
 use borrow.Author.Needs.{needs}
-use mathlib.Core.Path.{ap}
-use Prim.Native.Nat.{ℕ, _-_}
-use denote.Ref.{now}
+use Prim.Native.Nat.{_-_}
 use Rattle.arith.specs.Flow.{loop}
-use Rattle.arith.specs.Run.{upTo}
-use Rattle.rows.specs.Fault.{nonConvergent}
 use Rattle.solves.specs.Region.{vecAt}
-use Rattle.solves.specs.View.{systemOn, searchAt}
-use Rattle.solves.specs.View.{Passing}
+use Rattle.solves.specs.View.{systemOn}
 use Rattle.solves.specs.View.{RHS, SOLUTION, DIAGONAL}
 use Rattle.solves.specs.DoesLaws.{does-is, does-more}
 use Rattle.solves.specs.ViewLaws.{passing-work}
 use Rattle.solves.specs.Answer.{passOf}
-use Rattle.solves.proofs.SearchLaws.{new-ended, PassAt, pass-kept, came-none, came-spent, Searched, search-again, search-over}
+use Rattle.solves.proofs.SearchLaws.{new-ended, pass-kept, came-none, came-spent, Searched, search-again, search-over}
 use Rattle.solves.proofs.OperatorLaws.{rows-kept}
 use Rattle.solves.proofs.search.search.Statement.{statement}
 use Rattle.solves.proofs.search.search.Tie as tie
@@ -26,17 +21,6 @@ Inv-loop s₀ ia ib t which tolerance start most rho₀ k₀ s rho k =
 abbrev μ-loop : tie.MeasureT-loop
 μ-loop s₀ ia ib t which tolerance start most rho₀ k₀ s rho k = most - k
 
-loop-holds : tie.Need-loop-holds Inv-loop μ-loop
-loop-holds c =
-    let start = c .before .before in
-    came-none Passing (c .limit .result) (PassAt _ (start .pre) (start .args .which) (start .args .tolerance) (now (start .args .s))) _
-    (searchAt (now (start .args .s)) _ _)
-
-search-pass-requires : tie.Need-search-pass-requires Inv-loop μ-loop
-search-pass-requires c κs =
-    let start = c .before .before .before .before .before in
-    rows-kept (start .pre) (c .before .before .loop .inv .kept .size)
-
 returns : tie.Need-returns Inv-loop μ-loop
 returns c =
     let at-search-pass = c .before .before .before .before .before .before in
@@ -44,28 +28,20 @@ returns c =
     let at-limit = at-loop .before in
     let start = at-limit .before .before in
     new-ended (vecAt (at-search-pass .search-pass .last .0) SOLUTION _) (c .new .ensures)
-    (does-is (does-more passing-work (search-over _ (at-limit .limit .result)
-    (PassAt _ (start .pre) (start .args .which) (start .args .tolerance) (now (start .args .s))) _ _
-    (at-loop .loop .inv) (at-search-pass .before .before .loop-test .taken) (at-search-pass .search-pass .result)
+    (does-is (does-more passing-work (search-over _ (at-loop .loop .inv) (at-search-pass .before .before .loop-test .taken) (at-search-pass .search-pass .result)
     (does-is (at-search-pass .search-pass .ensures)
-    (pass-kept _ (start .pre) (start .args .which) (start .args .tolerance) (at-loop .loop .inv .kept) _))
+    (pass-kept _ (start .pre) (start .args .which) _ (at-loop .loop .inv .kept) _))
     (c .before .before .end .given .1)))
-    (ap
-    (λ (m : ℕ). upTo m nonConvergent
-    (PassAt _ (start .pre) (start .args .which) (start .args .tolerance) (now (start .args .s)))
-    (searchAt (now (start .args .s)) (start .args .t .rows) (start .args .start)))
-    (at-limit .limit .ensures)))
+    (cc (at-limit .limit .ensures)))
 
 loop-again : tie.Need-loop-again Inv-loop μ-loop
 loop-again c =
     let at-search-pass = c .before .before .before .before .before in
     let at-loop = at-search-pass .before .before .before in
     let start = at-loop .before .before .before in
-    search-again _ (at-loop .before .limit .result)
-    (PassAt _ (start .pre) (start .args .which) (start .args .tolerance) (now (start .args .s))) _ _
-    (at-loop .loop .inv) (at-search-pass .before .before .loop-test .taken) (at-search-pass .search-pass .result)
+    search-again _ (at-loop .loop .inv) (at-search-pass .before .before .loop-test .taken) (at-search-pass .search-pass .result)
     (does-is (at-search-pass .search-pass .ensures)
-    (pass-kept _ (start .pre) (start .args .which) (start .args .tolerance) (at-loop .loop .inv .kept) _))
+    (pass-kept _ (start .pre) (start .args .which) _ (at-loop .loop .inv .kept) _))
     (c .before .next .given .1)
 
 returns-2 : tie.Need-returns-2 Inv-loop μ-loop
@@ -76,18 +52,12 @@ returns-2 c =
     new-ended (vecAt (at-loop .loop .s) SOLUTION _) (c .new2 .ensures)
     (does-is
     (does-more passing-work
-    (came-spent Passing (at-limit .limit .result)
-    (PassAt _ (start .pre) (start .args .which) (start .args .tolerance) (now (start .args .s))) _
-    (searchAt (now (start .args .s)) _ _) (at-loop .loop .inv) (c .before .loop-test .left)))
-    (ap
-    (λ (m : ℕ). upTo m nonConvergent
-    (PassAt _ (start .pre) (start .args .which) (start .args .tolerance) (now (start .args .s)))
-    (searchAt (now (start .args .s)) (start .args .t .rows) (start .args .start)))
-    (at-limit .limit .ensures)))
+    (came-spent (at-loop .loop .inv) (c .before .loop-test .left)))
+    (cc (at-limit .limit .ensures)))
 
 pub search-spec : {M : Type 1} → statement M
 search-spec =
     tie.close (tie.spec
-    Inv-loop μ-loop (λ c κs. c .before .pre .most) loop-holds search-pass-requires (λ c. search needs)
-    (λ c. search needs) (λ c κs. search needs) (λ c. omega arith) returns (λ c. omega arith) (λ c. omega arith)
-    loop-again (λ c κs. search needs) (λ c. c .before .before .loop .inv .kept .size) returns-2)
+    Inv-loop μ-loop (λ c κs. c .before .pre .most) (λ c. came-none) (λ c κs. search rows-kept) (λ c. search needs)
+    (λ c. search needs) (λ c κs. search needs) (λ c. omega arith) returns (λ c. omega arith) (λ c. omega arith) loop-again
+    (λ c κs. search needs) (λ c. c .before .before .loop .inv .kept .size) returns-2)

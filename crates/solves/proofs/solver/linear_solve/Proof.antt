@@ -59,10 +59,11 @@ path-along-requires : tie.Need-path-along-requires
 path-along-requires c κs =
     let at-if2 = c .before .before .before in
     let at-copy = at-if2 .before .before .before .before .before .before in
-    let at-clear = at-copy .before .before .before .before in (
-      rows-kept (at-clear .before .before .before .pre) (at-copy .copy .ensures .kept .size ∙ at-clear .clear .ensures .kept .size),
-      at-if2 .before .before .path-order .ensures .along (not-no _ (at-if2 .if2 .left)),
-    )
+    let at-clear = at-copy .before .before .before .before in
+    record {
+      rows = rows-kept (at-clear .before .before .before .pre) (at-copy .copy .ensures .kept .size ∙ at-clear .clear .ensures .kept .size);
+      along = at-if2 .before .before .path-order .ensures .along (not-no _ (at-if2 .if2 .left));
+    }
 
 returns-3 : tie.Need-returns-3
 returns-3 c =
