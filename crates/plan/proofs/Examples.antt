@@ -4,7 +4,7 @@ use mathlib.Core.Path.{_≡_, refl}
 use mathlib.Core.List.{List, [], _∷_, _++_}
 use lib.ListN.{replicate}
 use lib.Ieee.{binary64, ofBits}
-use Rattle.plan.specs.File.{numberOf, readOf, readOn, nextOf, headOf, timeStepHead, bodyHead, jointHead, emptyOf, double}
+use Rattle.plan.specs.File.{readNumber, readOf, readOn, nextOf, headOf, timeStepHead, bodyHead, jointHead, emptyOf, double}
 use Rattle.plan.specs.File.{withTimeStep, withBody, withJoint}
 
 -- a time step of 1
@@ -16,7 +16,7 @@ joint : ℕ → ℕ → List ℕ
 joint kind n = 74 ∷ 84 ∷ 0 ∷ 1 ∷ kind ∷ replicate n 0
 
 number : List ℕ → ℕ
-number file = numberOf (readOf file emptyOf .outcome)
+number file = readNumber (readOf file emptyOf .outcome)
 
 numbers : number one ∷ number [] ∷ number (one ++ (10 ∷ [])) ∷ number (100 ∷ 116 ∷ []) ∷ number (one ++ (68 ∷ 84 ∷ []))
     ∷ number (68 ∷ 84 ∷ []) ∷ number (74 ∷ 84 ∷ 0 ∷ 1 ∷ []) ∷ number (joint 6 0) ∷ number (joint 5 144) ∷ number (joint 5 143)

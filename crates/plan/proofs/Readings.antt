@@ -21,7 +21,7 @@ use Rattle.plan.specs.declared.reader.Found.the-variants as found
 use Rattle.plan.specs.declared.reader.Notes.{Notes}
 use Rattle.plan.specs.declared.reader.Noted.{Noted}
 use Rattle.plan.specs.File as File
-use Rattle.plan.specs.File.{numberOf, double, bodyOf, jointOf, JointThere, TIME-STEP, BODY, NUMBERS, headOf, nextOf, readOn, readOf}
+use Rattle.plan.specs.File.{readNumber, double, bodyOf, jointOf, JointThere, TIME-STEP, BODY, NUMBERS, headOf, nextOf, readOn, readOf}
 use Rattle.plan.specs.FileLaws.{there, room-refused, room-time-step, room-body, room-joint, length-joint}
 use Rattle.plan.specs.Noting.{endedOf, withTimeStep, withBody, withJoint, bodyTurn, bodiesFrom, jointTurn, jointsFrom, filledOf, readingOf}
 use Rattle.plan.specs.Noting.{All, BodyAt, JointAt, There, Reaches, Reads}
@@ -188,7 +188,7 @@ module _ (s : List ℕ) (t : Notes) {h : Found} (e : h ≡ headOf s (t .«has_dt
   unfolding readOn nextOf
   read-refused g zero file tables l from there = absurd (omega arith)
   read-refused {o} g (suc n) file tables l from there =
-      record { there = there; is = simp (ne-eqb (numberOf o) 0 (room-refused s _ _ _ e g)) (rw (← (sym g ∙ e)) refl) }
+      record { there = there; is = simp (ne-eqb (readNumber o) 0 (room-refused s _ _ _ e g)) (rw (← (sym g ∙ e)) refl) }
 
   -- k bytes are taken and the notes become v
   turn : {r : Noted} {u v : Notes} (k : ℕ) → u ≡ v → 1 ≤ k → k ≤ length s → v .at ≡ t .at + k → Reads (rest k s) u r
@@ -258,11 +258,11 @@ module _ (file : List ℕ) (tables : Plan) {r : Noted} (reads : Reads file (star
   pub read-there : There file (r .notes)
   read-there = whole .there
 
-  module _ {n : ℕ} (number : n ≡ numberOf (r .outcome)) where
+  module _ {n : ℕ} (number : n ≡ readNumber (r .outcome)) where
     pub read-filled : n ≡ 0 → {p : Plan} → p ≡ filledOf file tables (r .notes) → record { outcome = r .outcome; plan = p } ≡ readOf file tables
     unfolding readOf turns
     read-filled z i =
-        let test : true ≡ eqb (numberOf (r .outcome)) 0 = sym (eq-eqb _ _ (sym number ∙ z)) in
+        let test : true ≡ eqb (readNumber (r .outcome)) 0 = sym (eq-eqb _ _ (sym number ∙ z)) in
         ap (λ (p : Plan). record { outcome = r .outcome; plan = p }) i
         ∙ ap (λ (b : Bool). record { outcome = r .outcome; plan = cond b (filledOf file tables (r .notes)) tables }) test
         ∙ whole .is
@@ -270,5 +270,5 @@ module _ (file : List ℕ) (tables : Plan) {r : Noted} (reads : Reads file (star
     pub read-kept : (n ≡ 0 → ⊥) → record { outcome = r .outcome; plan = tables } ≡ readOf file tables
     unfolding readOf turns
     read-kept z =
-        let test : false ≡ eqb (numberOf (r .outcome)) 0 = sym (ne-eqb _ _ (λ q. z (number ∙ q))) in
+        let test : false ≡ eqb (readNumber (r .outcome)) 0 = sym (ne-eqb _ _ (λ q. z (number ∙ q))) in
         ap (λ (b : Bool). record { outcome = r .outcome; plan = cond b (filledOf file tables (r .notes)) tables }) test ∙ whole .is

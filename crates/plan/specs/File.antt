@@ -20,14 +20,14 @@ use Rattle.plan.specs.declared.reader.Found.{Found}
 use Rattle.plan.specs.declared.reader.Found.the-variants as found
 
 -- the numbers of the refusals; 0 where the file was read
-abbrev pub numberOf : ReadOutcome → ℕ
-numberOf Read = 0
-numberOf Mark = 13
-numberOf SecondTimeStep = 14
-numberOf TooMany = 15
-numberOf KindByte = 16
-numberOf Truncated = 17
-numberOf NoTimeStep = 18
+abbrev pub readNumber : ReadOutcome → ℕ
+readNumber Read = 0
+readNumber Mark = 13
+readNumber SecondTimeStep = 14
+readNumber TooMany = 15
+readNumber KindByte = 16
+readNumber Truncated = 17
+readNumber NoTimeStep = 18
 
 -- ---- the layout: the marks, in ASCII, how many bytes a record has, its mark among them, and from which byte on it has what
 abbrev pub DT : List ℕ
@@ -238,12 +238,12 @@ readOn (suc n) s tables t =
     nextOf (headOf s (t .«has_dt») (t .«body_count») (t .«joint_count»)) s tables t (λ k u. readOn n (drop k s) tables u)
 
 -- the tables that came, with no record counted
-abbrev pub cleared : Plan → Plan
-cleared t = record { dt = t .dt; «has_dt» = false; bodies = t .bodies; «body_count» = 0; joints = t .joints; «joint_count» = 0 }
+abbrev pub emptied : Plan → Plan
+emptied t = record { dt = t .dt; «has_dt» = false; bodies = t .bodies; «body_count» = 0; joints = t .joints; «joint_count» = 0 }
 
 -- a file holds fewer records than one more than its bytes
 unfoldable pub readOf : List ℕ → Plan → Reading
-readOf file tables = readOn (suc (length file)) file tables (cleared tables)
+readOf file tables = readOn (suc (length file)) file tables (emptied tables)
 
 -- ---- tables with no records, every number +0
 abbrev blank : JointFrame

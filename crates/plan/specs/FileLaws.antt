@@ -18,8 +18,8 @@ use Rattle.plan.specs.declared.reader.Found.{Found}
 use Rattle.arith.specs.Flow.{tab}
 use Rattle.plan.specs.declared.reader.Found.the-variants as found
 use Rattle.plan.specs.File.{TIME-STEP, BODY, KIND, FRAME-A, DISTANCE, CONE-TWIST, JOINT, TABLE}
-use Rattle.plan.specs.File.{numberOf, byte, marked, jointSize, JointThere, DT, BD, JT, timeStepHead, bodyHead, jointHead, headOf, endedOf}
-use Rattle.plan.specs.File.{nextOf, readOn, readOf, cleared, withTimeStep, withBody, withJoint, bodyOf, jointOf, emptyOf}
+use Rattle.plan.specs.File.{readNumber, byte, marked, jointSize, JointThere, DT, BD, JT, timeStepHead, bodyHead, jointHead, headOf, endedOf}
+use Rattle.plan.specs.File.{nextOf, readOn, readOf, emptied, withTimeStep, withBody, withJoint, bodyOf, jointOf, emptyOf}
 
 -- ---- the length of a joint's record by its kind
 pub size-4 : (k : ℕ) → k ≡ 4 → DISTANCE ≡ jointSize k
@@ -52,7 +52,7 @@ module _ (s : List ℕ) (h : JointThere s) where
 -- ---- what stands at the head is there to its end, and the tables have room for it; a refusal has a number
 unfoldable pub Room : List ℕ → Bool → ℕ → ℕ → Found → Type 0
 Room s seen bodies joints found.End = Unit {0}
-Room s seen bodies joints (found.Refused e) = numberOf e ≡ 0 → ⊥
+Room s seen bodies joints (found.Refused e) = readNumber e ≡ 0 → ⊥
 Room s seen bodies joints found.TimeStep = (TIME-STEP ≤ length s) × (seen ≡ false)
 Room s seen bodies joints found.Body = (BODY ≤ length s) × (bodies < 16)
 Room s seen bodies joints (found.Joint n) = JointThere s × (joints < 16) × (n ≡ jointSize (byte s KIND))
@@ -91,7 +91,7 @@ module _ (s : List ℕ) (seen : Bool) (bodies joints : ℕ) where
       if Fits (marked s JT) joint-room λ _ e. omega arith
 
   module _ {h : Found} (e : h ≡ headOf s seen bodies joints) where
-    pub room-refused : {o : ReadOutcome} → h ≡ found.Refused o → numberOf o ≡ 0 → ⊥
+    pub room-refused : {o : ReadOutcome} → h ≡ found.Refused o → readNumber o ≡ 0 → ⊥
     unfolding Room
     room-refused g = subst Fits (sym e ∙ g) head-room
 
@@ -122,8 +122,8 @@ pub record Kept (tables t : Plan) : Type 0 where
 
 -- either the tables hold what was read, or they are those that came
 pub record Kept-or-same (tables : Plan) (r : Reading) : Type 0 where
-  pub read : numberOf (r .outcome) ≡ 0 → Kept tables (r .plan)
-  pub refused : (numberOf (r .outcome) ≡ 0 → ⊥) → r .plan ≡ tables
+  pub read : readNumber (r .outcome) ≡ 0 → Kept tables (r .plan)
+  pub refused : (readNumber (r .outcome) ≡ 0 → ⊥) → r .plan ≡ tables
 
 drop-on : {A : Type 0} (a b : ℕ) (x y : List A) → drop a x ≡ drop a y → drop (a + b) x ≡ drop (a + b) y
 drop-on a b x y e = sym (drop-drop b a x) ∙ ap (drop b) e ∙ drop-drop b a y
@@ -208,14 +208,14 @@ module _ (tables : Plan) where
   pub reading-keeps : (file : List ℕ) → length (tables .bodies) ≡ TABLE → length (tables .joints) ≡ 16 → Kept-or-same tables (readOf file tables)
   unfolding readOf
   reading-keeps file h g =
-      kept-on (suc (length file)) file (cleared tables)
+      kept-on (suc (length file)) file (emptied tables)
       (record { body-room = omega arith; joint-room = omega arith; body-length = h; joint-length = g; bodies-after = refl; joints-after = refl })
 
 -- a plan that was read into empty tables counts at most sixteen of each
-pub read-few : (file : List ℕ) {r : Reading} {n : ℕ} → r ≡ readOf file emptyOf → n ≡ numberOf (r .outcome) → n ≡ 0
+pub read-few : (file : List ℕ) {r : Reading} {n : ℕ} → r ≡ readOf file emptyOf → n ≡ readNumber (r .outcome) → n ≡ 0
     → (r .plan .«body_count» ≤ 16) × (r .plan .«joint_count» ≤ 16)
 unfolding emptyOf
 read-few file {r} e i z =
     let k : Kept-or-same emptyOf (readOf file emptyOf) = reading-keeps emptyOf file (length-replicate TABLE (ofBits binary64 0)) (simp length-replicate) in
-    let q : Kept emptyOf (r .plan) = subst (λ (x : Reading). numberOf (x .outcome) ≡ 0 → Kept emptyOf (x .plan)) (sym e) (k .read) (sym i ∙ z) in
+    let q : Kept emptyOf (r .plan) = subst (λ (x : Reading). readNumber (x .outcome) ≡ 0 → Kept emptyOf (x .plan)) (sym e) (k .read) (sym i ∙ z) in
     (q .body-room, q .joint-room)

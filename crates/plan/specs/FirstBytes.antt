@@ -19,7 +19,7 @@ use Rattle.plan.specs.declared.reader.Found.{Found}
 use Rattle.plan.specs.declared.reader.Found.the-variants as found
 use Rattle.plan.specs.File.{NUMBERS, TIME-STEP, BODY, SIDE-A, SIDE-B, KIND, FRAME-A, FRAME-B, SWING-X, SWING-Y, TWIST-LOWER, TWIST-UPPER, CONE-TWIST}
 use Rattle.plan.specs.File.{byte, double, bodyOf, frameAt, kindOf, jointOf, jointSize, marked, DT, BD, JT, timeStepHead, bodyHead, jointHead}
-use Rattle.plan.specs.File.{headOf, withTimeStep, withBody, withJoint, nextOf, readOn, readOf, cleared}
+use Rattle.plan.specs.File.{headOf, withTimeStep, withBody, withJoint, nextOf, readOn, readOf, emptied}
 use Rattle.plan.specs.FileLaws.{Room, head-room, size-within}
 
 -- the bytes that can still matter, where these were read
@@ -233,4 +233,4 @@ on-cut tables (suc a) (suc b) m s t h la lb =
 
 pub first-bytes : (m : ℕ) (file : List ℕ) (tables : Plan) → 5756 ≤ m → readOf (take m file) tables ≡ readOf file tables
 unfolding readOf needed neededBy
-first-bytes m file tables h = on-cut tables (suc (length (take m file))) (suc (length file)) m file (cleared tables) (omega arith) (omega arith) (omega arith)
+first-bytes m file tables h = on-cut tables (suc (length (take m file))) (suc (length file)) m file (emptied tables) (omega arith) (omega arith) (omega arith)

@@ -16,7 +16,7 @@ use Rattle.plan.specs.declared.reader.ReadOutcome.{ReadOutcome}
 use Rattle.plan.specs.declared.reader.ReadOutcome.the-variants.{Read, NoTimeStep}
 use Rattle.plan.specs.declared.reader.Notes.{Notes}
 use Rattle.plan.specs.declared.reader.Noted.{Noted}
-use Rattle.plan.specs.File.{numberOf, bodyOf, jointOf, JointThere, TIME-STEP, BODY, readOn}
+use Rattle.plan.specs.File.{readNumber, bodyOf, jointOf, JointThere, TIME-STEP, BODY, readOn}
 
 -- at the end of the file
 abbrev pub endedOf : Bool → ReadOutcome
@@ -88,7 +88,7 @@ filledOf file tables t =
 -- tables are written where the file was read
 abbrev pub readingOf : List ℕ → Plan → ReadOutcome → Notes → Reading
 readingOf file tables outcome t =
-    record { outcome = outcome; plan = cond (eqb (numberOf outcome) 0) (filledOf file tables t) tables }
+    record { outcome = outcome; plan = cond (eqb (readNumber outcome) 0) (filledOf file tables t) tables }
 
 -- ---- what a reading keeps
 -- each place in a list from 0 to n - 1 is one of which P holds

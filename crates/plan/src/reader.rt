@@ -49,7 +49,7 @@ enum Found {
 }
 
 pub fn number(outcome: ReadOutcome) -> usize
-    ensures { λ r. ⌜ r ≡ File.numberOf outcome ⌝ }
+    ensures { λ r. ⌜ r ≡ File.readNumber outcome ⌝ }
 {
     match outcome {
         ReadOutcome::Read => 0,

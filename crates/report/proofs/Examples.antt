@@ -5,7 +5,7 @@ use lib.ListN.{replicate}
 use lib.Ieee.{Float, binary64, ofBits, toBits}
 use Rattle.arith.specs.Flow.{turns}
 use Rattle.plan.specs.File.{readOf, readOn, nextOf, headOf, emptyOf}
-use Rattle.report.specs.Text.{places, decimalOf, hexOf, numberOf, countsOf, bodyLines, okLine, noLine, headLine, reportOf}
+use Rattle.report.specs.Text.{places, decimalOf, hexOf, fieldOf, countsOf, bodyLines, okLine, noLine, headLine, reportOf}
 use Rattle.report.specs.Pose.{poseOf}
 
 -- "NO 10 32 0" and "OK 1 0" with a line end
@@ -15,8 +15,8 @@ unfolding reportOf headLine okLine noLine countsOf decimalOf places bodyLines tu
 texts = refl
 
 -- " bff0000000000000"
-minus-one : numberOf (ofBits binary64 0xbff0_0000_0000_0000) ≡ 32 ∷ 98 ∷ 102 ∷ 102 ∷ replicate 13 48
-unfolding numberOf hexOf ofBits toBits
+minus-one : fieldOf (ofBits binary64 0xbff0_0000_0000_0000) ≡ 32 ∷ 98 ∷ 102 ∷ 102 ∷ replicate 13 48
+unfolding fieldOf hexOf ofBits toBits
 minus-one = refl
 
 -- a file with no time step: "NO 18 0 0" with a line end

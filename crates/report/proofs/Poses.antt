@@ -10,12 +10,12 @@ use lib.Ieee.{Float}
 use borrow.Author.Tests.{lt-leb, le-leb, eq-eqb, ne-eqb}
 use Rattle.io.specs.Counts.{Counts}
 use Rattle.step.specs.declared.Report.{Report}
-use Rattle.step.specs.Checks.{numberOf as stepNumber}
+use Rattle.step.specs.Checks.{numberOf}
 use Rattle.step.specs.Step.{Stepped}
 use Rattle.step.specs.Answered.{Answered}
 use Rattle.plan.specs.declared.reader.Plan.{Plan}
 use Rattle.plan.specs.declared.reader.Reading.{Reading}
-use Rattle.plan.specs.File.{numberOf, emptyOf, readOf, TABLE}
+use Rattle.plan.specs.File.{readNumber, emptyOf, readOf, TABLE}
 use Rattle.report.specs.Text.{Puts, reportOf, roomOf}
 use Rattle.report.specs.Pose.{Posed, stepOf, posedAfter, posedBy, poseOf, ROOM, poseLength, poseOut, poseScratch}
 use Rattle.report.proofs.Parts.{back, back-part}
@@ -35,15 +35,15 @@ module _ (plan : Plan) (scratch : List Float) (few : plan .«body_count» ≤ 16
     pub step-scratch : left ≡ posedAfter (stepOf plan scratch) .scratch
     step-scratch = ap (λ (t : Stepped). t .scratch) stepped
 
-    step-text : {n : ℕ} {b : List Float} → n ≡ stepNumber (s .outcome) → b ≡ part
+    step-text : {n : ℕ} {b : List Float} → n ≡ numberOf (s .outcome) → b ≡ part
         → reportOf n (s .nonlinear) (s .linear) b ≡ posedAfter (stepOf plan scratch) .text
     step-text {n} {b} e same =
         ap (λ (k : ℕ). reportOf k (s .nonlinear) (s .linear) b) e
-        ∙ ap (reportOf (stepNumber (s .outcome)) (s .nonlinear) (s .linear)) same
+        ∙ ap (reportOf (numberOf (s .outcome)) (s .nonlinear) (s .linear)) same
         ∙ ap (λ (t : Stepped). posedAfter t .text) stepped
 
     -- the report is of the bodies that the step left
-    pub step-puts : {n : ℕ} {out after : List ℕ} {r : ℕ} → ROOM ≤ length out → n ≡ stepNumber (s .outcome)
+    pub step-puts : {n : ℕ} {out after : List ℕ} {r : ℕ} → ROOM ≤ length out → n ≡ numberOf (s .outcome)
         → Reports n (s .nonlinear) (s .linear) (take used (part ++ drop used (plan .bodies))) out after r
         → Puts out 0 (posedAfter (stepOf plan scratch) .text) after r
     step-puts {n} {out} room e h =
@@ -83,7 +83,7 @@ module _ (file : List ℕ) (scratch : List Float) (out : List ℕ) where
           ),
         )
 
-    module _ {reading : Reading} {empty : Plan} {n : ℕ} (e : reading ≡ readOf file empty) (f : empty ≡ emptyOf) (i : n ≡ numberOf (reading .outcome)) where
+    module _ {reading : Reading} {empty : Plan} {n : ℕ} (e : reading ≡ readOf file empty) (f : empty ≡ emptyOf) (i : n ≡ readNumber (reading .outcome)) where
       pub poses-read : n ≡ 0 → Puts out 0 (posedAfter (stepOf (reading .plan) scratch) .text) after r
           → left ≡ posedAfter (stepOf (reading .plan) scratch) .scratch → Poses left after r
       poses-read z h l =
@@ -92,7 +92,7 @@ module _ (file : List ℕ) (scratch : List Float) (out : List ℕ) where
 
       pub poses-refused : (n ≡ 0 → ⊥) → Reports n 0 0 [] out after r → left ≡ scratch → Poses left after r
       poses-refused z h l =
-          let way : record { text = reportOf (numberOf (reading .outcome)) 0 0 []; scratch = scratch } ≡ posedBy reading scratch =
+          let way : record { text = reportOf (readNumber (reading .outcome)) 0 0 []; scratch = scratch } ≡ posedBy reading scratch =
           simp (ne-eqb _ _ (λ q. z (i ∙ q))) in
           let fit : roomOf [] ≤ length out = omega arith in
           poses-some (way ∙ posed-by file scratch e f) (puts-as (ap (λ (k : ℕ). reportOf k 0 0 []) i) (report-puts n 0 0 [] out fit h)) l

@@ -15,7 +15,7 @@ use lib.Ieee.{Float, nan, inf, fin, up, down, isNan, eq, binary64, toBits}
 use borrow.Author.Tests.{lt-ltb, le-ltb, lt-leb, le-leb, eq-eqb, ne-eqb}
 use Rattle.io.specs.Counts.{Counts}
 use Rattle.io.specs.Digits.{digits, Fewest}
-use Rattle.report.specs.Text.{written, Puts, places, decimalOf, hexOf, numberOf, countsOf, numbersOf, bodyLine, bodyLines, okLine}
+use Rattle.report.specs.Text.{written, Puts, places, decimalOf, hexOf, fieldOf, countsOf, fieldsOf, bodyLine, bodyLines, okLine}
 use Rattle.report.specs.Text.{noLine, headLine, HEAD-LINE, BODY-LINE, reportOf, roomOf, reportLength, reportOut}
 use Rattle.arith.specs.Flow.{turns}
 use Rattle.report.specs.TextLaws.{decimal-length, hex-length, numbers-more, numbers-length, lines-more, lines-length, head-length, report-fits}
@@ -188,8 +188,8 @@ module _ (x : Float) {n k : ℕ} {t : List ℕ} (h : n < 2 ^ 64) (i : n ≡ toBi
     pub hex-room : at + 17 ≤ length out → a + length t ≤ length one
     hex-room room = omega (arith, ap length hex-text, hex-length x, left p 1 16 (omega arith) room)
 
-    pub hex-puts : {two : List ℕ} {r : ℕ} → Puts one a t two r → Puts out at (numberOf x) two r
-    unfolding numberOf
+    pub hex-puts : {two : List ℕ} {r : ℕ} → Puts one a t two r → Puts out at (fieldOf x) two r
+    unfolding fieldOf
     hex-puts q = puts-then p (puts-as hex-text q)
 
 -- ---- the pieces in their order, with the room that each leaves
@@ -245,7 +245,7 @@ module _ (bodies : List Float) where
     pub line-after-index : a + 221 ≤ length one
     line-after-index = left p 20 221 (decimal-length i) (omega arith)
 
-    module _ {two : List ℕ} {b : ℕ} (q : Puts one a (numbersOf bodies (26 * i) 13) two b) where
+    module _ {two : List ℕ} {b : ℕ} (q : Puts one a (fieldsOf bodies (26 * i) 13) two b) where
       pub line-after-state : b + 1 ≤ length two
       line-after-state = left (puts-then p q) 241 1 (simp length-append (omega (arith, decimal-length i, numbers-length bodies (26 * i) 13))) (omega arith)
 
@@ -255,35 +255,35 @@ module _ (bodies : List Float) where
 
   -- the two loops
   module _ (from : ℕ) {out : List ℕ} {at : ℕ} (room : at + 221 ≤ length out) where
-    pub numbers-none : Puts out at (numbersOf bodies from 0) out at
-    unfolding numbersOf turns
+    pub numbers-none : Puts out at (fieldsOf bodies from 0) out at
+    unfolding fieldsOf turns
     numbers-none = puts-none out at (omega arith)
 
-    module _ (k : ℕ) {now : List ℕ} {next : ℕ} (p : Puts out at (numbersOf bodies from k) now next) where
+    module _ (k : ℕ) {now : List ℕ} {next : ℕ} (p : Puts out at (fieldsOf bodies from k) now next) where
       pub numbers-room : k < 13 → next + 17 ≤ length now
       numbers-room h = left p (17 * k) 17 (omega (arith, numbers-length bodies from k)) (omega arith)
 
-      pub numbers-puts : {after : List ℕ} {r : ℕ} → Puts now next (numberOf (getD bodies (from + k) nan)) after r
-          → Puts out at (numbersOf bodies from (k + 1)) after r
+      pub numbers-puts : {after : List ℕ} {r : ℕ} → Puts now next (fieldOf (getD bodies (from + k) nan)) after r
+          → Puts out at (fieldsOf bodies from (k + 1)) after r
       numbers-puts q = puts-as (numbers-more bodies from k) (puts-then p q)
 
-      pub numbers-end : k ≤ 13 → 13 ≤ k → Puts out at (numbersOf bodies from 13) now next
-      numbers-end h g = let all : k ≡ 13 = omega arith in puts-as (ap (numbersOf bodies from) all) p
+      pub numbers-end : k ≤ 13 → 13 ≤ k → Puts out at (fieldsOf bodies from 13) now next
+      numbers-end h g = let all : k ≡ 13 = omega arith in puts-as (ap (fieldsOf bodies from) all) p
 
-  module _ (count : ℕ) {out : List ℕ} {at : ℕ} (room : at + BODY-LINE * count ≤ length out) where
+  module _ (body-count : ℕ) {out : List ℕ} {at : ℕ} (room : at + BODY-LINE * body-count ≤ length out) where
     pub lines-none : Puts out at (bodyLines bodies 0) out at
     unfolding bodyLines turns
     lines-none = puts-none out at (omega arith)
 
     module _ (i : ℕ) {now : List ℕ} {next : ℕ} (p : Puts out at (bodyLines bodies i) now next) where
-      pub lines-room : i < count → next + BODY-LINE ≤ length now
+      pub lines-room : i < body-count → next + BODY-LINE ≤ length now
       lines-room h = left p (BODY-LINE * i) BODY-LINE (lines-length bodies i) (omega arith)
 
       pub lines-puts : {after : List ℕ} {r : ℕ} → Puts now next (bodyLine bodies i) after r → Puts out at (bodyLines bodies (i + 1)) after r
       lines-puts q = puts-as (lines-more bodies i) (puts-then p q)
 
-      pub lines-end : i ≤ count → count ≤ i → Puts out at (bodyLines bodies count) now next
-      lines-end h g = let all : i ≡ count = omega arith in puts-as (ap (bodyLines bodies) all) p
+      pub lines-end : i ≤ body-count → body-count ≤ i → Puts out at (bodyLines bodies body-count) now next
+      lines-end h g = let all : i ≡ body-count = omega arith in puts-as (ap (bodyLines bodies) all) p
 
 -- ---- the whole report
 module _ (number n m : ℕ) (bodies : List Float) (out : List ℕ) where

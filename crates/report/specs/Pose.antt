@@ -7,11 +7,11 @@ use lib.Dec.{leb, eqb}
 use lib.ListN.{length, take, replicate}
 use lib.Ieee.{Float, binary64, ofBits}
 use Rattle.step.specs.Records.{RECORD, SCRATCH}
-use Rattle.step.specs.Checks.{numberOf as stepNumber}
+use Rattle.step.specs.Checks.{numberOf}
 use Rattle.step.specs.Step.{Stepped, solveOf}
 use Rattle.plan.specs.declared.reader.Plan.{Plan}
 use Rattle.plan.specs.declared.reader.Reading.{Reading}
-use Rattle.plan.specs.File.{numberOf, emptyOf, readOf}
+use Rattle.plan.specs.File.{readNumber, emptyOf, readOf}
 use Rattle.report.specs.Text.{reportOf, lengthIn, textIn}
 
 -- a report, and what the scratch holds after it
@@ -25,13 +25,13 @@ stepOf plan scratch = solveOf (take (RECORD * plan .«body_count») (plan .bodie
 
 -- an accepted step has the number 0 and its bodies are printed; refusals 1 to 12 print their number; both print the counts
 abbrev pub posedAfter : Stepped → Posed
-posedAfter s = record { text = reportOf (stepNumber (s .outcome)) (s .nonlinear) (s .linear) (s .bodies); scratch = s .scratch }
+posedAfter s = record { text = reportOf (numberOf (s .outcome)) (s .nonlinear) (s .linear) (s .bodies); scratch = s .scratch }
 
 -- a file that was read is stepped; after refusals 13 to 18 there is no step, and both counts are 0
 abbrev pub posedBy : Reading → List Float → Posed
 posedBy reading scratch =
-    cond (eqb (numberOf (reading .outcome)) 0) (posedAfter (stepOf (reading .plan) scratch))
-    (record { text = reportOf (numberOf (reading .outcome)) 0 0 []; scratch = scratch })
+    cond (eqb (readNumber (reading .outcome)) 0) (posedAfter (stepOf (reading .plan) scratch))
+    (record { text = reportOf (readNumber (reading .outcome)) 0 0 []; scratch = scratch })
 
 unfoldable pub poseOf : List ℕ → List Float → Posed
 poseOf file scratch = posedBy (readOf file emptyOf) scratch

@@ -28,16 +28,16 @@ unfoldable pub countsOf : ℕ → ℕ → List ℕ
 countsOf nonlinear linear = decimalOf nonlinear ++ (32 ∷ []) ++ decimalOf linear ++ (10 ∷ [])
 
 -- a space and a double's bits
-unfoldable pub numberOf : Float → List ℕ
-numberOf x = (32 ∷ []) ++ hexOf x
+unfoldable pub fieldOf : Float → List ℕ
+fieldOf x = (32 ∷ []) ++ hexOf x
 
 -- the n doubles from i on
-unfoldable pub numbersOf : List Float → ℕ → ℕ → List ℕ
-numbersOf bodies i n = turns (λ k text. text ++ numberOf (getD bodies (i + k) nan)) n []
+unfoldable pub fieldsOf : List Float → ℕ → ℕ → List ℕ
+fieldsOf bodies i n = turns (λ k text. text ++ fieldOf (getD bodies (i + k) nan)) n []
 
 -- a body's number, the thirteen doubles of its state, and the line's end
 unfoldable pub bodyLine : List Float → ℕ → List ℕ
-bodyLine bodies i = decimalOf i ++ numbersOf bodies (RECORD * i) MOVING ++ (10 ∷ [])
+bodyLine bodies i = decimalOf i ++ fieldsOf bodies (RECORD * i) MOVING ++ (10 ∷ [])
 
 unfoldable pub bodyLines : List Float → ℕ → List ℕ
 bodyLines bodies n = turns (λ i text. text ++ bodyLine bodies i) n []

@@ -10,7 +10,7 @@ use lib.ListN.{length, getD, length-append}
 use lib.Ieee.{Float, nan, binary64, toBits}
 use Rattle.io.specs.Digits.{digits, glyph}
 use Rattle.arith.specs.Flow.{turns}
-use Rattle.report.specs.Text.{places, decimalOf, hexOf, numberOf, countsOf, numbersOf, bodyLine, bodyLines, okLine, noLine, headLine, reportOf}
+use Rattle.report.specs.Text.{places, decimalOf, hexOf, fieldOf, countsOf, fieldsOf, bodyLine, bodyLines, okLine, noLine, headLine, reportOf}
 use Rattle.report.specs.Text.{roomOf, HEAD-LINE, BODY-LINE}
 
 -- ---- digits
@@ -36,8 +36,8 @@ pub hex-length : (x : Float) → length (hexOf x) ≡ 16
 unfolding hexOf
 hex-length x = digits-length 16 16 (toBits binary64 x)
 
-pub number-length : (x : Float) → length (numberOf x) ≡ 17
-unfolding numberOf
+pub number-length : (x : Float) → length (fieldOf x) ≡ 17
+unfolding fieldOf
 number-length x = ap suc (hex-length x)
 
 pub counts-length : (n m : ℕ) → length (countsOf n m) ≤ 42
@@ -45,15 +45,15 @@ unfolding countsOf
 counts-length n m = simp length-append (omega (arith, decimal-length n, decimal-length m))
 
 module _ (bodies : List Float) where
-  pub numbers-more : (i k : ℕ) → numbersOf bodies i k ++ numberOf (getD bodies (i + k) nan) ≡ numbersOf bodies i (k + 1)
-  unfolding numbersOf turns
+  pub numbers-more : (i k : ℕ) → fieldsOf bodies i k ++ fieldOf (getD bodies (i + k) nan) ≡ fieldsOf bodies i (k + 1)
+  unfolding fieldsOf turns
   numbers-more i k = rw (add-one k) refl
 
-  pub numbers-length : (i k : ℕ) → length (numbersOf bodies i k) ≡ 17 * k
-  unfolding numbersOf turns
+  pub numbers-length : (i k : ℕ) → length (fieldsOf bodies i k) ≡ 17 * k
+  unfolding fieldsOf turns
   numbers-length i zero = refl
   numbers-length i (suc k) =
-      length-append (numbersOf bodies i k) (numberOf (getD bodies (i + k) nan)) ∙ omega (arith, numbers-length i k, number-length (getD bodies (i + k) nan))
+      length-append (fieldsOf bodies i k) (fieldOf (getD bodies (i + k) nan)) ∙ omega (arith, numbers-length i k, number-length (getD bodies (i + k) nan))
 
   pub line-length : (i : ℕ) → length (bodyLine bodies i) ≤ BODY-LINE
   unfolding bodyLine

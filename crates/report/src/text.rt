@@ -27,16 +27,16 @@ pub fn report(
     ensures { λ r. ⌜ r ≡ Text.reportLength number nonlinear linear (now (bodies .entry)) (now (out .entry)) ⌝ }
     ensures { λ _. ⌜ now (out .exit) ≡ Text.reportOut number nonlinear linear (now (bodies .entry)) (now (out .entry)) ⌝ }
 {
-    let count = bodies.len() / RECORD;
+    let body_count = bodies.len() / RECORD;
     if out.len() < HEAD_LINE {
         return 0;
     }
-    if (out.len() - HEAD_LINE) / BODY_LINE < count {
+    if (out.len() - HEAD_LINE) / BODY_LINE < body_count {
         return 0;
     }
     let next = put_head(out, number, nonlinear, linear);
     if number == 0 {
-        return put_bodies(out, next, bodies, count);
+        return put_bodies(out, next, bodies, body_count);
     }
     next
 }
@@ -80,13 +80,13 @@ fn put_counts(out: &mut [u8], at: usize, nonlinear: usize, linear: usize) -> usi
     put(out, c, b"\n")
 }
 
-fn put_bodies(out: &mut [u8], at: usize, bodies: &[f64], count: usize) -> usize
-    requires { ⌜ (at + Text.BODY-LINE * count ≤ length (now out)) × (RECORD * count ≤ length (now bodies)) ⌝ }
-    ensures { λ r. ⌜ Text.Puts (now (out .entry)) at (Text.bodyLines (now (bodies .entry)) count) (now (out .exit)) r ⌝ }
+fn put_bodies(out: &mut [u8], at: usize, bodies: &[f64], body_count: usize) -> usize
+    requires { ⌜ (at + Text.BODY-LINE * «body_count» ≤ length (now out)) × (RECORD * «body_count» ≤ length (now bodies)) ⌝ }
+    ensures { λ r. ⌜ Text.Puts (now (out .entry)) at (Text.bodyLines (now (bodies .entry)) «body_count») (now (out .exit)) r ⌝ }
 {
     let mut next = at;
     let mut i = 0;
-    while i < count {
+    while i < body_count {
         next = put_body(out, next, bodies, i);
         i += 1;
     }
@@ -106,21 +106,21 @@ fn put_body(out: &mut [u8], at: usize, bodies: &[f64], i: usize) -> usize
 // The thirteen doubles of a state, each after a space.
 fn put_state(out: &mut [u8], at: usize, bodies: &[f64], from: usize) -> usize
     requires { ⌜ (at + 221 ≤ length (now out)) × (from + 13 ≤ length (now bodies)) ⌝ }
-    ensures { λ r. ⌜ Text.Puts (now (out .entry)) at (Text.numbersOf (now (bodies .entry)) from 13) (now (out .exit)) r ⌝ }
+    ensures { λ r. ⌜ Text.Puts (now (out .entry)) at (Text.fieldsOf (now (bodies .entry)) from 13) (now (out .exit)) r ⌝ }
 {
     let mut next = at;
     let mut k = 0;
     while k < 13 {
-        next = put_number(out, next, bodies[from + k]);
+        next = put_field(out, next, bodies[from + k]);
         k += 1;
     }
     next
 }
 
 // A space and the sixteen hexadecimal digits of a double's bits.
-fn put_number(out: &mut [u8], at: usize, x: f64) -> usize
+fn put_field(out: &mut [u8], at: usize, x: f64) -> usize
     requires { ⌜ at + 17 ≤ length (now out) ⌝ }
-    ensures { λ r. ⌜ Text.Puts (now (out .entry)) at (Text.numberOf x) (now (out .exit)) r ⌝ }
+    ensures { λ r. ⌜ Text.Puts (now (out .entry)) at (Text.fieldOf x) (now (out .exit)) r ⌝ }
 {
     let mut digits = [0u8; 16];
     let k = io::hex(bits_of(x), 16, &mut digits);

@@ -7,10 +7,10 @@ use Rattle.report.proofs.text.put_bodies.Statement.{statement}
 use Rattle.report.proofs.text.put_bodies.Tie as tie
 
 abbrev Inv-loop : tie.InvT-loop
-Inv-loop out₀ at bodies count next₀ i₀ out next i = (i ≤ count) × Puts out₀ at (bodyLines bodies i) out next
+Inv-loop out₀ at bodies body-count next₀ i₀ out next i = (i ≤ body-count) × Puts out₀ at (bodyLines bodies i) out next
 
 abbrev μ-loop : tie.MeasureT-loop
-μ-loop out₀ at bodies count next₀ i₀ out next i = count - i
+μ-loop out₀ at bodies body-count next₀ i₀ out next i = body-count - i
 
 pub put-bodies-spec : {M : Type 1} → statement M
 put-bodies-spec =

@@ -2,12 +2,12 @@
 use native.Mathlib.Omega.{arith}
 use Rattle.report.proofs.Texts.{numbers-none, numbers-room, numbers-puts, numbers-end, same-length as kept}
 use Prim.Native.Nat.{_-_, _≤_}
-use Rattle.report.specs.Text.{Puts, numbersOf}
+use Rattle.report.specs.Text.{Puts, fieldsOf}
 use Rattle.report.proofs.text.put_state.Statement.{statement}
 use Rattle.report.proofs.text.put_state.Tie as tie
 
 abbrev Inv-loop : tie.InvT-loop
-Inv-loop out₀ at bodies from next₀ k₀ out next k = (k ≤ 13) × Puts out₀ at (numbersOf bodies from k) out next
+Inv-loop out₀ at bodies from next₀ k₀ out next k = (k ≤ 13) × Puts out₀ at (fieldsOf bodies from k) out next
 
 abbrev μ-loop : tie.MeasureT-loop
 μ-loop out₀ at bodies from next₀ k₀ out next k = 13 - k
