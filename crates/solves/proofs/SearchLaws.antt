@@ -93,7 +93,8 @@ module _ {A B : Type 0} {P : ℕ → Type 0} {most : ℕ} {pass : A → Counting
     pub came-out : (r : Result B) → ran (over r) 0 0 ≡ pass a → Does P s₀ t (ran r 0 k) (upTo most nonConvergent pass start)
     came-out r e = does-eq (run-is refl (sym (add-zero k))) (came-over r e)
 
-  pub came-spent : {k : ℕ} {s : List Float} {a : A} → Came P most pass s₀ start k s a → most ≤ k → Does P s₀ s (ran (stop nonConvergent) 0 most) (upTo most nonConvergent pass start)
+  pub came-spent : {k : ℕ} {s : List Float} {a : A} → Came P most pass s₀ start k s a → most ≤ k
+      → Does P s₀ s (ran (stop nonConvergent) 0 most) (upTo most nonConvergent pass start)
   came-spent {k} inv h =
       let same : most ≡ k = omega (arith, inv .reached .turns) in
       record { kept = inv .kept; is = run-is refl same ∙ reached-spent most nonConvergent pass start (inv .reached) h }

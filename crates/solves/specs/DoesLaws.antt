@@ -5,7 +5,8 @@ use mathlib.Core.Bool.{Bool, true, false, not}
 use mathlib.Core.List.{List}
 use lib.Ieee.{Float}
 use Rattle.arith.specs.Real.{isFinite}
-use Rattle.arith.specs.Flow.{go, stop, _>>=_, returnIf}
+use Rattle.arith.specs.Flow.{Turn, go, stop, _>>=_, returnIf}
+use Rattle.arith.specs.Run.{ran}
 use Rattle.arith.specs.FlowLaws.{then-go, then-stop}
 use Rattle.arith.specs.RunLaws.{over}
 use Rattle.vectors.specs.declared.vector.Vec3.{Vec3}
@@ -83,6 +84,17 @@ module _ {A : Type 0} (x : A) (r : End) {b : Bool} (eb : b ≡ isDone r)
 -- the same fault, in the answer of the caller
 pub fails-over : {A B : Type 0} (x : A) (r : End) {b : Bool} → b ≡ isDone r → not b ≡ true → over {A = B} (ranAs r x) ≡ stop (faultOf r)
 fails-over {A} {B} x r eb h = ap (over {A = B}) (fails x r eb h)
+
+-- the caller's answer is that end: a result, one with its passes, or one of a search's pass
+module _ {A : Type 0} {P : ℕ → Type 0} {s t : List Float} (x : A) (r : End) {b : Bool} (eb : b ≡ isDone r) (h : not b ≡ true) where
+  pub does-fails : {R : Result A} → Does P s t (stop (faultOf r)) R → Does P s t (ranAs r x) R
+  does-fails d = record { kept = d .kept; is = fails x r eb h ∙ d .is }
+
+  pub ran-fails : {k : ℕ} {R : Counting A} → Does P s t (ran (stop (faultOf r)) 0 k) R → Does P s t (ran (ranAs r x) 0 k) R
+  ran-fails {k} d = record { kept = d .kept; is = ap (λ y. ran y 0 k) (fails x r eb h) ∙ d .is }
+
+  pub over-fails : {B : Type 0} {R : Counting (Turn B A)} → Does P s t (ran (stop (faultOf r)) 0 0) R → Does P s t (ran (over {A = B} (ranAs r x)) 0 0) R
+  over-fails {B} d = record { kept = d .kept; is = ap (λ y. ran y 0 0) (fails-over {B = B} x r eb h) ∙ d .is }
 
 -- ---- calls one after the other, each under its frame
 module _ {A B : Type 0} {P Q : ℕ → Type 0} {s t : List Float} {R : Result A} (f : A → Result B) (w : (i : ℕ) → Q i → P i) where

@@ -4,7 +4,7 @@ use borrow.Author.Needs.{needs}
 use Prim.Native.Nat.{_-_}
 use Rattle.arith.specs.Laws.Constants.{zero-is}
 use Rattle.solves.specs.View.{DIRECTION, PRODUCT}
-use Rattle.solves.specs.DoesLaws.{sum-there, sum-over, went, failed, fails, does-eq}
+use Rattle.solves.specs.DoesLaws.{does-fails, sum-there, sum-over, went, failed, fails}
 use Rattle.solves.proofs.GradientLaws.{advance-unmoved, advance-unmeasured, advance-flat, advance-wild, advance-done}
 use Rattle.solves.proofs.OperatorLaws.{place-of}
 use Rattle.solves.proofs.gradients.advance.Statement.{statement}
@@ -25,7 +25,7 @@ returns c =
     let at-operator = at-done .before .before .before in
     let start = at-operator .before .before .before in
     let end = at-operator .operator .result in
-    does-eq (fails _ end (at-done .done .ensures) (c .if1 .taken))
+    does-fails _ end (at-done .done .ensures) (c .if1 .taken)
     (advance-unmoved _ (start .pre) _
     (failed _ end (at-done .done .ensures) (at-operator .operator .ensures) (c .if1 .taken)))
 

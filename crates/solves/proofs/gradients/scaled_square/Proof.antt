@@ -2,7 +2,6 @@
 use native.Mathlib.Omega.{arith}
 use mathlib.Core.Path.{_≡_, _∙_}
 use Prim.Native.Nat.{_≤_, _-_}
-use denote.Ref.{now}
 use Rattle.arith.specs.Laws.Constants.{zero-is}
 use Rattle.arith.specs.Real.{ratio}
 use Rattle.arith.specs.Flow.{turns}
@@ -19,18 +18,9 @@ Inv-loop s n total₀ k₀ total k = (k ≤ n) × (total ≡ turns (squareTurn (
 abbrev μ-loop : tie.MeasureT-loop
 μ-loop s n total₀ k₀ total k = n - k
 
-loop-again : tie.Need-loop-again Inv-loop μ-loop
-loop-again c =
-    let at-loop = c .before .before .before in
-    let start = at-loop .before in (
-      omega arith,
-      square-more (now (start .args .s)) RESIDUAL DIAGONAL _ _ (c .before .before .loop-test .taken)
-          (at-loop .loop .inv .1),
-    )
-
 pub scaled-square-spec : {M : Type 1} → statement M
 scaled-square-spec =
     tie.close (tie.spec
     Inv-loop μ-loop (λ c. (omega arith, zero-is ∙ turns-none _ _)) (λ c. omega arith) (λ c. omega arith) (λ c. omega arith)
-    (λ c. omega arith) (λ c. omega arith) (λ c. omega arith) (λ c. omega arith) (λ c. omega arith) loop-again
-    (λ c. search square-ends))
+    (λ c. omega arith) (λ c. omega arith) (λ c. omega arith) (λ c. omega arith) (λ c. omega arith)
+    (λ c. (omega arith, search square-more)) (λ c. search square-ends))

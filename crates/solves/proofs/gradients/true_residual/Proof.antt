@@ -6,7 +6,7 @@ use Prim.Native.Nat.{_-_}
 use Rattle.arith.specs.FlowLaws.{not-no}
 use mathlib.Core.Bool.{true}
 use Rattle.solves.specs.View.{SOLUTION, PRODUCT}
-use Rattle.solves.specs.DoesLaws.{went, failed, fails, does-eq}
+use Rattle.solves.specs.DoesLaws.{does-fails, went, failed, fails}
 use Rattle.solves.specs.DoesLaws.{ran-done}
 use Rattle.solves.proofs.GradientLaws.{test-is, true-beyond, true-wild, true-unmoved, true-again}
 use Rattle.solves.proofs.OperatorLaws.{place-of}
@@ -23,7 +23,7 @@ returns-2 c =
     let at-done = c .before in
     let at-near = at-done .before .before in
     let start = at-near .before .before .before .before .before in
-    does-eq (fails _ (at-near .near .given .0 .0) (at-done .done .ensures) (c .if1 .taken))
+    does-fails _ (at-near .near .given .0 .0) (at-done .done .ensures) (c .if1 .taken)
     (true-wild _ (start .pre) _
     (sym (fails true (at-near .near .given .0 .0) (at-done .done .ensures) (c .if1 .taken)) ∙ test-is
     (at-near .before .before .residual-test .ensures) (at-near .near .given .1)))
@@ -46,7 +46,7 @@ returns-3 c =
     let at-near = at-done .before .before in
     let start = at-near .before .before .before .before .before in
     let end = at-operator .operator .result in
-    does-eq (fails _ end (at-done2 .done2 .ensures) (c .if2 .taken))
+    does-fails _ end (at-done2 .done2 .ensures) (c .if2 .taken)
     (true-unmoved _ (start .pre) _
     (sym (ran-done true (at-near .near .given .0 .0) (sym (at-done .done .ensures) ∙ not-no _ (at-operator .before .before .if1 .left)))
     ∙ test-is (at-near .before .before .residual-test .ensures) (at-near .near .given .1))

@@ -1,14 +1,13 @@
 -- least_pass: five writes and seven ways to end, each a law of LeastLaws. What is known after a write is said once, of its place.
 use native.Mathlib.Omega.{arith}
 use borrow.Author.Needs.{needs}
-use mathlib.Core.Path.{_≡_, _∙_, ap}
+use mathlib.Core.Path.{_≡_, _∙_}
 use Prim.Native.Nat.{_-_}
 use lib.ListN.{length}
 use denote.Ref.{now}
 use Rattle.arith.specs.Laws.Constants.{zero-is}
-use Rattle.arith.specs.Run.{ran}
 use Rattle.solves.specs.View.{RESIDUAL, DIRECTION, PRODUCT, NORMAL}
-use Rattle.solves.specs.DoesLaws.{sum-there, sum-over, went, failed, fails-over, does-eq}
+use Rattle.solves.specs.DoesLaws.{over-fails, sum-there, sum-over, went, failed}
 use Rattle.solves.proofs.OperatorLaws.{rows-kept, place-of}
 use Rattle.solves.proofs.LeastLaws.{Moved, Advanced, pass-solved, pass-unmoved, pass-moved, pass-unmeasured, pass-stuck, pass-advanced}
 use Rattle.solves.proofs.LeastLaws.{pass-unreturned, pass-unmeasured-again, pass-next}
@@ -74,16 +73,6 @@ operator-requires c κs =
     let there = start .pre .whole in
     (start .pre, place-of DIRECTION (omega arith) (omega arith) (omega arith), place-of PRODUCT (omega arith) (omega arith) (omega arith))
 
-returns-2 : tie.Need-returns-2
-returns-2 c =
-    let at-done = c .before in
-    let at-operator = at-done .before .before .before in
-    let at-if1 = at-operator .before .before in
-    let end = at-operator .operator .result in
-    does-eq (ap (λ x. ran x 0 0) (fails-over _ end (at-done .done .ensures) (c .if2 .taken)))
-    (pass-unmoved _ (start-of at-operator .pre) _ _ (at-if1 .before .sqrt .ensures .is) (at-if1 .if1 .left)
-    (failed _ end (at-done .done .ensures) (at-operator .operator .ensures) (c .if2 .taken)))
-
 returns-3 : tie.Need-returns-3
 returns-3 c =
     let at-if2 = c .before .before .before .before in
@@ -112,7 +101,7 @@ returns-5 c =
     let at-operator2 = at-done2 .before .before .before in
     let start = begin-of (second-of at-operator2) in
     let end = at-operator2 .operator2 .result in
-    does-eq (ap (λ x. ran x 0 0) (fails-over _ end (at-done2 .done2 .ensures) (c .if4 .taken)))
+    over-fails _ end (at-done2 .done2 .ensures) (c .if4 .taken)
     (pass-unreturned _ (start .pre) _ _ (advanced (second-of at-operator2))
     (failed _ end (at-done2 .done2 .ensures) (at-operator2 .operator2 .ensures) (c .if4 .taken)))
 
@@ -157,13 +146,11 @@ returns-7 c =
 pub least-pass-spec : {M : Type 1} → statement M
 least-pass-spec =
     tie.close (tie.spec
-    (λ c κs. search needs) returns operator-requires (λ c κs. search needs)
-    (λ c. omega arith) returns-2 (λ c κs. omega arith)
-    (λ c. search needs) (λ c. search needs)
+    (λ c κs. search needs) returns operator-requires (λ c κs. search needs) (λ c. omega arith)
+    (λ c. search (over-fails, pass-unmoved, failed)) (λ c κs. omega arith) (λ c. search needs) (λ c. search needs)
     (λ c. first-of (c .before .before .before .before) .operator .ensures .kept .size) returns-3
     (λ c. first-of (c .before .before .before .before .before .before) .operator .ensures .kept .size) returns-4
     (λ c κs. omega arith) (λ c κs. omega arith) operator-requires-2 (λ c κs. search needs)
-    (λ c. size-back (c .before .before .before .before)) returns-5 dot-requires-2 (λ c. search needs)
-    (λ c. search needs)
-    (λ c. let at-if4 = c .before .before .before .before in size-back (at-if4 .before .before .before .before))
-    returns-6 add-scaled-requires-3 same-length-6 returns-7)
+    (λ c. size-back (c .before .before .before .before)) returns-5 dot-requires-2 (λ c. search needs) (λ c. search needs)
+    (λ c. let at-if4 = c .before .before .before .before in size-back (at-if4 .before .before .before .before)) returns-6
+    add-scaled-requires-3 same-length-6 returns-7)

@@ -1,12 +1,12 @@
 -- least_squares: the first direction, its norm, the tolerance, and the search.
 use native.Mathlib.Omega.{arith}
 use borrow.Author.Needs.{needs}
-use mathlib.Core.Path.{_∙_, ap}
+use mathlib.Core.Path.{_∙_}
 use Prim.Native.Nat.{_-_}
 use Rattle.arith.specs.Run.{ran}
 use Rattle.solves.specs.Region.{vecAt}
 use Rattle.solves.specs.View.{SOLUTION, RESIDUAL, NORMAL}
-use Rattle.solves.specs.DoesLaws.{sum-there, sum-over, went, failed, fails, does-eq}
+use Rattle.solves.specs.DoesLaws.{ran-fails, sum-there, sum-over, went, failed, fails}
 use Rattle.solves.proofs.OperatorLaws.{rows-kept, place-of}
 use Rattle.solves.proofs.LeastLaws.{least-unmoved, least-unmeasured, least-intolerant, least-whole}
 use Rattle.solves.proofs.SearchLaws.{tenth-14, new-ended}
@@ -21,17 +21,6 @@ operator-requires c κs =
       place-of NORMAL (omega arith) (omega arith)
           (omega (arith, start .pre .whole)),
     )
-
-returns : tie.Need-returns
-returns c =
-    let at-if1 = c .before in
-    let at-done = at-if1 .before in
-    let at-operator = at-done .before .before .before in
-    let start = at-operator .before .before .before in
-    let end = at-operator .operator .result in
-    new-ended (vecAt (at-operator .operator .last .0) SOLUTION _) (c .new .ensures)
-    (does-eq (ap (λ x. ran x 0 0) (fails _ end (at-done .done .ensures) (at-if1 .if1 .taken)))
-    (least-unmoved _ (start .pre) (failed _ end (at-done .done .ensures) (at-operator .operator .ensures) (at-if1 .if1 .taken))))
 
 returns-3 : tie.Need-returns-3
 returns-3 c =
@@ -71,8 +60,9 @@ returns-4 c =
 pub least-squares-spec : {M : Type 1} → statement M
 least-squares-spec =
     tie.close (tie.spec
-    operator-requires (λ c κs. search needs) (λ c κs. search needs) (λ c. omega arith) returns (λ c κs. omega arith)
-    (λ c. search needs) (λ c. search needs) (λ c κs. search needs) (λ c. omega arith)
+    operator-requires (λ c κs. search needs) (λ c κs. search needs) (λ c. omega arith)
+    (λ c. search (ran-fails, new-ended, least-unmoved, failed)) (λ c κs. omega arith) (λ c. search needs)
+    (λ c. search needs) (λ c κs. search needs) (λ c. omega arith)
     (λ c. search (new-ended, least-unmeasured, went, sum-over)) (λ c κs. omega arith) (λ c. search needs)
     (λ c. search needs) (λ c κs. search needs) (λ c. omega arith) returns-3 (λ c κs. omega arith) search-requires
     (λ c. omega arith) returns-4)

@@ -2,7 +2,7 @@
 use native.Mathlib.Omega.{arith}
 use mathlib.Core.Path.{_∙_}
 use Prim.Native.Nat.{_-_}
-use Rattle.solves.specs.DoesLaws.{went, failed, fails, does-eq}
+use Rattle.solves.specs.DoesLaws.{does-fails, went, failed, fails}
 use Rattle.solves.proofs.OperatorLaws.{rows-kept, operator-pushes-failed, operator-scales-failed, operator-rates}
 use Rattle.solves.proofs.operator.operator.Statement.{statement}
 use Rattle.solves.proofs.operator.operator.Tie as tie
@@ -12,16 +12,6 @@ transpose-requires c κs =
     let start = c .before .before in
     (start .pre .0, start .pre .1)
 
-returns : tie.Need-returns
-returns c =
-    let at-done = c .before in
-    let at-transpose = at-done .before .before .before in
-    let start = at-transpose .before .before .before in
-    let end = at-transpose .transpose .result in
-    does-eq (fails _ end (at-done .done .ensures) (c .if1 .taken))
-    (operator-pushes-failed _ (start .pre .0) _ _
-    (failed _ end (at-done .done .ensures) (at-transpose .transpose .ensures .0) (c .if1 .taken)))
-
 returns-2 : tie.Need-returns-2
 returns-2 c =
     let at-done2 = c .before in
@@ -30,7 +20,7 @@ returns-2 c =
     let at-transpose = at-done .before .before .before in
     let start = at-transpose .before .before .before in
     let end = at-scale-all .scale-all .result in
-    does-eq (fails _ end (at-done2 .done2 .ensures) (c .if2 .taken))
+    does-fails _ end (at-done2 .done2 .ensures) (c .if2 .taken)
     (operator-scales-failed _ (start .pre .0) _ _
     (went _ (at-transpose .transpose .result) (at-done .done .ensures) (at-transpose .transpose .ensures .0) (at-scale-all .before .before .if1 .left))
     (failed _ end (at-done2 .done2 .ensures) (at-scale-all .scale-all .ensures) (c .if2 .taken)))
@@ -61,5 +51,5 @@ returns-3 c =
 pub operator-spec : {M : Type 1} → statement M
 operator-spec =
     tie.close (tie.spec
-    transpose-requires (λ c κs. omega arith) (λ c. omega arith) returns (λ c κs. omega arith) (λ c κs. omega arith)
-    (λ c. omega arith) returns-2 rates-requires (λ c. omega arith) returns-3)
+    transpose-requires (λ c κs. omega arith) (λ c. omega arith) (λ c. search (does-fails, operator-pushes-failed, failed))
+    (λ c κs. omega arith) (λ c κs. omega arith) (λ c. omega arith) returns-2 rates-requires (λ c. omega arith) returns-3)

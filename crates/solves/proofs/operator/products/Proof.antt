@@ -2,7 +2,6 @@
 use native.Mathlib.Omega.{arith}
 use mathlib.Core.Path.{_≡_, _∙_}
 use Prim.Native.Nat.{_≤_, _-_}
-use denote.Ref.{now}
 use Rattle.arith.specs.FlowLaws.{turns-none, turns-end}
 use Rattle.arith.specs.Laws.Constants.{zero-is}
 use Rattle.solves.specs.Solver.{sumProducts}
@@ -17,18 +16,9 @@ Inv-loop s a b n total₀ k₀ total k = (k ≤ n) × (total ≡ sumProducts (ve
 abbrev μ-loop : tie.MeasureT-loop
 μ-loop s a b n total₀ k₀ total k = n - k
 
-loop-again : tie.Need-loop-again Inv-loop μ-loop
-loop-again c =
-    let at-loop = c .before .before .before in
-    let start = at-loop .before in (
-      omega arith,
-      products-more (now (start .args .s)) _ _ _ _ (c .before .before .loop-test .taken)
-          (at-loop .loop .inv .1),
-    )
-
 pub products-spec : {M : Type 1} → statement M
 products-spec =
     tie.close (tie.spec
     Inv-loop μ-loop (λ c. (omega arith, zero-is ∙ turns-none _ _)) (λ c. omega arith) (λ c. omega arith) (λ c. omega arith)
-    (λ c. omega arith) (λ c. omega arith) (λ c. omega arith) (λ c. omega arith) (λ c. omega arith) loop-again
-    (λ c. search turns-end))
+    (λ c. omega arith) (λ c. omega arith) (λ c. omega arith) (λ c. omega arith) (λ c. omega arith)
+    (λ c. (omega arith, search products-more)) (λ c. search turns-end))

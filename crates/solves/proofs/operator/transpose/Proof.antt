@@ -47,12 +47,8 @@ push-row-requires c κs =
     let at-load-row = c .before .before in
     let in-loop = at-load-row .before .before in
     let at-loop = in-loop .before in
-    let pre = begin-of at-loop .pre .0 in (
-      whole at-loop,
-      on-a pre (in-loop .loop-test .taken) (at-loop .loop .s) (at-load-row .load-row .ensures),
-      on-b pre (in-loop .loop-test .taken) (at-loop .loop .s) (at-load-row .load-row .ensures),
-      pre .bodies,
-    )
+    let pre = begin-of at-loop .pre .0 in
+    (whole at-loop, search on-a, search on-b, pre .bodies)
 
 loop-again : tie.Need-loop-again Inv-loop μ-loop
 loop-again c =

@@ -2,7 +2,6 @@
 use native.Mathlib.Omega.{arith}
 use mathlib.Core.Path.{_≡_}
 use Prim.Native.Nat.{_≤_, _-_}
-use denote.Ref.{now}
 use Rattle.arith.specs.FlowLaws.{turns-none, turns-end}
 use Rattle.solves.specs.Path.{lessProducts}
 use Rattle.solves.specs.PathView.{lineAt, InLine}
@@ -23,21 +22,10 @@ both c =
     let pre = c .before .before .before .pre in
     (pre .first (c .before .loop .k) (c .loop-test .taken), pre .second (c .before .loop .k) (c .loop-test .taken))
 
-loop-again : tie.Need-loop-again Inv-loop μ-loop
-loop-again c =
-    let at-place2 = c .before in
-    let at-place = at-place2 .before .before in
-    let at-loop = at-place .before .before in
-    let args = at-loop .before .before .args in (
-      omega arith,
-      products-more (now (args .s)) _ _ _ (at-loop .loop .k) (at-loop .loop .inv .1) (at-place .place .ensures)
-          (at-place2 .place2 .ensures),
-    )
-
 pub less-products-spec : {M : Type 1} → statement M
 less-products-spec =
     tie.close (tie.spec
     Inv-loop μ-loop (λ c. (omega arith, turns-none _ _)) (λ c κs. both c .0) (λ c. omega (arith, both (c .before)))
     (λ c. omega (arith, both (c .before .before))) (λ c κs. both (c .before .before) .1)
     (λ c. omega (arith, both (c .before .before .before))) (λ c. omega (arith, both (c .before .before .before .before)))
-    (λ c. omega arith) (λ c. omega arith) loop-again (λ c. search turns-end))
+    (λ c. omega arith) (λ c. omega arith) (λ c. (omega arith, search products-more)) (λ c. search turns-end))

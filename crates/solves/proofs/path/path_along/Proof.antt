@@ -1,29 +1,17 @@
 -- path_along: the factor, the tolerance, and the refinements.
 use native.Mathlib.Omega.{arith}
 use borrow.Author.Needs.{needs}
-use mathlib.Core.Path.{_∙_, ap}
+use mathlib.Core.Path.{_∙_}
 use Prim.Native.Nat.{_-_}
 use Rattle.arith.specs.Run.{ran}
 use Rattle.solves.specs.Region.{vecAt}
 use Rattle.solves.specs.View.{SOLUTION}
-use Rattle.solves.specs.DoesLaws.{sum-there, sum-over, went, failed, fails, does-eq}
+use Rattle.solves.specs.DoesLaws.{ran-fails, sum-there, sum-over, went, failed, fails}
 use Rattle.solves.proofs.OperatorLaws.{along-kept}
 use Rattle.solves.proofs.SearchLaws.{tenth-12, new-ended}
 use Rattle.solves.proofs.SolveLaws.{along-refused, along-intolerant, along-whole}
 use Rattle.solves.proofs.path.path_along.Statement.{statement}
 use Rattle.solves.proofs.path.path_along.Tie as tie
-
-returns : tie.Need-returns
-returns c =
-    let at-if1 = c .before in
-    let at-done = at-if1 .before in
-    let at-path-factored = at-done .before .before .before in
-    let start = at-path-factored .before .before .before in
-    let end = at-path-factored .path-factored .result in
-    new-ended (vecAt (at-path-factored .path-factored .last .0) SOLUTION _) (c .new .ensures)
-    (does-eq (ap (λ x. ran x 0 0) (fails _ end (at-done .done .ensures) (at-if1 .if1 .taken)))
-    (along-refused _ (start .pre)
-    (failed _ end (at-done .done .ensures) (at-path-factored .path-factored .ensures) (at-if1 .if1 .taken))))
 
 returns-2 : tie.Need-returns-2
 returns-2 c =
@@ -60,6 +48,7 @@ returns-3 c =
 pub path-along-spec : {M : Type 1} → statement M
 path-along-spec =
     tie.close (tie.spec
-    (λ c κs. c .before .before .pre) (λ c κs. search needs) (λ c κs. search needs) (λ c. omega arith) returns
-    (λ c κs. omega arith) (λ c. search needs) (λ c. search needs) (λ c κs. search needs) (λ c. omega arith)
-    returns-2 (λ c κs. omega arith) refinements-requires (λ c. omega arith) returns-3)
+    (λ c κs. c .before .before .pre) (λ c κs. search needs) (λ c κs. search needs) (λ c. omega arith)
+    (λ c. search (ran-fails, new-ended, along-refused, failed)) (λ c κs. omega arith) (λ c. search needs)
+    (λ c. search needs) (λ c κs. search needs) (λ c. omega arith) returns-2 (λ c κs. omega arith) refinements-requires
+    (λ c. omega arith) returns-3)

@@ -11,17 +11,9 @@ Inv-loop ia ib n starts₀ blocks₀ i₀ starts blocks i = (i ≤ n) × (Starts
 abbrev μ-loop : tie.MeasureT-loop
 μ-loop ia ib n starts₀ blocks₀ i₀ starts blocks i = n - i
 
-loop-again : tie.Need-loop-again Inv-loop μ-loop
-loop-again c =
-    let at-loop-test = c .before .before in
-    let at-loop = at-loop-test .before in (
-      omega arith,
-      starts-more _ _ _ _ (at-loop .loop .inv .1) (at-loop-test .loop-test .taken) (at-loop .before .pre .0) (c .note-start .ensures .is)
-          (c .note-start .ensures .written),
-    )
-
 pub path-blocks-spec : {M : Type 1} → statement M
 path-blocks-spec =
     tie.close (tie.spec
     Inv-loop μ-loop (λ c. (omega arith, starts-none _ _ _ _ (c .pre .3))) (λ c κs. omega arith) (λ c. omega arith)
-    (λ c. omega arith) loop-again (λ c. omega arith) (λ c. omega arith) (λ c. search blocks-made))
+    (λ c. omega arith) (λ c. (omega arith, search starts-more)) (λ c. omega arith) (λ c. omega arith)
+    (λ c. search blocks-made))

@@ -3,7 +3,7 @@ use native.Mathlib.Omega.{arith}
 use borrow.Author.Needs.{needs}
 use Prim.Native.Nat.{_≤_, _-_}
 use Rattle.solves.specs.Path.{pathRow}
-use Rattle.solves.specs.DoesLaws.{went, failed, fails, does-eq}
+use Rattle.solves.specs.DoesLaws.{does-fails, went, failed, fails}
 use Rattle.solves.proofs.OperatorLaws.{along-kept}
 use Rattle.solves.proofs.FactorLaws.{BandSo, bandOn, rows-none, rows-more, rows-stop, rows-end, factor-from}
 use Rattle.solves.proofs.path.path_factor.Statement.{statement}
@@ -21,19 +21,6 @@ loop-holds c =
     let start = c .before .before .before .before .before .before in
     (omega arith, rows-none (start .pre) _)
 
-returns : tie.Need-returns Inv-loop μ-loop
-returns c =
-    let at-done = c .before in
-    let at-path-row = at-done .before .before .before in
-    let at-loop = at-path-row .before .before .before in
-    let at-clear = at-loop .before .before .before in
-    let start = at-clear .before .before .before .before in
-    let end = at-path-row .path-row .result in
-    does-eq (fails _ end (at-done .done .ensures) (c .if1 .taken))
-    (factor-from (start .pre) _ (at-clear .clear .ensures)
-    (rows-stop (start .pre) _ (at-loop .loop .i) (at-loop .loop .inv .1) (at-path-row .before .before .loop-test .taken)
-    (failed _ end (at-done .done .ensures) (at-path-row .path-row .ensures) (c .if1 .taken))))
-
 loop-again : tie.Need-loop-again Inv-loop μ-loop
 loop-again c =
     let at-done = c .before in
@@ -50,5 +37,5 @@ pub path-factor-spec : {M : Type 1} → statement M
 path-factor-spec =
     tie.close (tie.spec
     Inv-loop μ-loop (λ c. omega arith) (λ c κs. omega arith) loop-holds (λ c κs. search along-kept) (λ c κs. search needs)
-    (λ c. omega arith) returns (λ c. omega arith) (λ c. omega arith) loop-again (λ c. omega arith)
-    (λ c. search (factor-from, rows-end)))
+    (λ c. omega arith) (λ c. search (does-fails, factor-from, rows-stop, failed)) (λ c. omega arith) (λ c. omega arith)
+    loop-again (λ c. omega arith) (λ c. search (factor-from, rows-end)))

@@ -4,7 +4,7 @@ use borrow.Author.Needs.{needs}
 use mathlib.Core.Path.{refl}
 use Prim.Native.Nat.{_+_, _≤_, _-_}
 use Rattle.solves.specs.Path.{pathEntry}
-use Rattle.solves.specs.DoesLaws.{went, failed, fails, does-eq}
+use Rattle.solves.specs.DoesLaws.{does-fails, went, failed, fails, does-eq}
 use Rattle.solves.proofs.OperatorLaws.{along-kept}
 use Rattle.solves.proofs.FactorLaws.{BandSo, bandOn, entries-start, entries-more, entries-stop, entries-end}
 use Rattle.solves.proofs.path.path_row.Statement.{statement}
@@ -36,18 +36,6 @@ path-entry-requires c κs =
     let so = at-loop .loop .inv in
     (along-kept (pre .0) (so .2 .kept .size), pre .1, omega (arith, at-loop-test .loop-test .taken), omega (arith, so .0))
 
-returns : tie.Need-returns Inv-loop μ-loop
-returns c =
-    let at-done = c .before in
-    let at-path-entry = at-done .before .before .before in
-    let at-loop-test = at-path-entry .before .before in
-    let at-loop = at-loop-test .before in
-    let start = at-loop .before .before .before in
-    let end = at-path-entry .path-entry .result in
-    does-eq (fails _ end (at-done .done .ensures) (c .if1 .taken))
-    (entries-stop (start .pre .0) _ _ (at-loop .loop .inv .2) (at-loop .loop .inv .0)
-    (at-loop-test .loop-test .taken) (failed _ end (at-done .done .ensures) (at-path-entry .path-entry .ensures) (c .if1 .taken)))
-
 loop-again : tie.Need-loop-again Inv-loop μ-loop
 loop-again c =
     let at-done = c .before in
@@ -65,5 +53,5 @@ pub path-row-spec : {M : Type 1} → statement M
 path-row-spec =
     tie.close (tie.spec
     Inv-loop μ-loop (λ c κs. search needs) (λ c. omega arith) loop-holds path-entry-requires (λ c κs. search needs)
-    (λ c. omega arith) returns (λ c. omega arith) (λ c. omega arith) loop-again (λ c. c .before .loop .inv .2 .kept .size)
-    (λ c. search entries-end))
+    (λ c. omega arith) (λ c. search (does-fails, entries-stop, failed)) (λ c. omega arith) (λ c. omega arith) loop-again
+    (λ c. c .before .loop .inv .2 .kept .size) (λ c. search entries-end))

@@ -4,7 +4,7 @@ use borrow.Author.Needs.{needs}
 use mathlib.Core.Path.{_∙_}
 use Prim.Native.Nat.{_-_}
 use Rattle.solves.specs.View.{SOLUTION, PRODUCT}
-use Rattle.solves.specs.DoesLaws.{went, failed, fails, does-eq}
+use Rattle.solves.specs.DoesLaws.{does-fails, went, failed, fails}
 use Rattle.solves.proofs.OperatorLaws.{rows-kept, place-of}
 use Rattle.solves.proofs.SolveLaws.{refine-failed, refine-done}
 use Rattle.solves.proofs.path.refine.Statement.{statement}
@@ -40,7 +40,7 @@ returns c =
     let at-forward = at-backward .before .before .before .before in
     let start = at-forward .before .before .before in
     let end = at-operator .operator .result in
-    does-eq (fails _ end (at-done .done .ensures) (c .if1 .taken))
+    does-fails _ end (at-done .done .ensures) (c .if1 .taken)
     (refine-failed _ (start .pre) (at-forward .forward .ensures) (at-backward .backward .ensures)
     (failed _ end (at-done .done .ensures) (at-operator .operator .ensures) (c .if1 .taken)))
 

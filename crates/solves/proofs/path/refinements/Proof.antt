@@ -1,7 +1,6 @@
 -- refinements: at most four, turn by turn by SolveLaws `refined-more`.
 use native.Mathlib.Omega.{arith}
 use borrow.Author.Needs.{needs}
-use mathlib.Core.Path.{ap}
 use Prim.Native.Nat.{_-_}
 use Rattle.arith.specs.Flow.{loop}
 use Rattle.arith.specs.Run.{ran}
@@ -10,7 +9,7 @@ use Rattle.solves.specs.Region.{vecAt}
 use Rattle.solves.specs.View.{systemOn, refinedAt, factorAt, listAt}
 use Rattle.solves.specs.View.{Refining}
 use Rattle.solves.specs.View.{RHS, SOLUTION}
-use Rattle.solves.specs.DoesLaws.{went, failed, fails, does-eq, does-more}
+use Rattle.solves.specs.DoesLaws.{ran-fails, went, failed, fails, does-more}
 use Rattle.solves.specs.ViewLaws.{refining-work}
 use Rattle.solves.proofs.OperatorLaws.{along-kept}
 use Rattle.solves.proofs.SearchLaws.{new-ended, Came, came-none, came-spent}
@@ -37,7 +36,7 @@ returns c =
     let end = at-refine .refine .result in
     let k = at-loop .loop .k in
     new-ended (vecAt (at-refine .refine .last .0) SOLUTION _) (c .new .ensures)
-    (does-eq (ap (λ x. ran x 0 k) (fails _ end (at-done .done .ensures) (at-if1 .if1 .taken)))
+    (ran-fails _ end (at-done .done .ensures) (at-if1 .if1 .taken)
     (does-more refining-work
     (refined-failed _ (start .pre) _ _ (at-loop .loop .inv)
     (at-refine .before .before .loop-test .taken)

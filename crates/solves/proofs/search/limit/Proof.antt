@@ -1,18 +1,15 @@
 -- limit: by the case of `which`.
 use native.Mathlib.Omega.{arith}
 use borrow.Author.Needs.{needs}
-use mathlib.Core.Path.{sym, ap}
 use Prim.Native.Nat.{_-_}
-use Rattle.solves.specs.declared.search.Which.{Which}
-use Rattle.solves.specs.Answer.{limitOf}
 use Rattle.solves.proofs.search.limit.Statement.{statement}
 use Rattle.solves.proofs.search.limit.Tie as tie
 
 returns : tie.Need-returns
-returns c = sym (ap (λ (w : Which). limitOf w (c .before .before .args .n)) (c .enum-told .given .1))
+returns c = cc (c .enum-told .given .1)
 
 returns-2 : tie.Need-returns-2
-returns-2 c = sym (ap (λ (w : Which). limitOf w (c .before .before .args .n)) (c .enum-told2 .given .1))
+returns-2 c = cc (c .enum-told2 .given .1)
 
 pub limit-spec : {M : Type 1} → statement M
 limit-spec =

@@ -28,7 +28,9 @@ returns c =
     let at-limit = at-loop .before in
     let start = at-limit .before .before in
     new-ended (vecAt (at-search-pass .search-pass .last .0) SOLUTION _) (c .new .ensures)
-    (does-is (does-more passing-work (search-over _ (at-loop .loop .inv) (at-search-pass .before .before .loop-test .taken) (at-search-pass .search-pass .result)
+    (does-is
+    (does-more passing-work
+    (search-over _ (at-loop .loop .inv) (at-search-pass .before .before .loop-test .taken) (at-search-pass .search-pass .result)
     (does-is (at-search-pass .search-pass .ensures)
     (pass-kept _ (start .pre) (start .args .which) _ (at-loop .loop .inv .kept) _))
     (c .before .before .end .given .1)))
