@@ -40,7 +40,7 @@ use Rattle.step.specs.View.{candidatesAt, statesAt, Handed, stateAt, noS
 use Rattle.step.specs.ViewLaws.{kept-candidates}
 use Rattle.step.specs.BackLaws.{handed-back}
 use Rattle.step.specs.Bodies.{Job, Found, Started, startOf, prepareMasses, statesOf, stateIn}
-use Rattle.step.specs.Step.{nonlinearLoop, velocityPass, velocityLoop, finishOf, runOf, Stepped, stepped, grounded, cleared, settledAs, settled}
+use Rattle.step.specs.Step.{nonlinearLoop, velocityPass, velocityLoop, finishOf, runOf, Stepped, stepped, grounded, cleared, concluded}
 use Rattle.step.specs.RunView.{alone, startedAt, foundAt, Sides, candidateTable, Trying, Correcting, leftAs}
 use Rattle.step.proofs.PassLaws.{failed-as}
 
@@ -161,7 +161,7 @@ module _ (job : Job) (bodies : List RigidBody) {joints : List Joint} {count : �
           ∙ try-go (λ start. nonlinearLoop job start >>= finishOf job bodies) started;
     }
 
--- ---- settle
+-- ---- conclude
 every-ext : (n : ℕ) {f g : ℕ → Bool} → ((k : ℕ) → k < n → f k ≡ g k) → every n f ≡ every n g
 unfolding every
 every-ext zero h = refl
@@ -184,23 +184,23 @@ module _ (n : ℕ) (s bodies : List Float) where
   module _ {b : Bool} (e : b ≡ every n (λ k. withinOf (vec3At s (CANDIDATE + 13 * k)) (ratio 8192 1))) {end : End} (q : end ≡ Ends.Done)
       (nonlinear linear : ℕ) (scratch : List Float) where
     -- in the case that the run went through
-    done : settledAs bodies scratch nonlinear linear (go states) ≡ settledAs bodies scratch nonlinear linear (ranAs end states)
-    done = ap (λ (x : End). settledAs bodies scratch nonlinear linear (ranAs x states)) (sym q)
+    done : concluded bodies scratch (ran (go states) nonlinear linear) ≡ concluded bodies scratch (ran (ranAs end states) nonlinear linear)
+    done = ap (λ (x : End). concluded bodies scratch (ran (ranAs x states) nonlinear linear)) (sym q)
 
-    pub settle-accepts : b ≡ true → n ≡ bodyCount bodies → length bodies % 26 ≡ 0 → {after : List Float} → Handed n s bodies after
-        → stepped Outcomes.Accepted nonlinear linear after scratch ≡ settledAs bodies scratch nonlinear linear (ranAs end states)
-    settle-accepts t c w h =
+    pub conclude-accepts : b ≡ true → n ≡ bodyCount bodies → length bodies % 26 ≡ 0 → {after : List Float} → Handed n s bodies after
+        → stepped Outcomes.Accepted nonlinear linear after scratch ≡ concluded bodies scratch (ran (ranAs end states) nonlinear linear)
+    conclude-accepts t c w h =
         ap (λ (a : List Float). stepped Outcomes.Accepted nonlinear linear a scratch) (handed-back n s c w h)
         ∙ cond-yes {b = grounded states} _ _ (sym (sym t ∙ e ∙ ground-is)) ∙ done
 
-    pub settle-grounds : b ≡ false
-        → stepped Outcomes.Ground nonlinear linear bodies scratch ≡ settledAs bodies scratch nonlinear linear (ranAs end states)
-    settle-grounds t = cond-no {b = grounded states} _ _ (sym (sym t ∙ e ∙ ground-is)) ∙ done
+    pub conclude-grounds : b ≡ false
+        → stepped Outcomes.Ground nonlinear linear bodies scratch ≡ concluded bodies scratch (ran (ranAs end states) nonlinear linear)
+    conclude-grounds t = cond-no {b = grounded states} _ _ (sym (sym t ∙ e ∙ ground-is)) ∙ done
 
 -- in the case that it failed
-pub settle-fails : (bodies scratch : List Float) (states : List BodyState) {end q : End} → end ≡ q → (nonlinear linear : ℕ)
-    → settledAs bodies scratch nonlinear linear (ranAs q states) ≡ settledAs bodies scratch nonlinear linear (ranAs end states)
-settle-fails bodies scratch states e nonlinear linear = ap (λ (x : End). settledAs bodies scratch nonlinear linear (ranAs x states)) (sym e)
+pub conclude-fails : (bodies scratch : List Float) (states : List BodyState) {end q : End} → end ≡ q → (nonlinear linear : ℕ)
+    → concluded bodies scratch (ran (ranAs q states) nonlinear linear) ≡ concluded bodies scratch (ran (ranAs end states) nonlinear linear)
+conclude-fails bodies scratch states e nonlinear linear = ap (λ (x : End). concluded bodies scratch (ran (ranAs x states) nonlinear linear)) (sym e)
 
 -- the scratch of a run, cleared
 pub all-zero : {s t : List Float} → length s ≡ SCRATCH → Filled 0 SCRATCH (λ _. ratio 0 1) s t → t ≡ replicate SCRATCH (ratio 0 1)
@@ -215,29 +215,32 @@ all-zero {s} {t} e f =
 pub solved-in : (bodies : List Float) (run : Counting (List BodyState)) {P : ℕ → Type 0} {s t u : List Float} (r : Ran) (states : List BodyState)
     → Does P s t (leftAs r states) run → {outcome : Outcome} {after : List Float}
     →
-    ((nonlinear linear : ℕ) (scratch : List Float) → stepped outcome nonlinear linear after scratch ≡ settledAs bodies scratch nonlinear linear
-    (ranAs (r .end) states))
+    ((nonlinear linear : ℕ) (scratch : List Float) → stepped outcome nonlinear linear after scratch ≡ concluded bodies scratch
+    (ran (ranAs (r .end) states) nonlinear linear))
     → u ≡ replicate SCRATCH (ratio 0 1)
-    → stepped outcome (r .nonlinear) (r .linear) after u ≡ settled bodies (replicate SCRATCH (ratio 0 1)) run
+    → stepped outcome (r .nonlinear) (r .linear) after u ≡ concluded bodies (replicate SCRATCH (ratio 0 1)) run
 solved-in bodies run r states d {outcome} {after} e z =
     ap (stepped outcome (r .nonlinear) (r .linear) after) z ∙ e (r .nonlinear) (r .linear) (replicate SCRATCH (ratio 0 1))
-    ∙ ap (settled bodies (replicate SCRATCH (ratio 0 1))) (d .is)
+    ∙ ap (concluded bodies (replicate SCRATCH (ratio 0 1))) (d .is)
 
 -- the step's scratch is the run's, with what stands behind it
 pub solved-scratch : (bodies scratch : List Float) (run : Counting (List BodyState)) {outcome : Outcome} {nonlinear linear : ℕ} {after work : List Float}
-    → stepped outcome nonlinear linear after work ≡ settled bodies (replicate SCRATCH (ratio 0 1)) run
-    → stepped outcome nonlinear linear after (work ++ drop SCRATCH scratch) ≡ settled bodies (cleared scratch) run
+    → stepped outcome nonlinear linear after work ≡ concluded bodies (replicate SCRATCH (ratio 0 1)) run
+    → stepped outcome nonlinear linear after (work ++ drop SCRATCH scratch) ≡ concluded bodies (cleared scratch) run
 unfolding cleared
 solved-scratch bodies scratch run e = ap behind e ∙ moved (run .ends)
   where
     behind : Stepped → Stepped
     behind x = stepped (x .outcome) (x .nonlinear) (x .linear) (x .bodies) (x .scratch ++ drop SCRATCH scratch)
 
+    counted : Result (List BodyState) → Counting (List BodyState)
+    counted ends = ran ends (run .nonlinear) (run .linear)
+
     one : (b : Bool) (x y : Stepped) → behind (cond b x y) ≡ cond b (behind x) (behind y)
     one true x y = refl
     one false x y = refl
 
-    moved : (ends : Result (List BodyState)) → behind (settledAs bodies (replicate SCRATCH (ratio 0 1)) (run .nonlinear) (run .linear) ends)
-        ≡ settledAs bodies (replicate SCRATCH (ratio 0 1) ++ drop SCRATCH scratch) (run .nonlinear) (run .linear) ends
+    moved : (ends : Result (List BodyState)) → behind (concluded bodies (replicate SCRATCH (ratio 0 1)) (counted ends))
+        ≡ concluded bodies (replicate SCRATCH (ratio 0 1) ++ drop SCRATCH scratch) (counted ends)
     moved (stop x) = refl
     moved (go x) = one (grounded x) _ _

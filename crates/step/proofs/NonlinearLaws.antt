@@ -26,11 +26,11 @@ use Rattle.solves.specs.View.{ROWS, RHS, SOLUTION, Beside, Work, rowOn, rowsOn,
 use Rattle.solves.specs.ViewLaws.{system-kept}
 use Rattle.step.specs.Layout.{IMPULSES}
 use Rattle.step.specs.Bodies.{Job, Found, rowsMet, rhsOf, addImpulses, candidateOf}
-use Rattle.step.specs.Step.{nonlinearPass, nonlinearLoop}
+use Rattle.step.specs.Step.{correction, nonlinearPass, nonlinearLoop}
 use Rattle.solves.specs.Lent.{Slice}
 use Rattle.step.specs.declared.passes.Task.{Task}
 use Rattle.step.specs.declared.passes.Passed.{Passed}
-use Rattle.step.specs.RunView.{impulsesAt, startedAt, foundAt, Starting, Trying, passedAs, passedAfter, correction, impulsesBy}
+use Rattle.step.specs.RunView.{impulsesAt, startedAt, foundAt, Starting, Trying, passedAs, passedAfter, impulsesBy}
 use Rattle.step.proofs.LoopLaws.{kept-started}
 use Rattle.step.proofs.PassLaws.{begun, unsolved, made, pass-fails, pass-met, pass-corrects}
 

@@ -25,7 +25,8 @@ use Rattle.solves.specs.DoesLaws.{ran-done, fails, fails-over, went, failed}
 use Rattle.arith.specs.FlowLaws.{not-yes, not-no}
 use Rattle.step.specs.declared.passes.Passed.{Passed}
 use Rattle.step.specs.declared.passes.Ran.{Ran}
-use Rattle.step.specs.RunView.{passedAs, passedAfter, leftAs, correction}
+use Rattle.step.specs.Step.{correction}
+use Rattle.step.specs.RunView.{passedAs, passedAfter, leftAs}
 
 -- ---- links
 -- a pass counts itself, and then does the rest

@@ -6,7 +6,7 @@ use mathlib.Core.List.{[], List}
 use lib.ListN.{length, getD}
 use lib.Ieee.{Float}
 use Rattle.arith.specs.Flow.{Turn, go, stop, turns}
-use Rattle.arith.specs.Run.{ran, try, again, _>>=_}
+use Rattle.arith.specs.Run.{ran}
 use Rattle.vectors.specs.Vector.{divOf}
 use Rattle.rows.specs.declared.body.MomentumBody.{MomentumBody}
 use Rattle.rows.specs.declared.geometry.Joint.{Joint}
@@ -36,6 +36,7 @@ use Rattle.step.specs.Layout.{IMPULSES, START, CANDIDATE, STATES, USED}
 use Rattle.step.specs.View.{candidateAt, startBodiesAt, candidatesAt}
 use Rattle.step.specs.Bodies.{Job, Started, Found, rhsOf, addImpulses, reactionOf}
 use Rattle.step.specs.Joined.{Joined}
+use Rattle.step.specs.Step.{correction}
 
 -- ---- views
 -- the candidates where bodies were moved, else those of the start
@@ -133,11 +134,7 @@ passedAfter end linear = record { pass = cond (isDone end) Passes.Again (Passes.
 abbrev pub leftAs : {A : Type 0} → Ran → A → Counting A
 leftAs r x = ran (ranAs (r .end) x) (r .nonlinear) (r .linear)
 
--- the second half of both passes: a solve, and what is made of its solution
-abbrev pub correction : {A B : Type 0} → Counting (List Float) → (List Float → Result A) → Counting (Turn A B)
-correction solve make = solve >>= λ solution. try (make solution) >>= λ next. again next
-
--- of a nonlinear pass: the impulses for the next, along the starting rows
+-- the second half of a nonlinear pass: the impulses for the next, along the starting rows
 abbrev pub impulsesBy : Task → Started → List Float → List EqualityRow → Counting (Turn (List Float) Found)
 impulsesBy task start impulses rows = correction (linearSolve (task .cyclic) (start .system) (rhsOf (task .dt) rows)) (addImpulses impulses)
 
