@@ -10,20 +10,20 @@ use lib.Ieee.{Float, nan}
 use Rattle.arith.specs.Real.{ratio}
 use Rattle.arith.specs.Flow.{go, stop, every}
 use Rattle.arith.specs.FlowLaws.{not-no, cond-yes, cond-no}
-use Rattle.arith.specs.Run.{ran, try, after, _>>=_}
+use Rattle.arith.specs.Run.{ran, try, after, _>>=_, upTo}
 use Rattle.arith.specs.RunLaws.{run-is, then-go, then-stop, try-go}
 use Rattle.rows.specs.declared.body.RigidBody.{RigidBody}
 use Rattle.rows.specs.declared.body.BodyState.{BodyState}
 use Rattle.rows.specs.declared.body.MomentumBody.{MomentumBody}
 use Rattle.rows.specs.declared.geometry.Joint.{Joint}
-use Rattle.rows.specs.Fault.{Result}
+use Rattle.rows.specs.Fault.{Result, nonConvergent}
 use Rattle.rows.specs.View.{at, vec3At, Out, Kept}
 use Rattle.rows.specs.Region.{tab-length, tab-at, kept-then, kept-more}
 use Rattle.rows.specs.declared.End.{End}
 use Rattle.rows.specs.declared.End.the-variants as Ends
 use Rattle.solves.specs.declared.Ended.{Ended}
 use Rattle.solves.specs.declared.Table.{Table}
-use Rattle.solves.specs.Layout.{MASS-TABLE}
+use Rattle.solves.specs.Layout.{MASS-TABLE, ROW-TABLE}
 use Rattle.solves.specs.Region.{Filled, Does}
 use Rattle.solves.specs.System.{Counting}
 use Rattle.solves.specs.Answer.{ranAs, isDone, endedAs}
@@ -33,16 +33,17 @@ use Rattle.solves.specs.ViewLaws.{kept-rows}
 use Rattle.step.specs.declared.Outcome.{Outcome}
 use Rattle.step.specs.declared.Outcome.the-variants as Outcomes
 use Rattle.step.specs.declared.passes.Ran.{Ran}
-use Rattle.step.specs.Layout.{CANDIDATE, STATES, SCRATCH, USED}
+use Rattle.step.specs.Layout.{IMPULSES, CANDIDATE, STATES, SCRATCH, USED}
 use Rattle.step.specs.Records.{bodyCount}
 use Rattle.step.specs.Checks.{withinOf}
 use Rattle.step.specs.View.{candidatesAt, statesAt, Handed, stateAt, noState}
 use Rattle.step.specs.ViewLaws.{kept-candidates}
 use Rattle.step.specs.BackLaws.{handed-back}
-use Rattle.step.specs.Bodies.{Job, Found, Started, startOf, prepareMasses, statesOf, stateIn}
-use Rattle.step.specs.Step.{nonlinearLoop, velocityPass, velocityLoop, finishOf, runOf, Stepped, stepped, grounded, cleared, concluded}
-use Rattle.step.specs.RunView.{alone, startedAt, foundAt, Sides, candidateTable, Trying, Correcting, leftAs}
+use Rattle.step.specs.Bodies.{Job, Started, startOf, prepareMasses, statesOf, stateIn}
+use Rattle.step.specs.Step.{nonlinearPass, nonlinearLoop, velocityPass, velocityLoop, finishOf, runOf, Stepped, stepped, grounded, cleared, concluded}
+use Rattle.step.specs.RunView.{impulsesAt, startedAt, foundAt, Sides, candidateTable, Trying, Correcting, leftAs}
 use Rattle.step.proofs.PassLaws.{failed-as}
+use Rattle.step.proofs.NonlinearLaws.{from-none}
 
 -- ---- finish_run
 module _ (job : Job) (bodies : List RigidBody) (ia ib : List ℕ) (t : Table) (l : t .rows ≤ 96) (g : t .bodies ≤ 16) {s s₁ : List Float} (r₁ : End)
@@ -58,16 +59,18 @@ module _ (job : Job) (bodies : List RigidBody) (ia ib : List ℕ) (t : Table) (l
     is = failed-as (massesAt s₁ MASSES (t .bodies)) (statesAt s₁ (t .bodies)) r₁ eb h (d₁ .is) _;
   }
 
-  module _ (h : not b ≡ false) {s₂ : List Float} (r₂ : Ended)
-      (d₂ : Does Correcting s₁ s₂ (endedAs r₂ (candidatesAt s₂ (t .bodies)))
-      (velocityLoop job (systemOn ia ib s₁ (candidateTable t)) (candidatesAt s₁ (t .bodies)))) {c : Bool} (ec : c ≡ isDone (r₂ .end)) where
+  module _ (h : not b ≡ false) {s₂ : List Float} (r₂ : Ran)
+      (d₂ : Does Correcting s₁ s₂ (ran (ranAs (r₂ .end) (candidatesAt s₂ (t .bodies))) 0 (r₂ .linear))
+      (upTo 3 nonConvergent (velocityPass job (systemOn ia ib s₁ (candidateTable t))) (candidatesAt s₁ (t .bodies))))
+      {c : Bool} (ec : c ≡ isDone (r₂ .end)) where
     weighed : go (massesAt s₁ MASSES (t .bodies)) ≡ prepareMasses (candidatesAt s (t .bodies))
     weighed = sym (ran-done (massesAt s₁ MASSES (t .bodies)) r₁ (sym eb ∙ not-no b h)) ∙ d₁ .is
 
     abbrev loop : Counting (List MomentumBody)
     loop = velocityLoop job (record { rows = rowsOn ia ib s ROWS (t .rows); masses = massesAt s₁ MASSES (t .bodies) }) (candidatesAt s (t .bodies))
 
-    loop-is : endedAs r₂ (candidatesAt s₂ (t .bodies)) ≡ loop
+    loop-is : ran (ranAs (r₂ .end) (candidatesAt s₂ (t .bodies))) 0 (r₂ .linear) ≡ loop
+    unfolding velocityLoop
     loop-is = d₂ .is ∙ λ j. velocityLoop job
         (record { rows = kept-rows (d₁ .kept) ia ib ROWS (t .rows) (λ i a b. omega arith) j; masses = massesAt s₁ MASSES (t .bodies) })
         (kept-candidates (d₁ .kept) (t .bodies) (λ i a b. omega arith) (λ i a b. omega arith) j)
@@ -75,7 +78,7 @@ module _ (job : Job) (bodies : List RigidBody) (ia ib : List ℕ) (t : Table) (l
     kept₂ : Kept (Out MASSES (USED - MASSES)) s s₂
     kept₂ = kept-then (kept-more (d₁ .kept) (λ i x. omega arith)) (d₂ .kept) (λ i x. (omega arith, omega arith))
 
-    pub not-rested : not c ≡ true → Finishes s₂ (endedAs r₂ (statesAt s₂ (t .bodies)))
+    pub not-rested : not c ≡ true → Finishes s₂ (ran (ranAs (r₂ .end) (statesAt s₂ (t .bodies))) 0 (r₂ .linear))
     unfolding finishOf
     not-rested k = record {
       kept = kept₂;
@@ -104,11 +107,6 @@ module _ (job : Job) (bodies : List RigidBody) (ia ib : List ℕ) (t : Table) (l
             (sym (ran-done (candidatesAt s₂ (t .bodies)) (r₂ .end) (sym ec ∙ not-no c k))) ∙ loop-is
 
 -- ---- run
--- no joint is read once they were met
-finish-alone : (job : Job) (bodies : List RigidBody) (found : Found) → finishOf (alone job) bodies found ≡ finishOf job bodies found
-unfolding finishOf velocityLoop velocityPass
-finish-alone job bodies found = refl
-
 -- the rows of the joints, as they were counted
 pub started-as : {joints : List Joint} {count : ℕ} {ia ib : List ℕ} → Sides joints count ia ib → {n m : ℕ} (size : ℕ) {s s₁ : List Float} (r : End)
     {d : Result Started} → n ≡ m
@@ -129,8 +127,12 @@ module _ (job : Job) (bodies : List RigidBody) {joints : List Joint} {count : �
   unfolding runOf
   not-started h = record { kept = d₁ .kept; is = failed-as (startedAt ia ib s₁ t) (statesAt s₁ (t .bodies)) r₁ eb h (d₁ .is) _ }
 
-  module _ (h : not b ≡ false) {s₂ : List Float} (r₂ : Ran)
-      (d₂ : Does Trying s₁ s₂ (leftAs r₂ (foundAt ia ib s₂ t)) (nonlinearLoop job (startedAt ia ib s₁ t))) {c : Bool} (ec : c ≡ isDone (r₂ .end)) where
+  module _ (h : not b ≡ false) (apart : t .place + ROW-TABLE ≤ ROWS) (l : t .rows ≤ 96) (g : t .bodies ≤ 16) {s₂' s₂ : List Float}
+      (f : Filled IMPULSES (t .rows) (λ _. ratio 0 1) s₁ s₂') (r₂ : Ran) (d₂' : Does Trying s₂' s₂ (leftAs r₂ (foundAt ia ib s₂ t))
+      (upTo 32 nonConvergent (nonlinearPass job (startedAt ia ib s₂' t)) (impulsesAt s₂' t))) {c : Bool} (ec : c ≡ isDone (r₂ .end)) where
+    d₂ : Does Trying s₁ s₂ (leftAs r₂ (foundAt ia ib s₂ t)) (nonlinearLoop job (startedAt ia ib s₁ t))
+    d₂ = from-none job ia ib t apart l g f d₂'
+
     started : go (startedAt ia ib s₁ t) ≡ startOf job bodies
     started = sym (ran-done (startedAt ia ib s₁ t) r₁ (sym eb ∙ not-no b h)) ∙ d₁ .is
 
@@ -150,13 +152,13 @@ module _ (job : Job) (bodies : List RigidBody) {joints : List Joint} {count : �
     }
 
     pub all-run : not c ≡ false → {s₃ : List Float} (r₃ : Ended)
-        → Does (Out MASSES (USED - MASSES)) s₂ s₃ (endedAs r₃ (statesAt s₃ (t .bodies))) (finishOf (alone job) bodies (foundAt ia ib s₂ t))
+        → Does (Out MASSES (USED - MASSES)) s₂ s₃ (endedAs r₃ (statesAt s₃ (t .bodies))) (finishOf job bodies (foundAt ia ib s₂ t))
         → Runs s₃ (ran (ranAs (r₃ .end) (statesAt s₃ (t .bodies))) (r₂ .nonlinear) (r₂ .linear + r₃ .linear))
     unfolding runOf
     all-run k r₃ d₃ = record {
       kept = kept-then kept-run (d₃ .kept) (λ i x. omega arith);
       is = run-is (let z : r₂ .nonlinear ≡ r₂ .nonlinear + 0 = omega arith in z) refl
-          ∙ ap (after (r₂ .nonlinear) (r₂ .linear)) (d₃ .is ∙ finish-alone job bodies (foundAt ia ib s₂ t))
+          ∙ ap (after (r₂ .nonlinear) (r₂ .linear)) (d₃ .is)
           ∙ then-go (finishOf job bodies) (ap counts (sym (ran-done (foundAt ia ib s₂ t) (r₂ .end) (sym ec ∙ not-no c k))) ∙ d₂ .is)
           ∙ try-go (λ start. nonlinearLoop job start >>= finishOf job bodies) started;
     }

@@ -10,7 +10,7 @@ use lib.Ieee.{Float, ofBits, round}
 use Rattle.arith.specs.Real.{F, ratio, isFinite, absOf, _⊕_}
 use Rattle.arith.specs.Flow.{Turn, go, stop, _>>=_, each, every}
 use Rattle.arith.specs.FlowLaws.{then-go, then-stop, every-fail, every-end}
-use Rattle.arith.specs.Run.{ran, leave, upTo}
+use Rattle.arith.specs.Run.{ran, leave}
 use Rattle.arith.specs.RunLaws.{over}
 use Rattle.vectors.specs.declared.vector.Vec3.{Vec3}
 use Rattle.vectors.specs.declared.vector.OptionVec3.{OptionVec3}
@@ -18,7 +18,7 @@ use Rattle.vectors.specs.declared.vector.OptionVec3.the-variants.{Some, None}
 use Rattle.vectors.specs.Vector.{dotOf, divOf}
 use Rattle.rows.specs.declared.body.MomentumBody.{MomentumBody}
 use Rattle.rows.specs.declared.geometry.EqualityRow.{EqualityRow}
-use Rattle.rows.specs.Fault.{Fault, nonConvergent, arithmeticOverflow, Result, vectorOr}
+use Rattle.rows.specs.Fault.{Fault, arithmeticOverflow, Result, vectorOr}
 use Rattle.rows.specs.Body.{omegaOf, kickOf}
 use Rattle.rows.specs.View.{at, Out, Kept}
 use Rattle.rows.specs.Region.{tab-length, kept-refl, kept-set}
@@ -26,20 +26,18 @@ use Rattle.rows.specs.AnswerLaws.{vector-go, vector-stop}
 use Rattle.solves.specs.declared.places.Generalized.{Generalized}
 use Rattle.solves.specs.Solver.{rowIn, generalizedIn, transpose}
 use Rattle.rows.specs.declared.End.{End}
-use Rattle.solves.specs.declared.Ended.{Ended}
 use Rattle.solves.specs.declared.Table.{Table}
 use Rattle.solves.specs.System.{Counting}
 use Rattle.solves.specs.Search.{linearSolve}
-use Rattle.solves.specs.Answer.{ranAs, isDone, endedAs}
+use Rattle.solves.specs.Answer.{ranAs, isDone}
 use Rattle.solves.specs.Region.{vecAt, Does}
-use Rattle.solves.specs.View.{RHS, SOLUTION, GENERALIZED, Rows, Shares, Work, Beside, rowOn, rowsOn, generalizedAt, generalizedsAt, sharesIn, systemOn}
+use Rattle.solves.specs.View.{RHS, SOLUTION, GENERALIZED, Rows, Shares, Beside, rowOn, rowsOn, generalizedAt, generalizedsAt, sharesIn, systemOn}
 use Rattle.solves.specs.ViewLaws.{row-in, share-in, system-kept}
 use Rattle.solves.specs.DoesLaws.{number-yes, number-no, does-stop, does-then, does-eq, does-is, does-more}
 use Rattle.step.specs.Layout.{IMPULSES, CANDIDATE, STATES}
 use Rattle.step.specs.Bodies.{Job, bodyIn, velocityOf, velocityRhs, compatibleOf, kickBodies, reactionOf}
-use Rattle.step.specs.Step.{correction, velocityPass, velocityLoop}
-use Rattle.step.specs.RunView.{MotionOf, MotionAt, Remembers, Correcting, passedAs, passedAfter}
-use Rattle.step.specs.declared.passes.Passed.{Passed}
+use Rattle.step.specs.Step.{correction, velocityPass}
+use Rattle.step.specs.RunView.{MotionOf, MotionAt, Remembers, Correcting}
 use Rattle.solves.specs.RegionLaws.{vec-at}
 use Rattle.step.specs.View.{startBodyAt, candidateAt, candidatesAt, movedTo}
 use Rattle.step.specs.ViewLaws.{kept-candidate, kept-candidates}
@@ -47,7 +45,7 @@ use Rattle.step.specs.declared.velocity.Motion.{Motion}
 use Rattle.step.proofs.FrameLaws.{candidate-in}
 use Rattle.step.proofs.EachLaws.{so-none, so-more, so-put, so-stop, so-end}
 use Rattle.step.proofs.MotionLaws.{kick-moved}
-use Rattle.step.proofs.PassLaws.{unsolved, made, pass-fails, pass-met, pass-corrects}
+use Rattle.step.proofs.PassLaws.{pass-fails, pass-met, pass-corrects}
 
 -- velocity: the rate of a row from the motions of its bodies
 module _ (row : EqualityRow) (x y : MomentumBody) {a b : Motion} (ma : MotionOf x a) (mb : MotionOf y b) where
@@ -267,7 +265,7 @@ module _ {s : List Float} {ia ib : List ℕ} (table : Table) (pre : Rows s ia ib
             (kept-candidates (d .kept) (table .bodies) (λ i p q. omega (arith, pre .bodies)) (λ i p q. omega (arith, pre .bodies)));
       })
 
--- correct_velocities and velocity_pass: what the velocity loop reads beside the candidates stays
+-- velocity_pass: what the velocity loop reads beside the candidates stays
 module _ {P : ℕ → Type 0} {s t : List Float} (kept : Kept P s t) {ia ib : List ℕ} (table : Table)
     (pre : Rows s ia ib (table .place) (table .rows) (table .bodies)) where
   pub same-system : ((i : ℕ) → Correcting i → P i) → systemOn ia ib t table ≡ systemOn ia ib s table
@@ -276,15 +274,11 @@ module _ {P : ℕ → Type 0} {s t : List Float} (kept : Kept P s t) {ia ib : Li
   pub same-candidates : ((i : ℕ) → (Out RHS (IMPULSES - RHS) i) → P i) → candidatesAt t (table .bodies) ≡ candidatesAt s (table .bodies)
   same-candidates w = kept-candidates kept (table .bodies) (λ i a b. w i (omega (arith, pre .bodies))) (λ i a b. w i (omega (arith, pre .bodies)))
 
--- the pass of a table
-abbrev pub passOver : Job → List ℕ → List ℕ → Table → List Float → List MomentumBody → Counting (Turn (List MomentumBody) (List MomentumBody))
-passOver job ia ib table s = velocityPass job (systemOn ia ib s table)
-
 module _ (job : Job) {s : List Float} {ia ib : List ℕ} (table : Table) (pre : Rows s ia ib (table .place) (table .rows) (table .bodies))
     {t : List Float} (r : End) (d : Does (Beside RHS) s t (ranAs r (vecAt t RHS (table .rows)))
     (velocityRhs (rowsOn ia ib s (table .place) (table .rows)) (candidatesAt s (table .bodies)))) {b : Bool} (eb : b ≡ isDone r) where
   abbrev turn : Counting (Turn (List MomentumBody) (List MomentumBody))
-  turn = passOver job ia ib table s (candidatesAt s (table .bodies))
+  turn = velocityPass job (systemOn ia ib s table) (candidatesAt s (table .bodies))
 
   within : Does Correcting s t (ranAs r (vecAt t RHS (table .rows)))
       (velocityRhs (rowsOn ia ib s (table .place) (table .rows)) (candidatesAt s (table .bodies)))
@@ -309,35 +303,3 @@ module _ (job : Job) {s : List Float} {ia ib : List ℕ} (table : Table) (pre : 
         (does-is e (λ j. correction (linearSolve (job .cyclic) (same-system (d .kept) table pre (λ i x. omega (arith, x .0)) j) (vecAt t RHS (table .rows)))
         (reactionOf (same-system (d .kept) table pre (λ i x. omega (arith, x .0)) j .rows)
         (same-candidates (d .kept) table pre (λ i x. omega (arith, x)) j))))
-
--- velocity_loop: the pass is over the same system, however far the loop has come
-pub same-pass : (job : Job) {s : List Float} {ia ib : List ℕ} (table : Table) → Rows s ia ib (table .place) (table .rows) (table .bodies)
-    → (t : List Float) → Kept Correcting s t → passOver job ia ib table t ≡ passOver job ia ib table s
-same-pass job table pre t kept = ap (velocityPass job) (same-system kept table pre (λ i x. x))
-
-pub rests : (job : Job) (ia ib : List ℕ) (table : Table) {P : ℕ → Type 0} {s t : List Float} {x : Counting (List MomentumBody)}
-    → Does P s t x (upTo 3 nonConvergent (passOver job ia ib table s) (candidatesAt s (table .bodies)))
-    → Does P s t x (velocityLoop job (systemOn ia ib s table) (candidatesAt s (table .bodies)))
-unfolding velocityLoop
-rests job ia ib table d = d
-
--- correct_velocities
-module _ (job : Job) {s s₁ : List Float} {ia ib : List ℕ} (table : Table) (pre : Rows s ia ib (table .place) (table .rows) (table .bodies)) (r : Ended)
-    (d : Does Work s s₁ (endedAs r (vecAt s₁ SOLUTION (table .rows))) (linearSolve (job .cyclic) (systemOn ia ib s table) (vecAt s RHS (table .rows))))
-    {b : Bool} (eb : b ≡ isDone (r .end)) where
-  abbrev react : List Float → Result (List MomentumBody)
-  react = reactionOf (systemOn ia ib s table .rows) (candidatesAt s (table .bodies))
-
-  abbrev Corrects : Passed → List Float → Type 0
-  Corrects p u = Does Correcting s u (passedAs 0 p (candidatesAt u (table .bodies)) (candidatesAt u (table .bodies)))
-      (correction (linearSolve (job .cyclic) (systemOn ia ib s table) (vecAt s RHS (table .rows))) react)
-
-  pub rest-unsolved : {p : Passed} → not b ≡ true → p ≡ passedAfter (r .end) (r .linear) → Corrects p s₁
-  rest-unsolved h = unsolved react r _ (does-more (λ i x. omega (arith, x .0)) d) eb _ _ h
-
-  pub rest-kicked : {p : Passed} → not b ≡ false → {s₂ : List Float} (q : End) → Does Correcting s₁ s₂ (ranAs q (candidatesAt s₂ (table .bodies)))
-      (reactionOf (systemOn ia ib s₁ table .rows) (candidatesAt s₁ (table .bodies)) (vecAt s₁ SOLUTION (table .rows)))
-      → p ≡ passedAfter q (r .linear) → Corrects p s₂
-  rest-kicked h q e = made react r _ (does-more (λ i x. omega (arith, x .0)) d) eb _ h _ q (does-is e (λ j.
-      reactionOf (same-system (d .kept) table pre (λ i x. omega (arith, x .0)) j .rows)
-      (same-candidates (d .kept) table pre (λ i x. omega (arith, x)) j) (vecAt s₁ SOLUTION (table .rows))))
