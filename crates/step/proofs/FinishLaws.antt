@@ -108,13 +108,13 @@ module _ (job : Job) (bodies : List RigidBody) (ia ib : List ℕ) (t : Table) (l
 
 -- ---- run
 -- the rows of the joints, as they were counted
-pub started-as : {joints : List Joint} {count : ℕ} {ia ib : List ℕ} → Sides joints count ia ib → {n m : ℕ} (size : ℕ) {s s₁ : List Float} (r : End)
+pub started-as : {joints : List Joint} {count : ℕ} {ia ib : List ℕ} → Sides joints count ia ib → {n m : ℕ} (body-count : ℕ) {s s₁ : List Float} (r : End)
     {d : Result Started} → n ≡ m
-    → Does (Out 0 USED) s s₁ (ranAs r (startedAt ia ib s₁ (record { place = START-ROWS; rows = m; bodies = size }))) d
-    → Does (Out 0 USED) s s₁ (ranAs r (startedAt ia ib s₁ (record { place = START-ROWS; rows = n; bodies = size }))) d
-started-as {joints} {count} {ia} {ib} sides size {s} {s₁} r e f = record {
+    → Does (Out 0 USED) s s₁ (ranAs r (startedAt ia ib s₁ (record { place = START-ROWS; rows = m; bodies = body-count }))) d
+    → Does (Out 0 USED) s s₁ (ranAs r (startedAt ia ib s₁ (record { place = START-ROWS; rows = n; bodies = body-count }))) d
+started-as {joints} {count} {ia} {ib} sides body-count {s} {s₁} r e f = record {
   kept = f .kept;
-  is = ap (λ (k : ℕ). ranAs r (startedAt ia ib s₁ (record { place = START-ROWS; rows = k; bodies = size }))) e ∙ f .is;
+  is = ap (λ (k : ℕ). ranAs r (startedAt ia ib s₁ (record { place = START-ROWS; rows = k; bodies = body-count }))) e ∙ f .is;
 }
 
 module _ (job : Job) (bodies : List RigidBody) {joints : List Joint} {count : ℕ} {ia ib : List ℕ} (sides : Sides joints count ia ib) (t : Table)
@@ -172,27 +172,27 @@ every-ext (suc n) {f} {g} h =
     let b : f n ≡ g n = h n (omega arith) in
     cc
 
-module _ (n : ℕ) (s bodies : List Float) where
+module _ (body-count : ℕ) (s bodies : List Float) where
   abbrev states : List BodyState
-  states = statesAt s n
+  states = statesAt s body-count
 
-  ground-is : every n (λ k. withinOf (vec3At s (CANDIDATE + 13 * k)) (ratio 8192 1)) ≡ grounded states
+  ground-is : every body-count (λ k. withinOf (vec3At s (CANDIDATE + 13 * k)) (ratio 8192 1)) ≡ grounded states
   unfolding grounded
   ground-is =
-      every-ext n
-      (λ k h. ap (λ (x : BodyState). withinOf (x .origin) (ratio 8192 1)) (sym (tab-at n (λ j. stateAt s (CANDIDATE + 13 * j)) noState k h)))
-      ∙ ap (λ (m : ℕ). every m (λ k. withinOf (stateIn states k .origin) (ratio 8192 1))) (sym (tab-length n (λ j. stateAt s (CANDIDATE + 13 * j))))
+      every-ext body-count
+      (λ k h. ap (λ (x : BodyState). withinOf (x .origin) (ratio 8192 1)) (sym (tab-at body-count (λ j. stateAt s (CANDIDATE + 13 * j)) noState k h)))
+      ∙ ap (λ (m : ℕ). every m (λ k. withinOf (stateIn states k .origin) (ratio 8192 1))) (sym (tab-length body-count (λ j. stateAt s (CANDIDATE + 13 * j))))
 
-  module _ {b : Bool} (e : b ≡ every n (λ k. withinOf (vec3At s (CANDIDATE + 13 * k)) (ratio 8192 1))) {end : End} (q : end ≡ Ends.Done)
+  module _ {b : Bool} (e : b ≡ every body-count (λ k. withinOf (vec3At s (CANDIDATE + 13 * k)) (ratio 8192 1))) {end : End} (q : end ≡ Ends.Done)
       (nonlinear linear : ℕ) (scratch : List Float) where
     -- in the case that the run went through
     done : concluded bodies scratch (ran (go states) nonlinear linear) ≡ concluded bodies scratch (ran (ranAs end states) nonlinear linear)
     done = ap (λ (x : End). concluded bodies scratch (ran (ranAs x states) nonlinear linear)) (sym q)
 
-    pub conclude-accepts : b ≡ true → n ≡ bodyCount bodies → length bodies % 26 ≡ 0 → {after : List Float} → Handed n s bodies after
+    pub conclude-accepts : b ≡ true → body-count ≡ bodyCount bodies → length bodies % 26 ≡ 0 → {after : List Float} → Handed body-count s bodies after
         → stepped Outcomes.Accepted nonlinear linear after scratch ≡ concluded bodies scratch (ran (ranAs end states) nonlinear linear)
     conclude-accepts t c w h =
-        ap (λ (a : List Float). stepped Outcomes.Accepted nonlinear linear a scratch) (handed-back n s c w h)
+        ap (λ (a : List Float). stepped Outcomes.Accepted nonlinear linear a scratch) (handed-back body-count s c w h)
         ∙ cond-yes {b = grounded states} _ _ (sym (sym t ∙ e ∙ ground-is)) ∙ done
 
     pub conclude-grounds : b ≡ false

@@ -106,63 +106,65 @@ motion-remembered {s} {j} {m} k v l known = record { moves = λ h. subst (λ (bo
     same h = kept-candidate (kept-set s (RHS + k) v) (m .body) (λ i p q. omega arith) (λ i p q. omega arith)
 
 -- velocity_rhs
-module _ (ia ib : List ℕ) (place n bodies : ℕ) (s₀ : List Float) where
+module _ (ia ib : List ℕ) (place n body-count : ℕ) (s₀ : List Float) where
   abbrev oppose : ℕ → Result Float
   oppose k =
-      velocityOf (rowIn (rowsOn ia ib s₀ place n) k) (bodyIn (candidatesAt s₀ bodies) (rowIn (rowsOn ia ib s₀ place n) k .a))
-      (bodyIn (candidatesAt s₀ bodies) (rowIn (rowsOn ia ib s₀ place n) k .b)) >>= λ (value : Float). go (Ieee.neg value)
+      velocityOf (rowIn (rowsOn ia ib s₀ place n) k) (bodyIn (candidatesAt s₀ body-count) (rowIn (rowsOn ia ib s₀ place n) k .a))
+      (bodyIn (candidatesAt s₀ body-count) (rowIn (rowsOn ia ib s₀ place n) k .b)) >>= λ (value : Float). go (Ieee.neg value)
 
   abbrev pub Opposed : ℕ → List Float → Type 0
   Opposed k s = Does (Beside RHS) s₀ s (go (vecAt s RHS k)) (each k oppose)
 
-module _ {s₀ : List Float} {ia ib : List ℕ} {place n bodies : ℕ} (pre : Rows s₀ ia ib place n bodies) where
+module _ {s₀ : List Float} {ia ib : List ℕ} {place n body-count : ℕ} (pre : Rows s₀ ia ib place n body-count) where
   abbrev R : List EqualityRow
   R = rowsOn ia ib s₀ place n
 
   abbrev C : List MomentumBody
-  C = candidatesAt s₀ bodies
+  C = candidatesAt s₀ body-count
 
-  pub rhs-none : Opposed ia ib place n bodies s₀ 0 s₀
-  rhs-none = so-none (λ s k. at s (RHS + k)) (oppose ia ib place n bodies s₀) s₀ _
+  pub rhs-none : Opposed ia ib place n body-count s₀ 0 s₀
+  rhs-none = so-none (λ s k. at s (RHS + k)) (oppose ia ib place n body-count s₀) s₀ _
 
   -- a loaded row is on bodies of the list
   module _ {k : ℕ} (h : k < n) (s : List Float) {row : EqualityRow} (er : row ≡ rowOn ia ib s place k) where
-    pub row-a : row .a < bodies
-    row-a = subst (λ (q : EqualityRow). q .a < bodies) (sym er) (pre .a-there k h)
+    pub row-a : row .a < body-count
+    row-a = subst (λ (q : EqualityRow). q .a < body-count) (sym er) (pre .a-there k h)
 
-    pub row-b : row .b < bodies
-    row-b = subst (λ (q : EqualityRow). q .b < bodies) (sym er) (pre .b-there k h)
+    pub row-b : row .b < body-count
+    row-b = subst (λ (q : EqualityRow). q .b < body-count) (sym er) (pre .b-there k h)
 
-  module _ {k : ℕ} {s : List Float} {row : EqualityRow} (so : Opposed ia ib place n bodies s₀ k s) (h : k < n) (er : row ≡ rowOn ia ib s place k) where
+  module _ {k : ℕ} {s : List Float} {row : EqualityRow} (so : Opposed ia ib place n body-count s₀ k s) (h : k < n) (er : row ≡ rowOn ia ib s place k) where
     rhs-turn : velocityOf row (candidateAt s (row .a)) (candidateAt s (row .b)) ≡ velocityOf (rowIn R k) (bodyIn C (rowIn R k .a)) (bodyIn C (rowIn R k .b))
     rhs-turn =
         let x : row ≡ rowIn R k = row-in (so .kept) ia ib place n k (λ i p q. omega (arith, pre .most, pre .table)) h er in
-        let la : row .a < bodies = row-a h s er in
-        let lb : row .b < bodies = row-b h s er in
-        let most : bodies ≤ 16 = pre .bodies in
-        let y : candidateAt s (row .a) ≡ bodyIn C (row .a) = candidate-in (so .kept) bodies (row .a) (λ i p q. omega arith) (λ i p q. omega arith) la refl in
-        let z : candidateAt s (row .b) ≡ bodyIn C (row .b) = candidate-in (so .kept) bodies (row .b) (λ i p q. omega arith) (λ i p q. omega arith) lb refl in
+        let la : row .a < body-count = row-a h s er in
+        let lb : row .b < body-count = row-b h s er in
+        let most : body-count ≤ 16 = pre .bodies in
+        let y : candidateAt s (row .a) ≡ bodyIn C (row .a) = candidate-in (so .kept) body-count (row .a)
+        (λ i p q. omega arith) (λ i p q. omega arith) la refl in
+        let z : candidateAt s (row .b) ≡ bodyIn C (row .b) = candidate-in (so .kept) body-count (row .b)
+        (λ i p q. omega arith) (λ i p q. omega arith) lb refl in
         cc
 
     pub rhs-again : {v : Float} → go v ≡ velocityOf row (candidateAt s (row .a)) (candidateAt s (row .b))
-        → Opposed ia ib place n bodies s₀ (k + 1) (set s (RHS + k) (Ieee.neg v))
+        → Opposed ia ib place n body-count s₀ (k + 1) (set s (RHS + k) (Ieee.neg v))
     rhs-again {v} e =
-        so-put RHS (oppose ia ib place n bodies s₀) s₀ k s so (Beside RHS) (λ i x. x) (Ieee.neg v) (λ i x. omega (arith, pre .most))
+        so-put RHS (oppose ia ib place n body-count s₀) s₀ k s so (Beside RHS) (λ i x. x) (Ieee.neg v) (λ i x. omega (arith, pre .most))
         (omega (arith, pre .most, pre .whole, so .kept .size)) (then-go _ (e ∙ rhs-turn))
 
     pub rhs-stops : stop arithmeticOverflow ≡ velocityOf row (candidateAt s (row .a)) (candidateAt s (row .b))
         → Does (Beside RHS) s₀ s (stop arithmeticOverflow) (velocityRhs R C)
     unfolding velocityRhs
     rhs-stops e =
-        so-stop (λ s k. at s (RHS + k)) (oppose ia ib place n bodies s₀) s₀ k s so (Beside RHS) (λ i x. x) (sym (tab-length n (rowOn ia ib s₀ place)))
+        so-stop (λ s k. at s (RHS + k)) (oppose ia ib place n body-count s₀) s₀ k s so (Beside RHS) (λ i x. x) (sym (tab-length n (rowOn ia ib s₀ place)))
         h
         (kept-refl (Beside RHS) s) (λ i x. x) (then-stop _ (e ∙ rhs-turn))
 
-  pub rhs-ends : {k : ℕ} {s : List Float} → Opposed ia ib place n bodies s₀ k s → k ≤ n → n ≤ k
+  pub rhs-ends : {k : ℕ} {s : List Float} → Opposed ia ib place n body-count s₀ k s → k ≤ n → n ≤ k
       → Does (Beside RHS) s₀ s (go (vecAt s RHS n)) (velocityRhs R C)
   unfolding velocityRhs
   rhs-ends {k} {s} so a b =
-      so-end (λ s k. at s (RHS + k)) (oppose ia ib place n bodies s₀) s₀ k s so (Beside RHS) (λ i x. x) n (sym (tab-length n (rowOn ia ib s₀ place)))
+      so-end (λ s k. at s (RHS + k)) (oppose ia ib place n body-count s₀) s₀ k s so (Beside RHS) (λ i x. x) n (sym (tab-length n (rowOn ia ib s₀ place)))
       a b
 
 -- compatible
@@ -188,12 +190,12 @@ module _ (s : List Float) (n : ℕ) where
   compatible-ends a b e = every-end small a b e ∙ ap (λ (m : ℕ). every m small) (sym (tab-length n (λ j. at s (RHS + j))))
 
 -- kick_candidates
-module _ (s₀ : List Float) (bodies : ℕ) where
+module _ (s₀ : List Float) (body-count : ℕ) where
   abbrev B : List MomentumBody
-  B = candidatesAt s₀ bodies
+  B = candidatesAt s₀ body-count
 
   abbrev G : List Generalized
-  G = generalizedsAt s₀ GENERALIZED bodies
+  G = generalizedsAt s₀ GENERALIZED body-count
 
   abbrev kick : ℕ → Result MomentumBody
   kick k = kickOf (bodyIn B k) (generalizedIn G k .linear) (generalizedIn G k .angular)
@@ -204,12 +206,13 @@ module _ (s₀ : List Float) (bodies : ℕ) where
   pub kick-none : Kicked 0 s₀
   kick-none = so-none candidateAt kick s₀ _
 
-  module _ {k : ℕ} {s : List Float} (so : Kicked k s) (h : k < bodies) (most : bodies ≤ 16) {share : Generalized} {old : MomentumBody} {d : Result MomentumBody}
-      (es : share ≡ generalizedAt s GENERALIZED k) (eo : old ≡ candidateAt s k) (e : d ≡ kickOf old (share .linear) (share .angular)) where
+  module _ {k : ℕ} {s : List Float} (so : Kicked k s) (h : k < body-count) (most : body-count ≤ 16) {share : Generalized} {old : MomentumBody}
+      {d : Result MomentumBody} (es : share ≡ generalizedAt s GENERALIZED k) (eo : old ≡ candidateAt s k)
+      (e : d ≡ kickOf old (share .linear) (share .angular)) where
     kick-turn : d ≡ kick k
     kick-turn =
-        let a : share ≡ generalizedIn G k = share-in (so .kept) GENERALIZED bodies k (λ i x y. omega arith) h es in
-        let b : old ≡ bodyIn B k = candidate-in (so .kept) bodies k (λ i x y. omega arith) (λ i x y. omega arith) h eo in
+        let a : share ≡ generalizedIn G k = share-in (so .kept) GENERALIZED body-count k (λ i x y. omega arith) h es in
+        let b : old ≡ bodyIn B k = candidate-in (so .kept) body-count k (λ i x y. omega arith) (λ i x y. omega arith) h eo in
         cc
 
     pub kick-again : {t : List Float} {b : MomentumBody} → go b ≡ d
@@ -223,14 +226,14 @@ module _ (s₀ : List Float) (bodies : ℕ) where
     pub kick-stops : {f : Fault} → stop f ≡ d → Does (Out CANDIDATE STATES) s₀ s (stop f) (kickBodies B G)
     unfolding kickBodies
     kick-stops q =
-        so-stop candidateAt kick s₀ k s so (Out CANDIDATE STATES) (λ i x. omega arith) (sym (tab-length bodies (candidateAt s₀))) h
+        so-stop candidateAt kick s₀ k s so (Out CANDIDATE STATES) (λ i x. omega arith) (sym (tab-length body-count (candidateAt s₀))) h
         (kept-refl (Out CANDIDATE STATES) s) (λ i x. x) (q ∙ kick-turn)
 
-  pub kick-ends : {k : ℕ} {s : List Float} → Kicked k s → k ≤ bodies → bodies ≤ k → bodies ≤ 16
-      → Does (Out CANDIDATE STATES) s₀ s (go (candidatesAt s bodies)) (kickBodies B G)
+  pub kick-ends : {k : ℕ} {s : List Float} → Kicked k s → k ≤ body-count → body-count ≤ k → body-count ≤ 16
+      → Does (Out CANDIDATE STATES) s₀ s (go (candidatesAt s body-count)) (kickBodies B G)
   unfolding kickBodies
   kick-ends {k} {s} so a b most =
-      so-end candidateAt kick s₀ k s so (Out CANDIDATE STATES) (λ i x. omega arith) bodies (sym (tab-length bodies (candidateAt s₀))) a b
+      so-end candidateAt kick s₀ k s so (Out CANDIDATE STATES) (λ i x. omega arith) body-count (sym (tab-length body-count (candidateAt s₀))) a b
 
 -- apply
 module _ {s : List Float} {ia ib : List ℕ} (table : Table) (pre : Rows s ia ib (table .place) (table .rows) (table .bodies))

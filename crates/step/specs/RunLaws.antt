@@ -20,7 +20,8 @@ use Rattle.rows.specs.Laws.Results.{step, go-same}
 use Rattle.rows.specs.Laws.SamePlace.{SamePlace, same-place, same-then, kick-place, drift-local, new-local}
 use Rattle.solves.specs.declared.places.Generalized.{Generalized}
 use Rattle.solves.specs.System.{System, Counting}
-use Rattle.step.specs.Bodies.{Job, bodyIn, recordIn, startBodies, writeRows, Started, startOf, Found, kickAndDrift, moveBodies, rowsMet, addImpulses, candidateOf, kickBodies, reactionOf, statesOf}
+use Rattle.step.specs.Bodies.{Job, bodyIn, recordIn, startBodies, writeRows, Started, startOf, Found, kickAndDrift, moveBodies, rowsMet}
+use Rattle.step.specs.Bodies.{addImpulses, candidateOf, kickBodies, reactionOf, statesOf}
 use Rattle.step.specs.View.{noBody}
 use Rattle.step.specs.Step.{correction, nonlinearPass, nonlinearLoop, velocityPass, velocityLoop, finishOf, runOf}
 use Rattle.step.specs.TurnLaws.{each-at, went-on, goes-with}
