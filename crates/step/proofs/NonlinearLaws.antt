@@ -26,14 +26,15 @@ use Rattle.step.specs.Layout.{IMPULSES}
 use Rattle.step.specs.Bodies.{Job, Found, rowsMet, rhsOf, addImpulses, candidateOf}
 use Rattle.step.specs.Step.{correction, nonlinearPass, nonlinearLoop}
 use Rattle.solves.specs.Lent.{Slice}
-use Rattle.step.specs.RunView.{impulsesAt, startedAt, foundAt, Starting, Trying}
+use Rattle.step.specs.RunView.{impulsesAt, startedAt, foundAt, Ours, Trying}
 use Rattle.step.proofs.LoopLaws.{kept-started}
 use Rattle.step.proofs.PassLaws.{begun, pass-fails, pass-met, pass-corrects}
 
 -- ---- nonlinear_pass
-module _ (job : Job) {S : Slice Float} {IA IB : Slice ℕ} {table : Table} (pre : Starting S IA IB table) {s s₁ : List Float} (r : End)
-    (d : (Does Trying s s₁ (ranAs r (foundAt (IA .now) (IB .now) s₁ table)) (candidateOf job (startedAt (IA .now) (IB .now) s table) (impulsesAt s table)))
-    × (impulsesAt s₁ table ≡ impulsesAt s table)) {b : Bool} (eb : b ≡ isDone r) where
+module _ (job : Job) {S : Slice Float} {IA IB : Slice ℕ} {table : Table} (pre : Ours S IA IB table) (apart : table .place + ROW-TABLE ≤ ROWS)
+    {s s₁ : List Float} (r : End) (d : (Does Trying s s₁ (ranAs r (foundAt (IA .now) (IB .now) s₁ table))
+    (candidateOf job (startedAt (IA .now) (IB .now) s table) (impulsesAt s table))) × (impulsesAt s₁ table ≡ impulsesAt s table))
+    {b : Bool} (eb : b ≡ isDone r) where
   abbrev Turns : List Float → Counting (Turn (List Float) Found) → Type 0
   Turns t x = Does Trying s t x (nonlinearPass job (startedAt (IA .now) (IB .now) s table) (impulsesAt s table))
 
@@ -55,15 +56,15 @@ module _ (job : Job) {S : Slice Float} {IA IB : Slice ℕ} {table : Table} (pre 
     found-unmet k {s₂} d₁ e = begun (pass-corrects (λ (f : Found). rowsMet (f .rows)) (λ f. f) _ _ r (d .0) eb h ec k (record {
       kept = kept-then filled (e .kept) (λ i x. x);
       is = e .is ∙ λ j. correction (linearSolve (job .cyclic) (same j .system) (d₁ .is j))
-          (addImpulses ((kept-vec (d₁ .kept) IMPULSES (table .rows) (λ i a b. omega (arith, pre .ours .ready .most)) ∙ d .1) j));
+          (addImpulses ((kept-vec (d₁ .kept) IMPULSES (table .rows) (λ i a b. omega (arith, pre .ready .most)) ∙ d .1) j));
     }))
       where
         filled : Kept Trying s₁ s₂
         filled = kept-more (d₁ .kept) (λ i x. omega (arith, x .1))
 
         same : startedAt (IA .now) (IB .now) s₂ table ≡ startedAt (IA .now) (IB .now) s table
-        same = kept-started (kept-then (d .0 .kept) filled (λ i x. x)) (IA .now) (IB .now) table (pre .apart) (pre .ours .ready .most)
-            (pre .ours .ready .bodies) (λ i x. x)
+        same = kept-started (kept-then (d .0 .kept) filled (λ i x. x)) (IA .now) (IB .now) table apart (pre .ready .most)
+            (pre .ready .bodies) (λ i x. x)
 
 -- ---- the nonlinear loop: from no impulse
 zeros : (n : ℕ) (x : Float) → tab n (λ _. x) ≡ replicate n x

@@ -145,7 +145,7 @@ same-pass : (stage : Stage) (job : Job) (joints : List Joint) (count : ℕ) {S :
     → Besides stage joints count IA IB table → {s t : List Float} → Kept (Outside stage) s t
     → (x : Given stage) → passAt stage job (IA .now) (IB .now) table t x ≡ passAt stage job (IA .now) (IB .now) table s x
 same-pass Stages.Nonlinear job joints count {IA = IA} {IB} {table} pre also kept x = λ j. nonlinearPass job
-    (kept-started kept (IA .now) (IB .now) table (also .0) (pre .ready .most) (pre .ready .bodies) (λ i x. x) j) x
+    (kept-started kept (IA .now) (IB .now) table (also .apart) (pre .ready .most) (pre .ready .bodies) (λ i x. x) j) x
 same-pass Stages.Velocity job joints count {IA = IA} {IB} {table} pre also kept x = λ j. velocityPass job
     (system-kept (IA .now) (IB .now) table (λ i a b. omega arith) (pre .ready .table) (pre .ready .most) (pre .ready .bodies) kept j) x
 

@@ -1,4 +1,4 @@
--- What of the scratch a run's values are, what its functions ask for and leave alone, and how the code's answers are read.
+-- What of the scratch a run's values are, what its functions ask for and leave alone, by the stage too, and how the code's answers are read.
 use Prim.Native.Nat.{ℕ, _+_, _-_, _≤_, _<_}
 use mathlib.Core.Path.{_≡_}
 use mathlib.Core.Bool.{Bool, cond}
@@ -92,16 +92,12 @@ pub record Ours (s : Slice Float) (ia ib : Slice ℕ) (t : Table) : Type 0 where
   pub ready : Ready s ia ib t
   pub long : USED ≤ length (s .now)
 
--- the table is that of the starting rows: apart from the rows that a pass writes
-pub record Starting (s : Slice Float) (ia ib : Slice ℕ) (t : Table) : Type 0 where
-  pub ours : Ours s ia ib t
-  pub apart : t .place + ROW-TABLE ≤ ROWS
-
--- the rows of the table are those of the joints
+-- the table is that of the starting rows: they are those of the joints, apart from the rows that a pass writes
 pub record Joins (joints : List Joint) (count : ℕ) (ia ib : Slice ℕ) (t : Table) : Type 0 where
   pub joined : Joined joints count (t .bodies)
   pub sides : Sides joints count (ia .now) (ib .now)
   pub rows-are : t .rows ≡ rowsBefore joints count
+  pub apart : t .place + ROW-TABLE ≤ ROWS
 
 -- ---- outside of what is written
 -- Inside of it stands what the contract's views say; all else there is free: only the crate itself calls these functions, and the step zeroes
@@ -148,13 +144,14 @@ abbrev pub nonlinearOf : Stage → ℕ → ℕ
 nonlinearOf Stages.Nonlinear k = k
 nonlinearOf Stages.Velocity k = 0
 
+-- what is outside of what it writes
 abbrev pub Outside : Stage → ℕ → Type 0
 Outside Stages.Nonlinear = Trying
 Outside Stages.Velocity = Correcting
 
 -- what is asked for besides rows in a table
 abbrev pub Besides : Stage → List Joint → ℕ → Slice ℕ → Slice ℕ → Table → Type 0
-Besides Stages.Nonlinear joints count ia ib t = (t .place + ROW-TABLE ≤ ROWS) × (Joins joints count ia ib t)
+Besides Stages.Nonlinear joints count ia ib t = Joins joints count ia ib t
 Besides Stages.Velocity joints count ia ib t = Unit {0}
 
 -- ---- answers

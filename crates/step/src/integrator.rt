@@ -67,7 +67,7 @@ ghost use Rattle.step.specs.Bodies.{startBodies, massResponse, prepareMa
 ghost use Rattle.step.specs.Bodies.{addImpulses, candidateOf, statesOf};
 ghost use Rattle.step.specs.Step.{finishOf, runFor};
 ghost use Rattle.step.specs.View.{startBodyAt, candidateAt, startBodiesAt, candidatesAt, statesAt};
-ghost use Rattle.step.specs.RunView.{bodiesAt, impulsesAt, candidateTable, jobFor, rowsBefore, Sides, Ours, Starting};
+ghost use Rattle.step.specs.RunView.{bodiesAt, impulsesAt, candidateTable, jobFor, rowsBefore, Sides, Ours};
 ghost use Rattle.step.specs.RunView.{Joins, massAs, leftAs};
 ghost use Rattle.step.specs.Says.{Leaves, WritesRows, Finds, Passes, Finishes, Starts};
 ghost use Rattle.step.specs.Joined.{Joined, RowBodies, Spread};
@@ -289,7 +289,7 @@ fn candidate(
     joints: [Joint; 16],
     task: Task,
 ) -> End
-    requires { ⌜ (Starting s ia ib t) × (Joins joints (task .count) ia ib t) ⌝ }
+    requires { ⌜ (Ours s ia ib t) × (Joins joints (task .count) ia ib t) ⌝ }
     ensures { λ r. ⌜ Finds s ia ib t r (candidateOf (jobFor joints task)) × (impulsesAt (left s) t ≡ impulsesAt (came s) t) ⌝ }
 {
     let pushed = transpose(s, ia, ib, t, IMPULSES);
@@ -311,7 +311,7 @@ pub(crate) fn nonlinear_pass(
     joints: [Joint; 16],
     task: Task,
 ) -> Passed
-    requires { ⌜ (Starting s ia ib t) × (Joins joints (task .count) ia ib t) ⌝ }
+    requires { ⌜ (Ours s ia ib t) × (Joins joints (task .count) ia ib t) ⌝ }
     ensures { λ r. ⌜ Passes Nonlinear (came ia) (came ib) t (came s) (left s) (jobFor joints task) r ⌝ }
 {
     let found = candidate(s, ia, ib, t, joints, task);

@@ -37,12 +37,10 @@ clear-requires c κs =
 stage-loop-requires : tie.Need-stage-loop-requires
 stage-loop-requires c κs =
     let at-clear = c .before .before .before .before .before in let at-start = at-clear .before .before .before .before .before .before in
-    let at-row-bodies = at-start .before .before .before .before in let at-entry = at-row-bodies .before .before .before .before .before in (
-      record { ready = rows-of _ (omega arith) (omega arith) (at-entry .pre .1) (at-row-bodies .row-bodies .ensures .0); long = omega arith },
-      (
-        omega arith,
-        record { joined = at-entry .pre .1; sides = at-row-bodies .row-bodies .ensures .1; rows-are = at-row-bodies .row-bodies .ensures .2 },
-      ),
+    let at-row-bodies = at-start .before .before .before .before in let at-entry = at-row-bodies .before .before .before .before .before in
+    let told = at-row-bodies .row-bodies .ensures in (
+      record { ready = rows-of _ (omega arith) (omega arith) (at-entry .pre .1) (told .0); long = omega arith },
+      record { joined = at-entry .pre .1; sides = told .1; rows-are = told .2; apart = omega arith },
       omega arith,
     )
 

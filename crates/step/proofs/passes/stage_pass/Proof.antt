@@ -11,9 +11,11 @@ use Rattle.step.proofs.passes.stage_pass.Tie as tie
 nonlinear-pass-requires : tie.Need-nonlinear-pass-requires
 nonlinear-pass-requires c κs =
     let at-enum-told = c .before in let at-entry = at-enum-told .before .before .before in
-    let also = subst (λ (stage : Stage). Besides stage (at-entry .args .joints) (at-entry .args .task .count) (at-entry .args .ia) (at-entry .args .ib)
-    (at-entry .args .t)) (at-enum-told .enum-told .given .1) (at-entry .pre .1) in
-    (record { ours = record { ready = at-entry .pre .0 .ready; long = at-entry .pre .0 .long }; apart = also .0 }, also .1)
+    let args = at-entry .args in (
+      record { ready = at-entry .pre .0 .ready; long = at-entry .pre .0 .long },
+      subst (λ (stage : Stage). Besides stage (args .joints) (args .task .count) (args .ia) (args .ib) (args .t)) (at-enum-told .enum-told .given .1)
+          (at-entry .pre .1),
+    )
 
 returns : tie.Need-returns
 returns c =
