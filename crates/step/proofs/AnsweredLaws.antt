@@ -12,7 +12,7 @@ use Rattle.step.specs.declared.Outcome.{Outcome}
 use Rattle.step.specs.declared.Report.{Report}
 use Rattle.step.specs.Checks.{refusalOf, isAccepted}
 use Rattle.step.specs.CheckLaws.{Unrefused, accepted, is-accepted}
-use Rattle.step.specs.Step.{Stepped, stepped, runFor, cleared, settled, solveOf}
+use Rattle.step.specs.Step.{Stepped, stepped, runFor, cleared, concluded, solveOf}
 use Rattle.step.specs.Answered.{Answered}
 use Rattle.step.specs.MeetLaws.{answered}
 
@@ -25,7 +25,7 @@ module _ (bodies : List Float) (joints : List Joint) (count : ℕ) (dt : Float) 
   unfolding solveOf
   solve-refused h = ap left-alone e ∙ cond-no _ _ (sym (ap isAccepted e) ∙ sym f ∙ not-true b h)
 
-  solve-run : {s : Stepped} → not b ≡ false → s ≡ settled bodies (cleared scratch) (runFor bodies joints count dt)
+  solve-run : {s : Stepped} → not b ≡ false → s ≡ concluded bodies (cleared scratch) (runFor bodies joints count dt)
       → s ≡ solveOf bodies joints count dt scratch
   unfolding solveOf
   solve-run h q = q ∙ cond-yes _ _ (sym (ap isAccepted e) ∙ sym f ∙ not-false b h)
@@ -37,6 +37,6 @@ module _ (bodies : List Float) (joints : List Joint) (count : ℕ) (dt : Float) 
   answered-refused h = answered bodies bodies joints count dt scratch scratch (record { outcome = o; nonlinear = 0; linear = 0 }) (solve-refused h)
 
   pub answered-run : (after left : List Float) (r : Report) → not b ≡ false
-      → stepped (r .outcome) (r .nonlinear) (r .linear) after left ≡ settled bodies (cleared scratch) (runFor bodies joints count dt)
+      → stepped (r .outcome) (r .nonlinear) (r .linear) after left ≡ concluded bodies (cleared scratch) (runFor bodies joints count dt)
       → Answered bodies after joints count dt scratch left r
   answered-run after left r h q = answered bodies after joints count dt scratch left r (solve-run h q)

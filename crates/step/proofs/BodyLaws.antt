@@ -203,8 +203,8 @@ handed-more {k} {s} {b} {t} {u} {state} h x e = record {
     case j q (yes r) = rw r (x .1 ∙ e)
     case j q (no r) = kept-state (x .0) (26 * j) (λ i a c. omega arith) ∙ h .there j (omega arith)
 
-pub handed-end : {n k : ℕ} {s b t : List Float} → k ≤ n → n ≤ k → Handed k s b t → Handed n s b t
-handed-end {n} {k} {s} {b} {t} a c h = record {
+pub handed-end : {body-count k : ℕ} {s b t : List Float} → k ≤ body-count → body-count ≤ k → Handed k s b t → Handed body-count s b t
+handed-end {body-count} {k} {s} {b} {t} a c h = record {
   kept = kept-more (h .kept) (λ i p j q. p j (omega arith));
   there = λ j q. h .there j (omega arith);
 }

@@ -87,15 +87,15 @@ fit-yes doubles h = also {p = eqb (doubles % 26) 0} refl (eq-eqb (doubles % 26) 
 pub fit-no : (doubles : ℕ) → (doubles % 26 ≡ 0 → ⊥) → false ≡ bodiesFit doubles
 fit-no doubles h = fails {p = eqb (doubles % 26) 0} _ refl (ne-eqb (doubles % 26) 0 h)
 
-module _ (n : ℕ) (joint : Joint) where
-  a-in : joint .«body_a» < n → ltb (joint .«body_b») n ≡ (ltb (joint .«body_a») n && ltb (joint .«body_b») n)
-  a-in h = also {p = ltb (joint .«body_a») n} refl (lt-ltb _ _ h) refl
+module _ (body-count : ℕ) (joint : Joint) where
+  a-in : joint .«body_a» < body-count → ltb (joint .«body_b») body-count ≡ (ltb (joint .«body_a») body-count && ltb (joint .«body_b») body-count)
+  a-in h = also {p = ltb (joint .«body_a») body-count} refl (lt-ltb _ _ h) refl
 
-  pub joins-yes : joint .«body_a» < n → joint .«body_b» < n → not (eqb (joint .«body_a») (joint .«body_b»)) ≡ joinsTwo n joint
+  pub joins-yes : joint .«body_a» < body-count → joint .«body_b» < body-count → not (eqb (joint .«body_a») (joint .«body_b»)) ≡ joinsTwo body-count joint
   joins-yes h g = also (a-in h) (lt-ltb _ _ g) refl
 
-  pub joins-no-b : joint .«body_a» < n → n ≤ joint .«body_b» → false ≡ joinsTwo n joint
+  pub joins-no-b : joint .«body_a» < body-count → body-count ≤ joint .«body_b» → false ≡ joinsTwo body-count joint
   joins-no-b h g = fails _ (a-in h) (le-ltb _ _ g)
 
-  pub joins-no-a : n ≤ joint .«body_a» → false ≡ joinsTwo n joint
-  joins-no-a h = stays _ (fails {p = ltb (joint .«body_a») n} _ refl (le-ltb _ _ h))
+  pub joins-no-a : body-count ≤ joint .«body_a» → false ≡ joinsTwo body-count joint
+  joins-no-a h = stays _ (fails {p = ltb (joint .«body_a») body-count} _ refl (le-ltb _ _ h))

@@ -6,23 +6,25 @@ use native.Mathlib.Omega.{arith}
 use lib.ListN.{length}
 use lib.Ieee.{Float}
 use Rattle.arith.specs.Flow.{Turn}
-use Rattle.arith.specs.Run.{Run, ran}
+use Rattle.arith.specs.Run.{Run, ran, upTo}
 use Rattle.arith.specs.UpToLaws.{AtMost, most-try, most-call, most-none, most-leave, most-loop}
 use Rattle.rows.specs.declared.body.RigidBody.{RigidBody}
 use Rattle.rows.specs.declared.body.MomentumBody.{MomentumBody}
 use Rattle.rows.specs.declared.body.BodyState.{BodyState}
 use Rattle.rows.specs.declared.geometry.Joint.{Joint}
-use Rattle.rows.specs.Fault.{Fault}
+use Rattle.rows.specs.Fault.{Fault, nonConvergent}
 use Rattle.rows.specs.Region.{tab-length}
 use Rattle.solves.specs.declared.Table.{Table}
 use Rattle.solves.specs.Region.{Does}
-use Rattle.solves.specs.View.{ROWS-MOST, ROWS, rowOn, rowsOn, systemOn}
-use Rattle.step.specs.RunView.{startedAt, foundAt, Sides}
+use Rattle.solves.specs.View.{ROWS-MOST, ROWS, rowOn, rowsOn}
+use Rattle.step.specs.declared.passes.Stage.{Stage}
+use Rattle.step.specs.declared.passes.Stage.the-variants as Stages
+use Rattle.step.specs.RunView.{startedAt, foundAt, Sides, Given, Gained, passAt}
 use Rattle.solves.specs.System.{System, rowsIn}
 use Rattle.solves.specs.Search.{leastMost}
 use Rattle.solves.specs.LimitLaws.{linear-most}
 use Rattle.step.specs.Bodies.{Job, Started, Found}
-use Rattle.step.specs.Step.{nonlinearPass, nonlinearLoop, velocityPass, velocityLoop, finishOf}
+use Rattle.step.specs.Step.{nonlinearPass, velocityPass, velocityLoop, finishOf}
 
 -- the limit of a solve over n rows
 abbrev pub limit : ℕ → ℕ
@@ -42,10 +44,6 @@ unfolding nonlinearPass
 nonlinear-most job start impulses =
     most-call {a = 0} {b = limit (rowsIn (start .system))} _ _ (record { most = omega arith }) (λ _. most-try _ _ λ found.
     most-leave _ _ _ (most-call _ _ (linear-most _ _ _) (λ solution. most-try _ _ λ next. most-none {m = 0} _) (omega arith))) (omega arith)
-
-pub loop-most : (job : Job) (start : Started) → AtMost (32 * limit (rowsIn (start .system))) (nonlinearLoop job start)
-unfolding nonlinearLoop
-loop-most job start = most-loop (nonlinearPass job start) (nonlinear-most job start) 32 _ _
 
 pub velocity-most : (job : Job) (system : System) (candidate : List MomentumBody)
     → AtMost (limit (rowsIn system)) (velocityPass job system candidate)
@@ -68,19 +66,21 @@ module _ (ia ib : List ℕ) (s : List Float) (table : Table) (few : table .rows 
   rows-few : (place : ℕ) → length (rowsOn ia ib s place (table .rows)) ≤ ROWS-MOST
   rows-few place = omega (arith, tab-length (table .rows) (rowOn ia ib s place))
 
-  pub nonlinear-few : (job : Job) (v : List Float) {x : Turn (Turn (List Float) Found) Fault} {m l : ℕ}
-      → ran x m l ≡ nonlinearPass job (startedAt ia ib s table) v → l ≤ LIMIT
-  nonlinear-few job v e = omega (arith, counted-most e (nonlinear-most job _ v), rows-few (table .place))
-
-  pub velocity-few : (job : Job) (v : List MomentumBody) {x : Turn (Turn (List MomentumBody) (List MomentumBody)) Fault} {m l : ℕ}
-      → ran x m l ≡ velocityPass job (systemOn ia ib s table) v → l ≤ LIMIT
-  velocity-few job v e = omega (arith, counted-most e (velocity-most job _ v), rows-few (table .place))
+-- of a pass
+pub pass-few : (stage : Stage) (job : Job) (ia ib : List ℕ) (s : List Float) (table : Table) → table .rows ≤ ROWS-MOST → (v : Given stage)
+    {x : Turn (Turn (Given stage) (Gained stage)) Fault} {m l : ℕ} → ran x m l ≡ passAt stage job ia ib table s v → l ≤ LIMIT
+pass-few Stages.Nonlinear job ia ib s table few v e =
+    omega (arith, counted-most e (nonlinear-most job _ v), rows-few ia ib s table few (table .place))
+pass-few Stages.Velocity job ia ib s table few v e =
+    omega (arith, counted-most e (velocity-most job _ v), rows-few ia ib s table few (table .place))
 
 -- of the rows of a run
 module _ {joints : List Joint} {count : ℕ} {ia ib : List ℕ} (sides : Sides joints count ia ib) (table : Table) (few : table .rows ≤ ROWS-MOST)
     {P : ℕ → Type 0} {s t : List Float} {m l : ℕ} where
-  pub loop-few : (job : Job) {x : Turn Found Fault} → Does P s t (ran x m l) (nonlinearLoop job (startedAt ia ib s table)) → l ≤ 32 * LIMIT
-  loop-few job d = omega (arith, counted-most (d .is) (loop-most job _), rows-few ia ib s table few (table .place))
+  pub loop-few : (job : Job) (v : List Float) {x : Turn Found Fault}
+      → Does P s t (ran x m l) (upTo 32 nonConvergent (nonlinearPass job (startedAt ia ib s table)) v) → l ≤ 32 * LIMIT
+  loop-few job v d =
+      omega (arith, counted-most (d .is) (most-loop (nonlinearPass job _) (nonlinear-most job _) 32 _ v), rows-few ia ib s table few (table .place))
 
   pub finish-few : (job : Job) (bodies : List RigidBody) {x : Turn (List BodyState) Fault}
       → Does P s t (ran x m l) (finishOf job bodies (foundAt ia ib s table)) → l ≤ 3 * LIMIT

@@ -37,9 +37,9 @@ module _ {A : Type 0} (view : List Float → ℕ → A) (f : ℕ → Result A) (
         record { kept = kept-more (so .kept) w; is = ap (λ (j : ℕ). go (tab j (view s))) same ∙ each-end f (omega arith) (omega arith) (so .is) }
 
 -- one more number, stored in its place
-pub so-put : (off : ℕ) (f : ℕ → Result Float) (s₀ : List Float) {P : ℕ → Type 0} (k : ℕ) (s : List Float)
-    → Does P s₀ s (go (vecAt s off k)) (each k f) → (R : ℕ → Type 0) → ((i : ℕ) → R i → P i)
-    → (x : Float) → ((i : ℕ) → R i → Out (off + k) 1 i) → off + k < length s → go x ≡ f k → Does R s₀ (set s (off + k) x)
-    (go (vecAt (set s (off + k) x) off (k + 1))) (each (k + 1) f)
-so-put off f s₀ k s so R w x v h e =
-    record { kept = kept-then (kept-more (so .kept) w) (kept-set s (off + k) x) v; is = ap go (vec-more s off k x h) ∙ each-more f (so .is) e }
+pub so-put : (place : ℕ) (f : ℕ → Result Float) (s₀ : List Float) {P : ℕ → Type 0} (k : ℕ) (s : List Float)
+    → Does P s₀ s (go (vecAt s place k)) (each k f) → (R : ℕ → Type 0) → ((i : ℕ) → R i → P i)
+    → (x : Float) → ((i : ℕ) → R i → Out (place + k) 1 i) → place + k < length s → go x ≡ f k → Does R s₀ (set s (place + k) x)
+    (go (vecAt (set s (place + k) x) place (k + 1))) (each (k + 1) f)
+so-put place f s₀ k s so R w x v h e =
+    record { kept = kept-then (kept-more (so .kept) w) (kept-set s (place + k) x) v; is = ap go (vec-more s place k x h) ∙ each-more f (so .is) e }

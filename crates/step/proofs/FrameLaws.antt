@@ -15,15 +15,16 @@ use Rattle.step.specs.Bodies.{bodyIn}
 use Rattle.step.specs.RunView.{bodiesAt}
 
 module _ {P : ℕ → Type 0} {s t : List Float} (kept : Kept P s t) where
-  pub candidate-in : (n k : ℕ) {body : MomentumBody} → Over P (CANDIDATE + 13 * k) 13 → Over P (START + 26 * k + 13) 13 → k < n
-      → body ≡ candidateAt t k → body ≡ bodyIn (candidatesAt s n) k
-  candidate-in n k v w h e = e ∙ kept-candidate kept k v w ∙ sym (tab-at n (candidateAt s) noBody k h)
+  pub candidate-in : (body-count k : ℕ) {body : MomentumBody} → Over P (CANDIDATE + 13 * k) 13 → Over P (START + 26 * k + 13) 13 → k < body-count
+      → body ≡ candidateAt t k → body ≡ bodyIn (candidatesAt s body-count) k
+  candidate-in body-count k v w h e = e ∙ kept-candidate kept k v w ∙ sym (tab-at body-count (candidateAt s) noBody k h)
 
-  pub start-in : (n k : ℕ) {body : MomentumBody} → Over P (START + 26 * k) 26 → k < n → body ≡ startBodyAt t k → body ≡ bodyIn (startBodiesAt s n) k
-  start-in n k w h e = e ∙ kept-start kept k w ∙ sym (tab-at n (startBodyAt s) noBody k h)
+  pub start-in : (body-count k : ℕ) {body : MomentumBody} → Over P (START + 26 * k) 26 → k < body-count → body ≡ startBodyAt t k
+      → body ≡ bodyIn (startBodiesAt s body-count) k
+  start-in body-count k w h e = e ∙ kept-start kept k w ∙ sym (tab-at body-count (startBodyAt s) noBody k h)
 
   -- the one that load_moved loads
-  pub body-in : Over P START BODIES → Over P CANDIDATE STATES → (moved : Bool) (n k : ℕ) → k < n → n ≤ 16 → {body : MomentumBody}
-      → body ≡ cond moved (candidateAt t k) (startBodyAt t k) → body ≡ bodyIn (bodiesAt moved s n) k
-  body-in v w true n k h l e = candidate-in n k (λ i a b. w i (omega arith) (omega arith)) (λ i a b. v i (omega arith) (omega arith)) h e
-  body-in v w false n k h l e = start-in n k (λ i a b. v i (omega arith) (omega arith)) h e
+  pub body-in : Over P START BODIES → Over P CANDIDATE STATES → (moved : Bool) (body-count k : ℕ) → k < body-count → body-count ≤ 16 → {body : MomentumBody}
+      → body ≡ cond moved (candidateAt t k) (startBodyAt t k) → body ≡ bodyIn (bodiesAt moved s body-count) k
+  body-in v w true body-count k h l e = candidate-in body-count k (λ i a b. w i (omega arith) (omega arith)) (λ i a b. v i (omega arith) (omega arith)) h e
+  body-in v w false body-count k h l e = start-in body-count k (λ i a b. v i (omega arith) (omega arith)) h e

@@ -3,14 +3,14 @@ pub mod StepLaws
 pub mod CheckWays
 pub mod BodyLaws
 pub mod AnsweredLaws
-pub mod PassLaws
 pub mod MotionLaws
 pub mod FrameLaws
 pub mod EachLaws
 pub mod TableLaws
 pub mod RowLaws
-pub mod VelocityLaws
 pub mod LoopLaws
+pub mod PassLaws
+pub mod VelocityLaws
 pub mod NonlinearLaws
 pub mod CountLaws
 pub mod FinishLaws

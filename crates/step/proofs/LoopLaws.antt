@@ -6,7 +6,7 @@ use mathlib.Core.List.{List}
 use native.Mathlib.Omega.{arith}
 use lib.ListN.{length}
 use lib.Ieee.{Float}
-use Rattle.arith.specs.Flow.{go, stop, _>>=_, tab}
+use Rattle.arith.specs.Flow.{go, _>>=_, tab}
 use Rattle.rows.specs.declared.body.MomentumBody.{MomentumBody}
 use Rattle.rows.specs.declared.geometry.EqualityRow.{EqualityRow}
 use Rattle.rows.specs.Fault.{Result}
@@ -42,7 +42,7 @@ ran-then Ends.ArithmeticOverflow x f = refl
 -- what stands before the first pass stays
 pub kept-started : {P : ℕ → Type 0} {s t : List Float} (kept : Kept P s t) (ia ib : List ℕ) (table : Table) → table .place + ROW-TABLE ≤ ROWS
     → table .rows ≤ 96 → table .bodies ≤ 16 → ((i : ℕ) → Trying i → P i) → startedAt ia ib t table ≡ startedAt ia ib s table
-kept-started kept ia ib table p n m w = λ j. record {
+kept-started kept ia ib table p l g w = λ j. record {
   bodies = kept-starts kept (table .bodies) (λ i a b. w i (omega arith)) j;
   system = record {
     rows = kept-rows kept ia ib (table .place) (table .rows) (λ i a b. w i (omega arith)) j;
@@ -160,11 +160,11 @@ module _ (job : Job) (ia ib : List ℕ) (table : Table) (l : table .rows ≤ 96)
       kept-vec (keeps d) IMPULSES (table .rows) (λ i a b. (omega arith, omega arith)),
     )
 
-    pub all-tried : Moved (go (candidatesAt s₂ (table .bodies))) → {m : ℕ} → table .rows ≡ m → {s₃ : List Float} (r : End)
-        → Does (Out ROWS ROW-TABLE) s₂ s₃ (ranAs r (rowsOn ia ib s₃ ROWS m)) (writeRows (job .joints) (job .count) (candidatesAt s₂ (table .bodies)))
+    pub all-tried : Moved (go (candidatesAt s₂ (table .bodies))) → {n : ℕ} → table .rows ≡ n → {s₃ : List Float} (r : End)
+        → Does (Out ROWS ROW-TABLE) s₂ s₃ (ranAs r (rowsOn ia ib s₃ ROWS n)) (writeRows (job .joints) (job .count) (candidatesAt s₂ (table .bodies)))
         → Tried s₃ (ranAs r (foundAt ia ib s₃ table))
     unfolding candidateOf
-    all-tried d₂ {m} em {s₃} r d₃ = (
+    all-tried d₂ {n} en {s₃} r d₃ = (
       does-then onShares (λ i x. omega (arith, x .1)) {T = λ i. (Out CANDIDATE STATES i) × (Out ROWS ROW-TABLE i)} (λ i x. (x .2, x .0)) (counted d₁)
           (does-then onMoved (λ i x. x .0) (λ i x. x .1) (moved d₂) last),
       kept-vec keeps₃ IMPULSES (table .rows) (λ i a b. (omega arith, omega arith, omega arith)),
@@ -176,16 +176,16 @@ module _ (job : Job) (ia ib : List ℕ) (table : Table) (l : table .rows ≤ 96)
         found : List EqualityRow → Found
         found rows = record { candidate = candidatesAt s₂ (table .bodies); rows = rows }
 
-        there : foundAt ia ib s₃ table ≡ found (rowsOn ia ib s₃ ROWS m)
+        there : foundAt ia ib s₃ table ≡ found (rowsOn ia ib s₃ ROWS n)
         there = λ j. record {
           candidate = kept-candidates (d₃ .kept) (table .bodies) (λ i a b. omega arith) (λ i a b. omega arith) j;
-          rows = rowsOn ia ib s₃ ROWS (em j);
+          rows = rowsOn ia ib s₃ ROWS (en j);
         }
 
         last : Does (Out ROWS ROW-TABLE) s₂ s₃ (ranAs r (foundAt ia ib s₃ table)) (onMoved (candidatesAt s₂ (table .bodies)))
         last = record {
           kept = d₃ .kept;
           is =
-              ap (ranAs r) there ∙ ran-then r (rowsOn ia ib s₃ ROWS m) found ∙ ap (λ (x : Result (List EqualityRow)). x >>= λ rows. go (found rows))
+              ap (ranAs r) there ∙ ran-then r (rowsOn ia ib s₃ ROWS n) found ∙ ap (λ (x : Result (List EqualityRow)). x >>= λ rows. go (found rows))
               (d₃ .is);
         }

@@ -1,15 +1,16 @@
--- The passes of the step's two loops and the loops themselves: links of a Run from the calls' contracts, and one law for both loops by `Reached`.
-use Prim.Native.Nat.{ℕ, _+_, _≤_, _<_}
-use mathlib.Core.Path.{_≡_, refl, sym, _∙_, ap}
+-- The passes of both stages and their loop: links of a Run from the calls' contracts; what differs by the stage; the loop by `Reached`.
+use Prim.Native.Nat.{ℕ, _+_, _<_}
+use mathlib.Core.Path.{_≡_, refl, sym, _∙_, ap, subst}
 use mathlib.Core.Bool.{Bool, true, false, not}
 use mathlib.Core.List.{List}
 use native.Mathlib.Omega.{arith}
 use native.Mathlib.Nat.{zero-add}
 use lib.Ieee.{Float}
 use Rattle.arith.specs.Flow.{Turn, go, stop}
-use Rattle.arith.specs.Run.{ran, after, try, begin, again, leaveIf, _>>=_, upTo}
+use Rattle.arith.specs.Run.{ran, after, try, begin, again, leaveIf, _>>=_}
 use Rattle.arith.specs.RunLaws.{run-is, then-go, then-stop, try-go, try-stop, leave-yes, leave-no, over}
 use Rattle.arith.specs.RunLaws.{Reached, reached-none, reached-again, reached-over, reached-spent}
+use Rattle.rows.specs.declared.geometry.Joint.{Joint}
 use Rattle.rows.specs.Fault.{nonConvergent, Result}
 use Rattle.rows.specs.View.{Kept}
 use Rattle.rows.specs.Region.{kept-refl, kept-then}
@@ -17,15 +18,28 @@ use Rattle.rows.specs.declared.End.{End}
 use Rattle.rows.specs.declared.End.the-variants as Ends
 use Rattle.solves.specs.declared.Ended.{Ended}
 use Rattle.solves.specs.declared.Pass.{Pass}
-use Rattle.solves.specs.declared.Pass.the-variants as Passes
+use Rattle.solves.specs.declared.Pass.the-variants as Pass
+use Rattle.solves.specs.declared.Table.{Table}
+use Rattle.solves.specs.Lent.{Slice}
 use Rattle.solves.specs.Region.{Does}
+use Rattle.solves.specs.RegionLaws.{kept-vec}
 use Rattle.solves.specs.System.{Counting}
 use Rattle.solves.specs.Answer.{ranAs, passAs, isDone, endedAs}
 use Rattle.solves.specs.DoesLaws.{ran-done, fails, fails-over, went, failed}
+use Rattle.solves.specs.View.{Work}
+use Rattle.solves.specs.ViewLaws.{kept-rows, system-kept}
 use Rattle.arith.specs.FlowLaws.{not-yes, not-no}
 use Rattle.step.specs.declared.passes.Passed.{Passed}
 use Rattle.step.specs.declared.passes.Ran.{Ran}
-use Rattle.step.specs.RunView.{passedAs, passedAfter, leftAs, correction}
+use Rattle.step.specs.declared.passes.Stage.{Stage}
+use Rattle.step.specs.declared.passes.Stage.the-variants as Stages
+use Rattle.step.specs.Layout.{IMPULSES}
+use Rattle.step.specs.ViewLaws.{kept-candidates}
+use Rattle.step.specs.Bodies.{Job, addImpulses, reactionOf}
+use Rattle.step.specs.Step.{correction, nonlinearPass, velocityPass}
+use Rattle.step.specs.RunView.{Ours, passedAs, passedAfter, leftAs, Given, givenAt, gainedAt, passAt, makeAt, nonlinearOf, Outside, Besides}
+use Rattle.step.specs.Says.{Passes, Loops}
+use Rattle.step.proofs.LoopLaws.{kept-started}
 
 -- ---- links
 -- a pass counts itself, and then does the rest
@@ -101,34 +115,94 @@ module _ {A : Type 0} {P : ℕ → Type 0} {s t : List Float} where
   pub left-is : (found : List Float → A) {r q : Ran} {d : Counting A} → r ≡ q → Does P s t (leftAs q (found t)) d → Does P s t (leftAs r (found t)) d
   left-is found e f = record { kept = f .kept; is = ap (λ (r : Ran). leftAs r (found t)) e ∙ f .is }
 
--- ---- both loops: each turn takes one pass over what stands in the scratch, and leaves its frame
-module _ {A B : Type 0} (most : ℕ) (P : ℕ → Type 0) (pass : List Float → A → Counting (Turn A B)) (view : List Float → A) (s₀ : List Float) where
-  -- what stands before turn k, after n nonlinear and l linear passes
-  pub record Looping (s : List Float) (k n l : ℕ) : Type 0 where
-    pub kept : Kept P s₀ s
-    pub reached : Reached most nonConvergent (pass s₀) (view s₀) k (view s) n l
+-- ---- by the stage
+-- an answer of the stage that it is: of `stage_pass`, of `use_solution`
+pub staged : (stage : Stage) (job : Job) (ia ib : List ℕ) (table : Table) {s u : List Float} (r : Passed) {q : Stage} → stage ≡ q
+    → Passes q ia ib table s u job r → Passes stage ia ib table s u job r
+staged stage job ia ib table {s} {u} r e = subst (λ (q : Stage). Passes q ia ib table s u job r) (sym e)
 
-  pub loop-none : Looping s₀ 0 0 0
-  loop-none = record { kept = kept-refl P s₀; reached = reached-none most nonConvergent (pass s₀) (view s₀) }
+pub used : (stage : Stage) (ia ib : List ℕ) (table : Table) {s u : List Float} (r : End) (x : List Float) {q : Stage} → stage ≡ q
+    → Does (Outside q) s u (ranAs r (givenAt q u table)) (makeAt q ia ib table s x)
+    → Does (Outside stage) s u (ranAs r (givenAt stage u table)) (makeAt stage ia ib table s x)
+used stage ia ib table {s} {u} r x e =
+    subst (λ (q : Stage). Does (Outside q) s u (ranAs r (givenAt q u table)) (makeAt q ia ib table s x)) (sym e)
 
-  pub loop-spent : {s : List Float} {k n m l : ℕ} → Looping s k n l → most ≤ k → m ≡ n
-      → Does P s₀ s (ran (stop nonConvergent) m l) (upTo most nonConvergent (pass s₀) (view s₀))
-  loop-spent inv h e = record { kept = inv .kept; is = run-is e refl ∙ reached-spent most nonConvergent (pass s₀) (view s₀) (inv .reached) h }
+-- a solve leaves what is made of its solution
+pub solve-inside : (stage : Stage) (i : ℕ) → Outside stage i → Work i
+solve-inside Stages.Nonlinear i x = omega (arith, x .1)
+solve-inside Stages.Velocity i x = omega (arith, x .0)
 
-  module _ (found : List Float → B) (same : (s : List Float) → Kept P s₀ s → pass s ≡ pass s₀) {s t : List Float} {k n l m : ℕ} (inv : Looping s k n l)
-      (r : Passed) (d : Does P s t (passedAs m r (view t) (found t)) (pass s (view s))) (h : k < most) where
-    keeps : Kept P s₀ t
-    keeps = kept-then (inv .kept) (d .kept) (λ i x. x)
+pub same-make : (stage : Stage) {S : Slice Float} {IA IB : Slice ℕ} {table : Table} → Ours S IA IB table → {s u : List Float} → Kept Work s u
+    → (x : List Float) → makeAt stage (IA .now) (IB .now) table u x ≡ makeAt stage (IA .now) (IB .now) table s x
+same-make Stages.Nonlinear {table = table} pre kept x =
+    ap (λ (v : List Float). addImpulses v x) (kept-vec kept IMPULSES (table .rows) (λ i a b. omega (arith, pre .ready .most)))
+same-make Stages.Velocity {IA = IA} {IB} {table} pre kept x = λ j. reactionOf
+    (kept-rows kept (IA .now) (IB .now) (table .place) (table .rows) (λ i a b. omega (arith, pre .ready .table, pre .ready .most)) j)
+    (kept-candidates kept (table .bodies) (λ i a b. omega (arith, pre .ready .bodies)) (λ i a b. omega (arith, pre .ready .bodies)) j) x
 
-    case : {q : Pass} → r .pass ≡ q → ran (passAs q (view t) (found t)) m (r .linear) ≡ pass s₀ (view s)
-    case e =
-        sym (ap (λ (q : Pass). ran (passAs q (view t) (found t)) m (r .linear)) e) ∙ d .is
-        ∙ ap (λ (f : A → Counting (Turn A B)). f (view s)) (same s (inv .kept))
+-- a pass is over the same, however far the loop has come
+same-pass : (stage : Stage) (job : Job) (joints : List Joint) (count : ℕ) {S : Slice Float} {IA IB : Slice ℕ} {table : Table} → Ours S IA IB table
+    → Besides stage joints count IA IB table → {s t : List Float} → Kept (Outside stage) s t
+    → (x : Given stage) → passAt stage job (IA .now) (IB .now) table t x ≡ passAt stage job (IA .now) (IB .now) table s x
+same-pass Stages.Nonlinear job joints count {IA = IA} {IB} {table} pre also kept x = λ j. nonlinearPass job
+    (kept-started kept (IA .now) (IB .now) table (also .apart) (pre .ready .most) (pre .ready .bodies) (λ i x. x) j) x
+same-pass Stages.Velocity job joints count {IA = IA} {IB} {table} pre also kept x = λ j. velocityPass job
+    (system-kept (IA .now) (IB .now) table (λ i a b. omega arith) (pre .ready .table) (pre .ready .most) (pre .ready .bodies) kept j) x
 
-    pub loop-again : r .pass ≡ Passes.Again → Looping t (k + 1) (n + m) (l + r .linear)
-    loop-again e = record { kept = keeps; reached = reached-again most nonConvergent (pass s₀) (view s₀) (inv .reached) h (case e) }
+none-begun : (stage : Stage) → 0 ≡ nonlinearOf stage 0
+none-begun Stages.Nonlinear = refl
+none-begun Stages.Velocity = refl
 
-    pub loop-over : {end : End} → r .pass ≡ Passes.Over end
-        → Does P s₀ t (ran (ranAs end (found t)) (n + m) (l + r .linear)) (upTo most nonConvergent (pass s₀) (view s₀))
-    loop-over {end} e =
-        record { kept = keeps; is = reached-over most nonConvergent (pass s₀) (view s₀) (inv .reached) h (ranAs end (found t)) (case e) }
+one-more : (stage : Stage) (k : ℕ) → nonlinearOf stage k + nonlinearOf stage 1 ≡ nonlinearOf stage (k + 1)
+one-more Stages.Nonlinear k = refl
+one-more Stages.Velocity k = refl
+
+-- ---- the loop of both stages: each turn takes one pass over what stands in the scratch, and leaves its frame
+module _ (stage : Stage) (job : Job) (ia ib : List ℕ) (table : Table) (most : ℕ) (s₀ : List Float) where
+  abbrev Reaches : ℕ → List Float → ℕ → ℕ → Type 0
+  Reaches k s n l = Reached most nonConvergent (passAt stage job ia ib table s₀) (givenAt stage s₀ table) k (givenAt stage s table) n l
+
+  -- what stands before turn k, after l linear passes
+  pub record Looping (s : List Float) (k l : ℕ) : Type 0 where
+    pub kept : Kept (Outside stage) s₀ s
+    pub reached : Reaches k s (nonlinearOf stage k) l
+
+  pub loop-none : Looping s₀ 0 0
+  loop-none = record {
+    kept = kept-refl (Outside stage) s₀;
+    reached = subst (λ (n : ℕ). Reaches 0 s₀ n 0) (none-begun stage) (reached-none most nonConvergent (passAt stage job ia ib table s₀) _);
+  }
+
+  pub loop-spent : {s : List Float} {k l : ℕ} → Looping s k l → most ≡ k → {r : Ran} → r ≡ record { end = Ends.NonConvergent; nonlinear = most; linear = l }
+      → Loops stage ia ib table s₀ s job most r
+  loop-spent {s} inv e f = subst (Loops stage ia ib table s₀ s job most) (sym f) (record {
+    kept = inv .kept;
+    is = run-is (ap (nonlinearOf stage) e) refl ∙ reached-spent most nonConvergent _ _ (inv .reached) (omega arith);
+  })
+
+module _ (stage : Stage) (job : Job) (joints : List Joint) (count : ℕ) {S : Slice Float} {IA IB : Slice ℕ} {table : Table} (pre : Ours S IA IB table)
+    (also : Besides stage joints count IA IB table) {most : ℕ} {s₀ s t : List Float} {k l : ℕ}
+    (inv : Looping stage job (IA .now) (IB .now) table most s₀ s k l) (r : Passed) (d : Passes stage (IA .now) (IB .now) table s t job r) (h : k < most) where
+  keeps : Kept (Outside stage) s₀ t
+  keeps = kept-then (inv .kept) (d .kept) (λ i x. x)
+
+  case : {q : Pass} → r .pass ≡ q
+      → ran (passAs q (givenAt stage t table) (gainedAt stage (IA .now) (IB .now) t table)) (nonlinearOf stage 1) (r .linear)
+      ≡ passAt stage job (IA .now) (IB .now) table s₀ (givenAt stage s table)
+  case e =
+      sym (ap (λ (q : Pass). ran (passAs q (givenAt stage t table) (gainedAt stage (IA .now) (IB .now) t table)) (nonlinearOf stage 1) (r .linear)) e)
+      ∙ d .is ∙ same-pass stage job joints count pre also (inv .kept) (givenAt stage s table)
+
+  pub loop-again : r .pass ≡ Pass.Again → Looping stage job (IA .now) (IB .now) table most s₀ t (k + 1) (l + r .linear)
+  loop-again e = record {
+    kept = keeps;
+    reached = subst (λ (n : ℕ). Reaches stage job (IA .now) (IB .now) table most s₀ (k + 1) t n (l + r .linear)) (one-more stage k)
+        (reached-again most nonConvergent _ _ (inv .reached) h (case e));
+  }
+
+  pub loop-over : {end : End} → r .pass ≡ Pass.Over end → {a : Ran} → a ≡ record { end = end; nonlinear = k + 1; linear = l + r .linear }
+      → Loops stage (IA .now) (IB .now) table s₀ t job most a
+  loop-over {end} e f = subst (Loops stage (IA .now) (IB .now) table s₀ t job most) (sym f) (record {
+    kept = keeps;
+    is = run-is (sym (one-more stage k)) refl ∙ reached-over most nonConvergent _ _ (inv .reached) h (ranAs end _) (case e);
+  })

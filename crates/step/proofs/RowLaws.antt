@@ -102,35 +102,35 @@ pub wrote-rows : (joints : List Joint) (k n : ℕ) → n ≡ rowsBefore joints k
     → Writes (jointIn joints k) a b i s t r → (m : ℕ) → r ≡ Written.Rows m → n + m ≡ rowsBefore joints (k + 1)
 wrote-rows joints k n p w m q = before-more joints k n p (w .count m q)
 
-module _ (joints : List Joint) (count : ℕ) (moved : Bool) (rows : ℕ) (s₀ : List Float) (size : ℕ) (J : Joined joints count size) (ia ib : List ℕ)
+module _ (joints : List Joint) (count : ℕ) (moved : Bool) (place : ℕ) (s₀ : List Float) (body-count : ℕ) (J : Joined joints count body-count) (ia ib : List ℕ)
     (S : Sides joints count ia ib) where
   abbrev writing : ℕ → List EqualityRow → Result (List EqualityRow)
-  writing k before = jointRows joints (bodiesAt moved s₀ size) k >>= λ local. go (before ++ local)
+  writing k before = jointRows joints (bodiesAt moved s₀ body-count) k >>= λ local. go (before ++ local)
 
   abbrev pub Wrote : ℕ → ℕ → List Float → Type 0
-  Wrote k n s = Does (Out rows ROW-TABLE) s₀ s (go (rowsOn ia ib s rows n)) (loop k writing [])
+  Wrote k n s = Does (Out place ROW-TABLE) s₀ s (go (rowsOn ia ib s place n)) (loop k writing [])
 
   pub wrote-none : Wrote 0 0 s₀
   unfolding tab
   wrote-none = record { kept = kept-refl _ s₀; is = loop-none writing [] }
 
-  module _ (k n : ℕ) (s : List Float) (so : Wrote k n s) (h : k < count) (g : n ≤ 90) (l : rows ≤ ROWS) (p : n ≡ rowsBefore joints k) {a b : MomentumBody}
+  module _ (k n : ℕ) (s : List Float) (so : Wrote k n s) (h : k < count) (g : n ≤ 90) (l : place ≤ ROWS) (p : n ≡ rowsBefore joints k) {a b : MomentumBody}
       (ea : a ≡ cond moved (candidateAt s (jointIn joints k .«body_a»)) (startBodyAt s (jointIn joints k .«body_a»)))
       (eb : b ≡ cond moved (candidateAt s (jointIn joints k .«body_b»)) (startBodyAt s (jointIn joints k .«body_b»)))
-      {t : List Float} (r : Written) (w : Writes (jointIn joints k) a b (rows + 14 * n) s t r) where
-    rows-are : writtenAs r t (rows + 14 * n) (jointIn joints k .«body_a») (jointIn joints k .«body_b») ≡ jointRows joints (bodiesAt moved s₀ size) k
+      {t : List Float} (r : Written) (w : Writes (jointIn joints k) a b (place + 14 * n) s t r) where
+    rows-are : writtenAs r t (place + 14 * n) (jointIn joints k .«body_a») (jointIn joints k .«body_b») ≡ jointRows joints (bodiesAt moved s₀ body-count) k
     rows-are =
         w .is
         ∙ ap (λ (x : MomentumBody). writeEqualityRows (jointIn joints k) x b)
-        (body-in (so .kept) (λ i x y. omega arith) (λ i x y. omega arith) moved size _ (J .a-there k h) (J .small) ea)
+        (body-in (so .kept) (λ i x y. omega arith) (λ i x y. omega arith) moved body-count _ (J .a-there k h) (J .small) ea)
         ∙ ap (writeEqualityRows (jointIn joints k) _)
-        (body-in (so .kept) (λ i x y. omega arith) (λ i x y. omega arith) moved size _ (J .b-there k h) (J .small) eb)
+        (body-in (so .kept) (λ i x y. omega arith) (λ i x y. omega arith) moved body-count _ (J .b-there k h) (J .small) eb)
 
     case : {x : Written} → r ≡ x
-        → writtenAs x t (rows + 14 * n) (jointIn joints k .«body_a») (jointIn joints k .«body_b») ≡ jointRows joints (bodiesAt moved s₀ size) k
-    case q = sym (ap (λ (y : Written). writtenAs y t (rows + 14 * n) (jointIn joints k .«body_a») (jointIn joints k .«body_b»)) q) ∙ rows-are
+        → writtenAs x t (place + 14 * n) (jointIn joints k .«body_a») (jointIn joints k .«body_b») ≡ jointRows joints (bodiesAt moved s₀ body-count) k
+    case q = sym (ap (λ (y : Written). writtenAs y t (place + 14 * n) (jointIn joints k .«body_a») (jointIn joints k .«body_b»)) q) ∙ rows-are
 
-    kept : Kept (Out rows ROW-TABLE) s₀ t
+    kept : Kept (Out place ROW-TABLE) s₀ t
     kept = kept-then (so .kept) (w .kept) (λ i x. omega arith)
 
     pub wrote-again : {m : ℕ} → r ≡ Written.Rows m → Wrote (k + 1) (n + m) t
@@ -138,45 +138,45 @@ module _ (joints : List Joint) (count : ℕ) (moved : Bool) (rows : ℕ) (s₀ :
       kept = kept;
       is =
           ap go
-          (tab-append n m (rowOn ia ib t rows) ∙ ap (λ xs. xs ++ tab m (λ i. rowOn ia ib t rows (n + i))) (tab-ext n old) ∙ ap
-          (λ xs. rowsOn ia ib s rows n ++ xs) (tab-ext m new))
-          ∙ loop-more writing [] (so .is) (then-go (λ local. go (rowsOn ia ib s rows n ++ local)) (case q));
+          (tab-append n m (rowOn ia ib t place) ∙ ap (λ xs. xs ++ tab m (λ i. rowOn ia ib t place (n + i))) (tab-ext n old) ∙ ap
+          (λ xs. rowsOn ia ib s place n ++ xs) (tab-ext m new))
+          ∙ loop-more writing [] (so .is) (then-go (λ local. go (rowsOn ia ib s place n ++ local)) (case q));
     }
       where
-        old : (j : ℕ) → j < n → rowOn ia ib t rows j ≡ rowOn ia ib s rows j
-        old j d = kept-row (w .kept) (rows + 14 * j) (getD ia j 0) (getD ib j 0) (λ i x y. omega arith)
+        old : (j : ℕ) → j < n → rowOn ia ib t place j ≡ rowOn ia ib s place j
+        old j d = kept-row (w .kept) (place + 14 * j) (getD ia j 0) (getD ib j 0) (λ i x y. omega arith)
 
-        place : (i : ℕ) → rows + 14 * (n + i) ≡ rows + 14 * n + 14 * i
-        place i = omega arith
+        there : (i : ℕ) → place + 14 * (n + i) ≡ place + 14 * n + 14 * i
+        there i = omega arith
 
         new : (i : ℕ) → i < m
-            → rowOn ia ib t rows (n + i) ≡ rowAt t (rows + 14 * n + 14 * i) (jointIn joints k .«body_a») (jointIn joints k .«body_b»)
+            → rowOn ia ib t place (n + i) ≡ rowAt t (place + 14 * n + 14 * i) (jointIn joints k .«body_a») (jointIn joints k .«body_b»)
         new i d =
             let c : m ≡ rowCount (jointIn joints k .kind) = w .count m q in
             let x : getD ia (n + i) 0 ≡ jointIn joints k .«body_a» = ap (λ (z : ℕ). getD ia (z + i) 0) p ∙ S .a-is k i h (omega arith) in
             let y : getD ib (n + i) 0 ≡ jointIn joints k .«body_b» = ap (λ (z : ℕ). getD ib (z + i) 0) p ∙ S .b-is k i h (omega arith) in
-            λ j. rowAt t (place i j) (x j) (y j)
+            λ j. rowAt t (there i j) (x j) (y j)
 
-    stops : {f : Fault} → stop f ≡ jointRows joints (bodiesAt moved s₀ size) k
-        → Does (Out rows ROW-TABLE) s₀ t (stop f) (writeRows joints count (bodiesAt moved s₀ size))
+    stops : {f : Fault} → stop f ≡ jointRows joints (bodiesAt moved s₀ body-count) k
+        → Does (Out place ROW-TABLE) s₀ t (stop f) (writeRows joints count (bodiesAt moved s₀ body-count))
     unfolding writeRows
-    stops e = record { kept = kept; is = loop-stop writing [] count h (so .is) (then-stop (λ local. go (rowsOn ia ib s rows n ++ local)) e) }
+    stops e = record { kept = kept; is = loop-stop writing [] count h (so .is) (then-stop (λ local. go (rowsOn ia ib s place n ++ local)) e) }
 
     pub wrote-nonconvergent : r ≡ Written.NonConvergent
-        → Does (Out rows ROW-TABLE) s₀ t (stop nonConvergent) (writeRows joints count (bodiesAt moved s₀ size))
+        → Does (Out place ROW-TABLE) s₀ t (stop nonConvergent) (writeRows joints count (bodiesAt moved s₀ body-count))
     wrote-nonconvergent q = stops (case q)
 
     pub wrote-overflow : r ≡ Written.ArithmeticOverflow
-        → Does (Out rows ROW-TABLE) s₀ t (stop arithmeticOverflow) (writeRows joints count (bodiesAt moved s₀ size))
+        → Does (Out place ROW-TABLE) s₀ t (stop arithmeticOverflow) (writeRows joints count (bodiesAt moved s₀ body-count))
     wrote-overflow q = stops (case q)
 
   pub wrote-ends : (k n : ℕ) (s : List Float) → Wrote k n s → n ≡ rowsBefore joints k → k ≤ count → count ≤ k
-      → Does (Out rows ROW-TABLE) s₀ s (go (rowsOn ia ib s rows (rowsBefore joints count))) (writeRows joints count (bodiesAt moved s₀ size))
+      → Does (Out place ROW-TABLE) s₀ s (go (rowsOn ia ib s place (rowsBefore joints count))) (writeRows joints count (bodiesAt moved s₀ body-count))
   unfolding writeRows
   wrote-ends k n s so p a b =
       let same : k ≡ count = omega arith in
       record {
         kept =
             so .kept;
-        is = ap (λ (m : ℕ). go (rowsOn ia ib s rows m)) (sym (p ∙ ap (rowsBefore joints) same)) ∙ loop-end writing [] a b (so .is);
+        is = ap (λ (m : ℕ). go (rowsOn ia ib s place m)) (sym (p ∙ ap (rowsBefore joints) same)) ∙ loop-end writing [] a b (so .is);
       }

@@ -22,11 +22,11 @@ pub written-most : {joint : Joint} {a b : MomentumBody} {i : ℕ} {s t : List Fl
     → r ≡ Written.Rows n → n ≤ 6
 written-most {joint} w n e = omega (arith, w .count n e, count-most (joint .kind))
 
-pub joined-sixteen : {joints : List Joint} {count size : ℕ} → Joined joints count size → Joined joints count 16
-joined-sixteen {joints} {count} {size} pre =
+pub joined-sixteen : {joints : List Joint} {count body-count : ℕ} → Joined joints count body-count → Joined joints count 16
+joined-sixteen {joints} {count} {body-count} pre =
     record { few = pre .few; small = omega arith; a-there = λ k h. low (pre .a-there k h); b-there = λ k h. low (pre .b-there k h) }
   where
-    low : {x : ℕ} → x < size → x < 16
+    low : {x : ℕ} → x < body-count → x < 16
     low h = omega (arith, pre .small)
 
 pub spread-more : {from k body : ℕ} {s t : List ℕ} → from ≤ k → k < length t → Spread from (k - from) body s t
@@ -44,25 +44,25 @@ pub spread-end : {from n k body : ℕ} {s t : List ℕ} → from ≤ k → k ≤
     → Spread from n body s t
 spread-end {from} {n} {k} {body} {s} {t} f a b p = record { before = p .before; here = λ j l g. p .here j l (omega arith) }
 
--- all bodies of the rows so far are below size
-pub spread-less : {from n body size : ℕ} {s t : List ℕ} → Spread from n body s t → ((j : ℕ) → j < from → getD s j 0 < size) → body < size → (j : ℕ)
-    → j < from + n → getD t j 0 < size
-spread-less {from} {n} {body} {size} {s} {t} p h b j l = case (decLe from j)
+-- all bodies of the rows so far are below body-count
+pub spread-less : {from n body body-count : ℕ} {s t : List ℕ} → Spread from n body s t → ((j : ℕ) → j < from → getD s j 0 < body-count) → body < body-count
+    → (j : ℕ) → j < from + n → getD t j 0 < body-count
+spread-less {from} {n} {body} {body-count} {s} {t} p h b j l = case (decLe from j)
   where
-    case : Dec (from ≤ j) → getD t j 0 < size
-    case (yes q) = subst (λ (x : ℕ). x < size) (sym (p .here j q l)) b
-    case (no q) = subst (λ (x : ℕ). x < size) (sym (p .before j (omega arith))) (h j (omega arith))
+    case : Dec (from ≤ j) → getD t j 0 < body-count
+    case (yes q) = subst (λ (x : ℕ). x < body-count) (sym (p .here j q l)) b
+    case (no q) = subst (λ (x : ℕ). x < body-count) (sym (p .before j (omega arith))) (h j (omega arith))
 
 -- the rows of a run
-pub rows-of : {joints : List Joint} {count n size : ℕ} {s : List Float} {ia ib : List ℕ} (rows : ℕ) → rows ≤ ROWS → USED ≤ length s
-    → Joined joints count size → RowBodies joints count n ia ib → Rows s ia ib rows n size
-rows-of {joints} {count} {n} {size} rows t w j b = record {
+pub rows-of : {joints : List Joint} {count n body-count : ℕ} {s : List Float} {ia ib : List ℕ} (place : ℕ) → place ≤ ROWS → USED ≤ length s
+    → Joined joints count body-count → RowBodies joints count n ia ib → Rows s ia ib place n body-count
+rows-of {joints} {count} {n} {body-count} place t w j b = record {
   whole = omega arith;
   table = t;
   most = omega (arith, b .most, j .few);
   bodies = j .small;
-  a-there = b .a-there size j;
-  b-there = b .b-there size j;
+  a-there = b .a-there body-count j;
+  b-there = b .b-there body-count j;
 }
 
 pub take-long : (n : ℕ) (s : List Float) → n ≤ length s → length (take n s) ≡ n

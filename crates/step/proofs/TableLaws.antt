@@ -49,9 +49,9 @@ use Rattle.step.proofs.EachLaws.{so-none, so-more, so-put, so-stop, so-
 use Rattle.step.proofs.MotionLaws.{drift-moved, new-held}
 
 -- ---- start_bodies
-module _ (bodies : List Float) (n : ℕ) (s₀ : List Float) where
+module _ (bodies : List Float) (body-count : ℕ) (s₀ : List Float) where
   abbrev begin : ℕ → Result MomentumBody
-  begin k = newOf (recordIn (tab n (recordAt bodies)) k) (inverseSpdOf (recordIn (tab n (recordAt bodies)) k .inertia) .inverse)
+  begin k = newOf (recordIn (tab body-count (recordAt bodies)) k) (inverseSpdOf (recordIn (tab body-count (recordAt bodies)) k .inertia) .inverse)
 
   abbrev pub Begun : ℕ → List Float → Type 0
   Begun k s = Does (λ i. Out START (26 * k) i) s₀ s (go (startBodiesAt s k)) (each k begin)
@@ -59,11 +59,11 @@ module _ (bodies : List Float) (n : ℕ) (s₀ : List Float) where
   pub begin-none : Begun 0 s₀
   begin-none = so-none startBodyAt begin s₀ _
 
-  module _ (k : ℕ) (s : List Float) (so : Begun k s) (h : k < n) (l : n ≤ 16) {body : RigidBody} (inverted : Inverted) {d : Result MomentumBody}
-      (eb : body ≡ recordAt bodies k) (ei : inverted ≡ inverseSpdOf (body .inertia)) (e : d ≡ newOf body (inverted .inverse)) where
+  module _ (k : ℕ) (s : List Float) (so : Begun k s) (h : k < body-count) (l : body-count ≤ 16) {body : RigidBody} (inverted : Inverted)
+      {d : Result MomentumBody} (eb : body ≡ recordAt bodies k) (ei : inverted ≡ inverseSpdOf (body .inertia)) (e : d ≡ newOf body (inverted .inverse)) where
     begin-turn : d ≡ begin k
     begin-turn =
-        let r : body ≡ recordIn (tab n (recordAt bodies)) k = eb ∙ sym (tab-at n (recordAt bodies) noRecord k h) in
+        let r : body ≡ recordIn (tab body-count (recordAt bodies)) k = eb ∙ sym (tab-at body-count (recordAt bodies) noRecord k h) in
         e ∙ ap (λ (i : Inverted). newOf body (i .inverse)) ei ∙ ap (λ (b : RigidBody). newOf b (inverseSpdOf (b .inertia) .inverse)) r
 
     pub begin-again : {t : List Float} {b : MomentumBody} → go b ≡ d → (Kept (λ j. Out (START + 26 * k) 26 j) s t) × (startBodyAt t k ≡ heldOf b)
@@ -72,21 +72,21 @@ module _ (bodies : List Float) (n : ℕ) (s₀ : List Float) where
         so-more startBodyAt begin s₀ k s so (λ i. Out START (26 * (k + 1)) i) (λ i x. omega arith) (st .0) (λ i x. omega arith)
         (λ i g. kept-start (st .0) i (λ j a c. omega arith)) (st .1 ∙ new-held _ _ (q ∙ begin-turn)) (q ∙ begin-turn)
 
-    pub begin-stops : {f : Fault} → stop f ≡ d → Does (Out START BODIES) s₀ s (stop f) (startBodies (tab n (recordAt bodies)))
+    pub begin-stops : {f : Fault} → stop f ≡ d → Does (Out START BODIES) s₀ s (stop f) (startBodies (tab body-count (recordAt bodies)))
     unfolding startBodies
     begin-stops q =
-        so-stop startBodyAt begin s₀ k s so (Out START BODIES) (λ i x. omega arith) (sym (tab-length n (recordAt bodies))) h
+        so-stop startBodyAt begin s₀ k s so (Out START BODIES) (λ i x. omega arith) (sym (tab-length body-count (recordAt bodies))) h
         (kept-refl (Out START BODIES) s) (λ i x. x) (q ∙ begin-turn)
 
-  pub begin-ends : (k : ℕ) (s : List Float) → Begun k s → k ≤ n → n ≤ k → n ≤ 16
-      → Does (Out START BODIES) s₀ s (go (startBodiesAt s n)) (startBodies (tab n (recordAt bodies)))
+  pub begin-ends : (k : ℕ) (s : List Float) → Begun k s → k ≤ body-count → body-count ≤ k → body-count ≤ 16
+      → Does (Out START BODIES) s₀ s (go (startBodiesAt s body-count)) (startBodies (tab body-count (recordAt bodies)))
   unfolding startBodies
   begin-ends k s so a b l =
-      so-end startBodyAt begin s₀ k s so (Out START BODIES) (λ i x. omega arith) n (sym (tab-length n (recordAt bodies))) a b
+      so-end startBodyAt begin s₀ k s so (Out START BODIES) (λ i x. omega arith) body-count (sym (tab-length body-count (recordAt bodies))) a b
 
-bodies-length : (moved : Bool) (s : List Float) (n : ℕ) → n ≡ length (bodiesAt moved s n)
-bodies-length true s n = sym (tab-length n (candidateAt s))
-bodies-length false s n = sym (tab-length n (startBodyAt s))
+bodies-length : (moved : Bool) (s : List Float) (body-count : ℕ) → body-count ≡ length (bodiesAt moved s body-count)
+bodies-length true s body-count = sym (tab-length body-count (candidateAt s))
+bodies-length false s body-count = sym (tab-length body-count (startBodyAt s))
 
 -- ---- prepare_mass
 no-go : {A E : Type 0} {a : A} {e : E} → _≡_ {A = Turn A E} (go a) (stop e) → ⊥
@@ -133,9 +133,9 @@ module _ (body : MomentumBody) (k : ℕ) (s : List Float) (r : MassAnswer) (e : 
           a ∙ b
 
 -- ---- prepare_masses
-module _ (moved : Bool) (n : ℕ) (s₀ : List Float) where
+module _ (moved : Bool) (body-count : ℕ) (s₀ : List Float) where
   abbrev weigh : ℕ → Result MassResponse
-  weigh k = massResponse (bodyIn (bodiesAt moved s₀ n) k)
+  weigh k = massResponse (bodyIn (bodiesAt moved s₀ body-count) k)
 
   abbrev pub Weighed : ℕ → List Float → Type 0
   Weighed k s = Does (λ i. Out MASSES (10 * k) i) s₀ s (go (massesAt s MASSES k)) (each k weigh)
@@ -143,10 +143,10 @@ module _ (moved : Bool) (n : ℕ) (s₀ : List Float) where
   pub weigh-none : Weighed 0 s₀
   weigh-none = so-none (λ s k. massAt s MASSES k) weigh s₀ _
 
-  module _ (k : ℕ) (s : List Float) (so : Weighed k s) (h : k < n) (l : n ≤ 16) {body : MomentumBody}
+  module _ (k : ℕ) (s : List Float) (so : Weighed k s) (h : k < body-count) (l : body-count ≤ 16) {body : MomentumBody}
       (eb : body ≡ cond moved (candidateAt s k) (startBodyAt s k)) where
     weigh-turn : massResponse body ≡ weigh k
-    weigh-turn = ap massResponse (body-in (so .kept) (λ i a b. omega arith) (λ i a b. omega arith) moved n k h l eb)
+    weigh-turn = ap massResponse (body-in (so .kept) (λ i a b. omega arith) (λ i a b. omega arith) moved body-count k h l eb)
 
     pub weigh-again : {t : List Float} → Does (λ j. Out (MASSES + 10 * k) 10 j) s t (go (massAt t MASSES k)) (massResponse body) → Weighed (k + 1) t
     weigh-again {t} d = record {
@@ -155,17 +155,17 @@ module _ (moved : Bool) (n : ℕ) (s₀ : List Float) where
     }
 
     pub weigh-stops : {t : List Float} {f : Fault} → Does (λ j. Out (MASSES + 10 * k) 10 j) s t (stop f) (massResponse body)
-        → Does (Out MASSES MASS-TABLE) s₀ t (stop f) (prepareMasses (bodiesAt moved s₀ n))
+        → Does (Out MASSES MASS-TABLE) s₀ t (stop f) (prepareMasses (bodiesAt moved s₀ body-count))
     unfolding prepareMasses
     weigh-stops {t} d =
-        so-stop (λ s k. massAt s MASSES k) weigh s₀ k s so (Out MASSES MASS-TABLE) (λ i x. omega arith) (bodies-length moved s₀ n) h (d .kept)
+        so-stop (λ s k. massAt s MASSES k) weigh s₀ k s so (Out MASSES MASS-TABLE) (λ i x. omega arith) (bodies-length moved s₀ body-count) h (d .kept)
         (λ i x. omega arith) (d .is ∙ weigh-turn)
 
-  pub weigh-ends : (k : ℕ) (s : List Float) → Weighed k s → k ≤ n → n ≤ k → n ≤ 16
-      → Does (Out MASSES MASS-TABLE) s₀ s (go (massesAt s MASSES n)) (prepareMasses (bodiesAt moved s₀ n))
+  pub weigh-ends : (k : ℕ) (s : List Float) → Weighed k s → k ≤ body-count → body-count ≤ k → body-count ≤ 16
+      → Does (Out MASSES MASS-TABLE) s₀ s (go (massesAt s MASSES body-count)) (prepareMasses (bodiesAt moved s₀ body-count))
   unfolding prepareMasses
   weigh-ends k s so a b l =
-      so-end (λ s k. massAt s MASSES k) weigh s₀ k s so (Out MASSES MASS-TABLE) (λ i x. omega arith) n (bodies-length moved s₀ n) a b
+      so-end (λ s k. massAt s MASSES k) weigh s₀ k s so (Out MASSES MASS-TABLE) (λ i x. omega arith) body-count (bodies-length moved s₀ body-count) a b
 
 -- ---- mass_response
 pub mass-is : (body : MomentumBody) {turned : OptionMat3} {a b : Mat3} {f g h : Bool} → turned ≡ toMat3Of (body .rotation)
@@ -198,9 +198,9 @@ module _ (dt : Float) (body : MomentumBody) (kick : Generalized) {kicked : BodyA
   kick-fails h = fails (kicked .body) (kicked .outcome) eb h ∙ then-stop drifting (end-stops (kicked .body) (kicked .outcome) eb (answered e) h)
 
 -- ---- move_bodies
-module _ (dt : Float) (n : ℕ) (s₀ : List Float) where
+module _ (dt : Float) (body-count : ℕ) (s₀ : List Float) where
   abbrev move : ℕ → Result MomentumBody
-  move k = kickAndDrift dt (bodyIn (startBodiesAt s₀ n) k) (generalizedIn (generalizedsAt s₀ GENERALIZED n) k)
+  move k = kickAndDrift dt (bodyIn (startBodiesAt s₀ body-count) k) (generalizedIn (generalizedsAt s₀ GENERALIZED body-count) k)
 
   abbrev pub Moved : ℕ → List Float → Type 0
   Moved k s = Does (λ i. Out CANDIDATE (13 * k) i) s₀ s (go (candidatesAt s k)) (each k move)
@@ -208,13 +208,13 @@ module _ (dt : Float) (n : ℕ) (s₀ : List Float) where
   pub move-none : Moved 0 s₀
   move-none = so-none candidateAt move s₀ _
 
-  module _ (k : ℕ) (s : List Float) (so : Moved k s) (h : k < n) (l : n ≤ 16) {share : Generalized} {start : MomentumBody} {d : Result MomentumBody}
-      (eg : share ≡ generalizedAt s GENERALIZED k) (eb : start ≡ startBodyAt s k) (e : d ≡ kickAndDrift dt start share) where
+  module _ (k : ℕ) (s : List Float) (so : Moved k s) (h : k < body-count) (l : body-count ≤ 16) {share : Generalized} {start : MomentumBody}
+      {d : Result MomentumBody} (eg : share ≡ generalizedAt s GENERALIZED k) (eb : start ≡ startBodyAt s k) (e : d ≡ kickAndDrift dt start share) where
     move-turn : d ≡ move k
     move-turn =
-        let g : share ≡ generalizedIn (generalizedsAt s₀ GENERALIZED n) k = share-in (so .kept) GENERALIZED n k (λ i a b. omega arith) h eg in
-        let b : start ≡ bodyIn (startBodiesAt s₀ n) k = start-in (so .kept) n k (λ i a b. omega arith) h eb in
-        e ∙ ap (λ (x : MomentumBody). kickAndDrift dt x share) b ∙ ap (kickAndDrift dt (bodyIn (startBodiesAt s₀ n) k)) g
+        let g : share ≡ generalizedIn (generalizedsAt s₀ GENERALIZED body-count) k = share-in (so .kept) GENERALIZED body-count k (λ i a b. omega arith) h eg in
+        let b : start ≡ bodyIn (startBodiesAt s₀ body-count) k = start-in (so .kept) body-count k (λ i a b. omega arith) h eb in
+        e ∙ ap (λ (x : MomentumBody). kickAndDrift dt x share) b ∙ ap (kickAndDrift dt (bodyIn (startBodiesAt s₀ body-count) k)) g
 
     pub move-again : {t : List Float} {b : MomentumBody} → go b ≡ d
         → (Kept (λ j. Out (CANDIDATE + 13 * k) 13 j) s t) × (candidateAt t k ≡ movedTo b (startBodyAt s k)) → Moved (k + 1) t
@@ -224,17 +224,18 @@ module _ (dt : Float) (n : ℕ) (s₀ : List Float) where
         (st .1 ∙ drift-moved (startBodyAt s k) share dt (q ∙ e ∙ ap (λ (x : MomentumBody). kickAndDrift dt x share) eb)) (q ∙ move-turn)
 
     pub move-stops : {f : Fault} → stop f ≡ d
-        → Does (Out CANDIDATE STATES) s₀ s (stop f) (moveBodies dt (startBodiesAt s₀ n) (generalizedsAt s₀ GENERALIZED n))
+        → Does (Out CANDIDATE STATES) s₀ s (stop f) (moveBodies dt (startBodiesAt s₀ body-count) (generalizedsAt s₀ GENERALIZED body-count))
     unfolding moveBodies
     move-stops q =
-        so-stop candidateAt move s₀ k s so (Out CANDIDATE STATES) (λ i x. omega arith) (sym (tab-length n (startBodyAt s₀))) h
+        so-stop candidateAt move s₀ k s so (Out CANDIDATE STATES) (λ i x. omega arith) (sym (tab-length body-count (startBodyAt s₀))) h
         (kept-refl (Out CANDIDATE STATES) s) (λ i x. x) (q ∙ move-turn)
 
-  pub move-ends : (k : ℕ) (s : List Float) → Moved k s → k ≤ n → n ≤ k → n ≤ 16
-      → Does (Out CANDIDATE STATES) s₀ s (go (candidatesAt s n)) (moveBodies dt (startBodiesAt s₀ n) (generalizedsAt s₀ GENERALIZED n))
+  pub move-ends : (k : ℕ) (s : List Float) → Moved k s → k ≤ body-count → body-count ≤ k → body-count ≤ 16
+      → Does (Out CANDIDATE STATES) s₀ s (go (candidatesAt s body-count))
+      (moveBodies dt (startBodiesAt s₀ body-count) (generalizedsAt s₀ GENERALIZED body-count))
   unfolding moveBodies
   move-ends k s so a b l =
-      so-end candidateAt move s₀ k s so (Out CANDIDATE STATES) (λ i x. omega arith) n (sym (tab-length n (startBodyAt s₀))) a b
+      so-end candidateAt move s₀ k s so (Out CANDIDATE STATES) (λ i x. omega arith) body-count (sym (tab-length body-count (startBodyAt s₀))) a b
 
 -- ---- rows_met and fill_rhs
 -- one more
@@ -309,12 +310,12 @@ module _ (n : ℕ) (s₀ : List Float) where
       (sym (tab-length n (λ j. at s₀ (IMPULSES + j)))) a b
 
 -- ---- make_states
-module _ (bodies : List Float) (n : ℕ) (s₀ : List Float) where
+module _ (bodies : List Float) (body-count : ℕ) (s₀ : List Float) where
   abbrev old : ℕ → RigidBody → BodyState
   old k b = stateWith (b .origin) (b .rotation) (b .«linear_velocity») (b .«angular_velocity»)
 
   abbrev stating : ℕ → Result BodyState
-  stating k = stateOf (bodyIn (candidatesAt s₀ n) k) (old k (recordIn (recordsOf bodies) k))
+  stating k = stateOf (bodyIn (candidatesAt s₀ body-count) k) (old k (recordIn (recordsOf bodies) k))
 
   abbrev pub Stated : ℕ → List Float → Type 0
   Stated k s = Does (λ i. Out CANDIDATE (13 * k) i) s₀ s (go (statesAt s k)) (each k stating)
@@ -322,13 +323,13 @@ module _ (bodies : List Float) (n : ℕ) (s₀ : List Float) where
   pub state-none : Stated 0 s₀
   state-none = so-none (λ s k. stateAt s (CANDIDATE + 13 * k)) stating s₀ _
 
-  module _ (k : ℕ) (s : List Float) (so : Stated k s) (h : k < n) (l : n ≤ 16) (g : n ≤ bodyCount bodies) {body : MomentumBody} {d : Result BodyState}
-      (eb : body ≡ candidateAt s k) (e : d ≡ stateOf body (stateAt bodies (26 * k))) where
+  module _ (k : ℕ) (s : List Float) (so : Stated k s) (h : k < body-count) (l : body-count ≤ 16) (g : body-count ≤ bodyCount bodies)
+      {body : MomentumBody} {d : Result BodyState} (eb : body ≡ candidateAt s k) (e : d ≡ stateOf body (stateAt bodies (26 * k))) where
     state-turn : d ≡ stating k
     state-turn =
-        let b : body ≡ bodyIn (candidatesAt s₀ n) k = candidate-in (so .kept) n k (λ i x y. omega arith) (λ i x y. omega arith) h eb in
+        let b : body ≡ bodyIn (candidatesAt s₀ body-count) k = candidate-in (so .kept) body-count k (λ i x y. omega arith) (λ i x y. omega arith) h eb in
         e ∙ ap (λ (x : MomentumBody). stateOf x (stateAt bodies (26 * k))) b ∙ ap
-        (λ (x : RigidBody). stateOf (bodyIn (candidatesAt s₀ n) k) (old k x))
+        (λ (x : RigidBody). stateOf (bodyIn (candidatesAt s₀ body-count) k) (old k x))
         (sym (tab-at (bodyCount bodies) (recordAt bodies) noRecord k (omega arith)))
 
     pub state-again : {t : List Float} {state : BodyState} → go state ≡ d
@@ -338,15 +339,15 @@ module _ (bodies : List Float) (n : ℕ) (s₀ : List Float) where
         (λ i x. omega arith)
         (λ i g. kept-state (st .0) (CANDIDATE + 13 * i) (λ j a c. omega arith)) (st .1) (q ∙ state-turn)
 
-    pub state-stops : {f : Fault} → stop f ≡ d → Does (Out CANDIDATE STATES) s₀ s (stop f) (statesOf (recordsOf bodies) (candidatesAt s₀ n))
+    pub state-stops : {f : Fault} → stop f ≡ d → Does (Out CANDIDATE STATES) s₀ s (stop f) (statesOf (recordsOf bodies) (candidatesAt s₀ body-count))
     unfolding statesOf
     state-stops q =
         so-stop (λ s k. stateAt s (CANDIDATE + 13 * k)) stating s₀ k s so (Out CANDIDATE STATES) (λ i x. omega arith)
-        (sym (tab-length n (candidateAt s₀))) h (kept-refl (Out CANDIDATE STATES) s) (λ i x. x) (q ∙ state-turn)
+        (sym (tab-length body-count (candidateAt s₀))) h (kept-refl (Out CANDIDATE STATES) s) (λ i x. x) (q ∙ state-turn)
 
-  pub state-ends : (k : ℕ) (s : List Float) → Stated k s → k ≤ n → n ≤ k → n ≤ 16
-      → Does (Out CANDIDATE STATES) s₀ s (go (statesAt s n)) (statesOf (recordsOf bodies) (candidatesAt s₀ n))
+  pub state-ends : (k : ℕ) (s : List Float) → Stated k s → k ≤ body-count → body-count ≤ k → body-count ≤ 16
+      → Does (Out CANDIDATE STATES) s₀ s (go (statesAt s body-count)) (statesOf (recordsOf bodies) (candidatesAt s₀ body-count))
   unfolding statesOf
   state-ends k s so a b l =
-      so-end (λ s k. stateAt s (CANDIDATE + 13 * k)) stating s₀ k s so (Out CANDIDATE STATES) (λ i x. omega arith) n
-      (sym (tab-length n (candidateAt s₀))) a b
+      so-end (λ s k. stateAt s (CANDIDATE + 13 * k)) stating s₀ k s so (Out CANDIDATE STATES) (λ i x. omega arith) body-count
+      (sym (tab-length body-count (candidateAt s₀))) a b

@@ -10,7 +10,7 @@ use lib.Ieee.{Float, ofBits, round}
 use Rattle.arith.specs.Real.{F, ratio, isFinite, absOf, _⊕_}
 use Rattle.arith.specs.Flow.{Turn, go, stop, _>>=_, each, every}
 use Rattle.arith.specs.FlowLaws.{then-go, then-stop, every-fail, every-end}
-use Rattle.arith.specs.Run.{ran, leave, upTo}
+use Rattle.arith.specs.Run.{ran, leave}
 use Rattle.arith.specs.RunLaws.{over}
 use Rattle.vectors.specs.declared.vector.Vec3.{Vec3}
 use Rattle.vectors.specs.declared.vector.OptionVec3.{OptionVec3}
@@ -18,7 +18,7 @@ use Rattle.vectors.specs.declared.vector.OptionVec3.the-variants.{Some, None}
 use Rattle.vectors.specs.Vector.{dotOf, divOf}
 use Rattle.rows.specs.declared.body.MomentumBody.{MomentumBody}
 use Rattle.rows.specs.declared.geometry.EqualityRow.{EqualityRow}
-use Rattle.rows.specs.Fault.{Fault, nonConvergent, arithmeticOverflow, Result, vectorOr}
+use Rattle.rows.specs.Fault.{Fault, arithmeticOverflow, Result, vectorOr}
 use Rattle.rows.specs.Body.{omegaOf, kickOf}
 use Rattle.rows.specs.View.{at, Out, Kept}
 use Rattle.rows.specs.Region.{tab-length, kept-refl, kept-set}
@@ -26,20 +26,18 @@ use Rattle.rows.specs.AnswerLaws.{vector-go, vector-stop}
 use Rattle.solves.specs.declared.places.Generalized.{Generalized}
 use Rattle.solves.specs.Solver.{rowIn, generalizedIn, transpose}
 use Rattle.rows.specs.declared.End.{End}
-use Rattle.solves.specs.declared.Ended.{Ended}
 use Rattle.solves.specs.declared.Table.{Table}
 use Rattle.solves.specs.System.{Counting}
 use Rattle.solves.specs.Search.{linearSolve}
-use Rattle.solves.specs.Answer.{ranAs, isDone, endedAs}
+use Rattle.solves.specs.Answer.{ranAs, isDone}
 use Rattle.solves.specs.Region.{vecAt, Does}
-use Rattle.solves.specs.View.{RHS, SOLUTION, GENERALIZED, Rows, Shares, Work, Beside, rowOn, rowsOn, generalizedAt, generalizedsAt, sharesIn, systemOn}
+use Rattle.solves.specs.View.{RHS, SOLUTION, GENERALIZED, Rows, Shares, Beside, rowOn, rowsOn, generalizedAt, generalizedsAt, sharesIn, systemOn}
 use Rattle.solves.specs.ViewLaws.{row-in, share-in, system-kept}
 use Rattle.solves.specs.DoesLaws.{number-yes, number-no, does-stop, does-then, does-eq, does-is, does-more}
 use Rattle.step.specs.Layout.{IMPULSES, CANDIDATE, STATES}
 use Rattle.step.specs.Bodies.{Job, bodyIn, velocityOf, velocityRhs, compatibleOf, kickBodies, reactionOf}
-use Rattle.step.specs.Step.{velocityPass, velocityLoop}
-use Rattle.step.specs.RunView.{MotionOf, MotionAt, Remembers, Correcting, passedAs, passedAfter, correction}
-use Rattle.step.specs.declared.passes.Passed.{Passed}
+use Rattle.step.specs.Step.{correction, velocityPass}
+use Rattle.step.specs.RunView.{MotionOf, MotionAt, Remembers, Correcting}
 use Rattle.solves.specs.RegionLaws.{vec-at}
 use Rattle.step.specs.View.{startBodyAt, candidateAt, candidatesAt, movedTo}
 use Rattle.step.specs.ViewLaws.{kept-candidate, kept-candidates}
@@ -47,7 +45,7 @@ use Rattle.step.specs.declared.velocity.Motion.{Motion}
 use Rattle.step.proofs.FrameLaws.{candidate-in}
 use Rattle.step.proofs.EachLaws.{so-none, so-more, so-put, so-stop, so-end}
 use Rattle.step.proofs.MotionLaws.{kick-moved}
-use Rattle.step.proofs.PassLaws.{unsolved, made, pass-fails, pass-met, pass-corrects}
+use Rattle.step.proofs.PassLaws.{pass-fails, pass-met, pass-corrects}
 
 -- velocity: the rate of a row from the motions of its bodies
 module _ (row : EqualityRow) (x y : MomentumBody) {a b : Motion} (ma : MotionOf x a) (mb : MotionOf y b) where
@@ -108,63 +106,65 @@ motion-remembered {s} {j} {m} k v l known = record { moves = λ h. subst (λ (bo
     same h = kept-candidate (kept-set s (RHS + k) v) (m .body) (λ i p q. omega arith) (λ i p q. omega arith)
 
 -- velocity_rhs
-module _ (ia ib : List ℕ) (place n bodies : ℕ) (s₀ : List Float) where
+module _ (ia ib : List ℕ) (place n body-count : ℕ) (s₀ : List Float) where
   abbrev oppose : ℕ → Result Float
   oppose k =
-      velocityOf (rowIn (rowsOn ia ib s₀ place n) k) (bodyIn (candidatesAt s₀ bodies) (rowIn (rowsOn ia ib s₀ place n) k .a))
-      (bodyIn (candidatesAt s₀ bodies) (rowIn (rowsOn ia ib s₀ place n) k .b)) >>= λ (value : Float). go (Ieee.neg value)
+      velocityOf (rowIn (rowsOn ia ib s₀ place n) k) (bodyIn (candidatesAt s₀ body-count) (rowIn (rowsOn ia ib s₀ place n) k .a))
+      (bodyIn (candidatesAt s₀ body-count) (rowIn (rowsOn ia ib s₀ place n) k .b)) >>= λ (value : Float). go (Ieee.neg value)
 
   abbrev pub Opposed : ℕ → List Float → Type 0
   Opposed k s = Does (Beside RHS) s₀ s (go (vecAt s RHS k)) (each k oppose)
 
-module _ {s₀ : List Float} {ia ib : List ℕ} {place n bodies : ℕ} (pre : Rows s₀ ia ib place n bodies) where
+module _ {s₀ : List Float} {ia ib : List ℕ} {place n body-count : ℕ} (pre : Rows s₀ ia ib place n body-count) where
   abbrev R : List EqualityRow
   R = rowsOn ia ib s₀ place n
 
   abbrev C : List MomentumBody
-  C = candidatesAt s₀ bodies
+  C = candidatesAt s₀ body-count
 
-  pub rhs-none : Opposed ia ib place n bodies s₀ 0 s₀
-  rhs-none = so-none (λ s k. at s (RHS + k)) (oppose ia ib place n bodies s₀) s₀ _
+  pub rhs-none : Opposed ia ib place n body-count s₀ 0 s₀
+  rhs-none = so-none (λ s k. at s (RHS + k)) (oppose ia ib place n body-count s₀) s₀ _
 
   -- a loaded row is on bodies of the list
   module _ {k : ℕ} (h : k < n) (s : List Float) {row : EqualityRow} (er : row ≡ rowOn ia ib s place k) where
-    pub row-a : row .a < bodies
-    row-a = subst (λ (q : EqualityRow). q .a < bodies) (sym er) (pre .a-there k h)
+    pub row-a : row .a < body-count
+    row-a = subst (λ (q : EqualityRow). q .a < body-count) (sym er) (pre .a-there k h)
 
-    pub row-b : row .b < bodies
-    row-b = subst (λ (q : EqualityRow). q .b < bodies) (sym er) (pre .b-there k h)
+    pub row-b : row .b < body-count
+    row-b = subst (λ (q : EqualityRow). q .b < body-count) (sym er) (pre .b-there k h)
 
-  module _ {k : ℕ} {s : List Float} {row : EqualityRow} (so : Opposed ia ib place n bodies s₀ k s) (h : k < n) (er : row ≡ rowOn ia ib s place k) where
+  module _ {k : ℕ} {s : List Float} {row : EqualityRow} (so : Opposed ia ib place n body-count s₀ k s) (h : k < n) (er : row ≡ rowOn ia ib s place k) where
     rhs-turn : velocityOf row (candidateAt s (row .a)) (candidateAt s (row .b)) ≡ velocityOf (rowIn R k) (bodyIn C (rowIn R k .a)) (bodyIn C (rowIn R k .b))
     rhs-turn =
         let x : row ≡ rowIn R k = row-in (so .kept) ia ib place n k (λ i p q. omega (arith, pre .most, pre .table)) h er in
-        let la : row .a < bodies = row-a h s er in
-        let lb : row .b < bodies = row-b h s er in
-        let most : bodies ≤ 16 = pre .bodies in
-        let y : candidateAt s (row .a) ≡ bodyIn C (row .a) = candidate-in (so .kept) bodies (row .a) (λ i p q. omega arith) (λ i p q. omega arith) la refl in
-        let z : candidateAt s (row .b) ≡ bodyIn C (row .b) = candidate-in (so .kept) bodies (row .b) (λ i p q. omega arith) (λ i p q. omega arith) lb refl in
+        let la : row .a < body-count = row-a h s er in
+        let lb : row .b < body-count = row-b h s er in
+        let most : body-count ≤ 16 = pre .bodies in
+        let y : candidateAt s (row .a) ≡ bodyIn C (row .a) = candidate-in (so .kept) body-count (row .a)
+        (λ i p q. omega arith) (λ i p q. omega arith) la refl in
+        let z : candidateAt s (row .b) ≡ bodyIn C (row .b) = candidate-in (so .kept) body-count (row .b)
+        (λ i p q. omega arith) (λ i p q. omega arith) lb refl in
         cc
 
     pub rhs-again : {v : Float} → go v ≡ velocityOf row (candidateAt s (row .a)) (candidateAt s (row .b))
-        → Opposed ia ib place n bodies s₀ (k + 1) (set s (RHS + k) (Ieee.neg v))
+        → Opposed ia ib place n body-count s₀ (k + 1) (set s (RHS + k) (Ieee.neg v))
     rhs-again {v} e =
-        so-put RHS (oppose ia ib place n bodies s₀) s₀ k s so (Beside RHS) (λ i x. x) (Ieee.neg v) (λ i x. omega (arith, pre .most))
+        so-put RHS (oppose ia ib place n body-count s₀) s₀ k s so (Beside RHS) (λ i x. x) (Ieee.neg v) (λ i x. omega (arith, pre .most))
         (omega (arith, pre .most, pre .whole, so .kept .size)) (then-go _ (e ∙ rhs-turn))
 
     pub rhs-stops : stop arithmeticOverflow ≡ velocityOf row (candidateAt s (row .a)) (candidateAt s (row .b))
         → Does (Beside RHS) s₀ s (stop arithmeticOverflow) (velocityRhs R C)
     unfolding velocityRhs
     rhs-stops e =
-        so-stop (λ s k. at s (RHS + k)) (oppose ia ib place n bodies s₀) s₀ k s so (Beside RHS) (λ i x. x) (sym (tab-length n (rowOn ia ib s₀ place)))
+        so-stop (λ s k. at s (RHS + k)) (oppose ia ib place n body-count s₀) s₀ k s so (Beside RHS) (λ i x. x) (sym (tab-length n (rowOn ia ib s₀ place)))
         h
         (kept-refl (Beside RHS) s) (λ i x. x) (then-stop _ (e ∙ rhs-turn))
 
-  pub rhs-ends : {k : ℕ} {s : List Float} → Opposed ia ib place n bodies s₀ k s → k ≤ n → n ≤ k
+  pub rhs-ends : {k : ℕ} {s : List Float} → Opposed ia ib place n body-count s₀ k s → k ≤ n → n ≤ k
       → Does (Beside RHS) s₀ s (go (vecAt s RHS n)) (velocityRhs R C)
   unfolding velocityRhs
   rhs-ends {k} {s} so a b =
-      so-end (λ s k. at s (RHS + k)) (oppose ia ib place n bodies s₀) s₀ k s so (Beside RHS) (λ i x. x) n (sym (tab-length n (rowOn ia ib s₀ place)))
+      so-end (λ s k. at s (RHS + k)) (oppose ia ib place n body-count s₀) s₀ k s so (Beside RHS) (λ i x. x) n (sym (tab-length n (rowOn ia ib s₀ place)))
       a b
 
 -- compatible
@@ -190,12 +190,12 @@ module _ (s : List Float) (n : ℕ) where
   compatible-ends a b e = every-end small a b e ∙ ap (λ (m : ℕ). every m small) (sym (tab-length n (λ j. at s (RHS + j))))
 
 -- kick_candidates
-module _ (s₀ : List Float) (bodies : ℕ) where
+module _ (s₀ : List Float) (body-count : ℕ) where
   abbrev B : List MomentumBody
-  B = candidatesAt s₀ bodies
+  B = candidatesAt s₀ body-count
 
   abbrev G : List Generalized
-  G = generalizedsAt s₀ GENERALIZED bodies
+  G = generalizedsAt s₀ GENERALIZED body-count
 
   abbrev kick : ℕ → Result MomentumBody
   kick k = kickOf (bodyIn B k) (generalizedIn G k .linear) (generalizedIn G k .angular)
@@ -206,12 +206,13 @@ module _ (s₀ : List Float) (bodies : ℕ) where
   pub kick-none : Kicked 0 s₀
   kick-none = so-none candidateAt kick s₀ _
 
-  module _ {k : ℕ} {s : List Float} (so : Kicked k s) (h : k < bodies) (most : bodies ≤ 16) {share : Generalized} {old : MomentumBody} {d : Result MomentumBody}
-      (es : share ≡ generalizedAt s GENERALIZED k) (eo : old ≡ candidateAt s k) (e : d ≡ kickOf old (share .linear) (share .angular)) where
+  module _ {k : ℕ} {s : List Float} (so : Kicked k s) (h : k < body-count) (most : body-count ≤ 16) {share : Generalized} {old : MomentumBody}
+      {d : Result MomentumBody} (es : share ≡ generalizedAt s GENERALIZED k) (eo : old ≡ candidateAt s k)
+      (e : d ≡ kickOf old (share .linear) (share .angular)) where
     kick-turn : d ≡ kick k
     kick-turn =
-        let a : share ≡ generalizedIn G k = share-in (so .kept) GENERALIZED bodies k (λ i x y. omega arith) h es in
-        let b : old ≡ bodyIn B k = candidate-in (so .kept) bodies k (λ i x y. omega arith) (λ i x y. omega arith) h eo in
+        let a : share ≡ generalizedIn G k = share-in (so .kept) GENERALIZED body-count k (λ i x y. omega arith) h es in
+        let b : old ≡ bodyIn B k = candidate-in (so .kept) body-count k (λ i x y. omega arith) (λ i x y. omega arith) h eo in
         cc
 
     pub kick-again : {t : List Float} {b : MomentumBody} → go b ≡ d
@@ -225,14 +226,14 @@ module _ (s₀ : List Float) (bodies : ℕ) where
     pub kick-stops : {f : Fault} → stop f ≡ d → Does (Out CANDIDATE STATES) s₀ s (stop f) (kickBodies B G)
     unfolding kickBodies
     kick-stops q =
-        so-stop candidateAt kick s₀ k s so (Out CANDIDATE STATES) (λ i x. omega arith) (sym (tab-length bodies (candidateAt s₀))) h
+        so-stop candidateAt kick s₀ k s so (Out CANDIDATE STATES) (λ i x. omega arith) (sym (tab-length body-count (candidateAt s₀))) h
         (kept-refl (Out CANDIDATE STATES) s) (λ i x. x) (q ∙ kick-turn)
 
-  pub kick-ends : {k : ℕ} {s : List Float} → Kicked k s → k ≤ bodies → bodies ≤ k → bodies ≤ 16
-      → Does (Out CANDIDATE STATES) s₀ s (go (candidatesAt s bodies)) (kickBodies B G)
+  pub kick-ends : {k : ℕ} {s : List Float} → Kicked k s → k ≤ body-count → body-count ≤ k → body-count ≤ 16
+      → Does (Out CANDIDATE STATES) s₀ s (go (candidatesAt s body-count)) (kickBodies B G)
   unfolding kickBodies
   kick-ends {k} {s} so a b most =
-      so-end candidateAt kick s₀ k s so (Out CANDIDATE STATES) (λ i x. omega arith) bodies (sym (tab-length bodies (candidateAt s₀))) a b
+      so-end candidateAt kick s₀ k s so (Out CANDIDATE STATES) (λ i x. omega arith) body-count (sym (tab-length body-count (candidateAt s₀))) a b
 
 -- apply
 module _ {s : List Float} {ia ib : List ℕ} (table : Table) (pre : Rows s ia ib (table .place) (table .rows) (table .bodies))
@@ -267,7 +268,7 @@ module _ {s : List Float} {ia ib : List ℕ} (table : Table) (pre : Rows s ia ib
             (kept-candidates (d .kept) (table .bodies) (λ i p q. omega (arith, pre .bodies)) (λ i p q. omega (arith, pre .bodies)));
       })
 
--- correct_velocities and velocity_pass: what the velocity loop reads beside the candidates stays
+-- velocity_pass: what the velocity loop reads beside the candidates stays
 module _ {P : ℕ → Type 0} {s t : List Float} (kept : Kept P s t) {ia ib : List ℕ} (table : Table)
     (pre : Rows s ia ib (table .place) (table .rows) (table .bodies)) where
   pub same-system : ((i : ℕ) → Correcting i → P i) → systemOn ia ib t table ≡ systemOn ia ib s table
@@ -276,15 +277,11 @@ module _ {P : ℕ → Type 0} {s t : List Float} (kept : Kept P s t) {ia ib : Li
   pub same-candidates : ((i : ℕ) → (Out RHS (IMPULSES - RHS) i) → P i) → candidatesAt t (table .bodies) ≡ candidatesAt s (table .bodies)
   same-candidates w = kept-candidates kept (table .bodies) (λ i a b. w i (omega (arith, pre .bodies))) (λ i a b. w i (omega (arith, pre .bodies)))
 
--- the pass of a table
-abbrev pub passOver : Job → List ℕ → List ℕ → Table → List Float → List MomentumBody → Counting (Turn (List MomentumBody) (List MomentumBody))
-passOver job ia ib table s = velocityPass job (systemOn ia ib s table)
-
 module _ (job : Job) {s : List Float} {ia ib : List ℕ} (table : Table) (pre : Rows s ia ib (table .place) (table .rows) (table .bodies))
     {t : List Float} (r : End) (d : Does (Beside RHS) s t (ranAs r (vecAt t RHS (table .rows)))
     (velocityRhs (rowsOn ia ib s (table .place) (table .rows)) (candidatesAt s (table .bodies)))) {b : Bool} (eb : b ≡ isDone r) where
   abbrev turn : Counting (Turn (List MomentumBody) (List MomentumBody))
-  turn = passOver job ia ib table s (candidatesAt s (table .bodies))
+  turn = velocityPass job (systemOn ia ib s table) (candidatesAt s (table .bodies))
 
   within : Does Correcting s t (ranAs r (vecAt t RHS (table .rows)))
       (velocityRhs (rowsOn ia ib s (table .place) (table .rows)) (candidatesAt s (table .bodies)))
@@ -309,35 +306,3 @@ module _ (job : Job) {s : List Float} {ia ib : List ℕ} (table : Table) (pre : 
         (does-is e (λ j. correction (linearSolve (job .cyclic) (same-system (d .kept) table pre (λ i x. omega (arith, x .0)) j) (vecAt t RHS (table .rows)))
         (reactionOf (same-system (d .kept) table pre (λ i x. omega (arith, x .0)) j .rows)
         (same-candidates (d .kept) table pre (λ i x. omega (arith, x)) j))))
-
--- velocity_loop: the pass is over the same system, however far the loop has come
-pub same-pass : (job : Job) {s : List Float} {ia ib : List ℕ} (table : Table) → Rows s ia ib (table .place) (table .rows) (table .bodies)
-    → (t : List Float) → Kept Correcting s t → passOver job ia ib table t ≡ passOver job ia ib table s
-same-pass job table pre t kept = ap (velocityPass job) (same-system kept table pre (λ i x. x))
-
-pub rests : (job : Job) (ia ib : List ℕ) (table : Table) {P : ℕ → Type 0} {s t : List Float} {x : Counting (List MomentumBody)}
-    → Does P s t x (upTo 3 nonConvergent (passOver job ia ib table s) (candidatesAt s (table .bodies)))
-    → Does P s t x (velocityLoop job (systemOn ia ib s table) (candidatesAt s (table .bodies)))
-unfolding velocityLoop
-rests job ia ib table d = d
-
--- correct_velocities
-module _ (job : Job) {s s₁ : List Float} {ia ib : List ℕ} (table : Table) (pre : Rows s ia ib (table .place) (table .rows) (table .bodies)) (r : Ended)
-    (d : Does Work s s₁ (endedAs r (vecAt s₁ SOLUTION (table .rows))) (linearSolve (job .cyclic) (systemOn ia ib s table) (vecAt s RHS (table .rows))))
-    {b : Bool} (eb : b ≡ isDone (r .end)) where
-  abbrev react : List Float → Result (List MomentumBody)
-  react = reactionOf (systemOn ia ib s table .rows) (candidatesAt s (table .bodies))
-
-  abbrev Corrects : Passed → List Float → Type 0
-  Corrects p u = Does Correcting s u (passedAs 0 p (candidatesAt u (table .bodies)) (candidatesAt u (table .bodies)))
-      (correction (linearSolve (job .cyclic) (systemOn ia ib s table) (vecAt s RHS (table .rows))) react)
-
-  pub rest-unsolved : {p : Passed} → not b ≡ true → p ≡ passedAfter (r .end) (r .linear) → Corrects p s₁
-  rest-unsolved h = unsolved react r _ (does-more (λ i x. omega (arith, x .0)) d) eb _ _ h
-
-  pub rest-kicked : {p : Passed} → not b ≡ false → {s₂ : List Float} (q : End) → Does Correcting s₁ s₂ (ranAs q (candidatesAt s₂ (table .bodies)))
-      (reactionOf (systemOn ia ib s₁ table .rows) (candidatesAt s₁ (table .bodies)) (vecAt s₁ SOLUTION (table .rows)))
-      → p ≡ passedAfter q (r .linear) → Corrects p s₂
-  rest-kicked h q e = made react r _ (does-more (λ i x. omega (arith, x .0)) d) eb _ h _ q (does-is e (λ j.
-      reactionOf (same-system (d .kept) table pre (λ i x. omega (arith, x .0)) j .rows)
-      (same-candidates (d .kept) table pre (λ i x. omega (arith, x)) j) (vecAt s₁ SOLUTION (table .rows))))

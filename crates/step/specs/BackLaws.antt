@@ -83,22 +83,22 @@ module _ (bodies : List Float) (states : List BodyState) where
   back-state k l = state-is (handBack bodies states) (RECORD * k) (stateIn states k) (λ j h. back-new k j (omega arith) h)
 
 -- what the code wrote into the records is what the step hands back
-pub handed-back : (n : ℕ) (s : List Float) {bodies after : List Float} → n ≡ bodyCount bodies → length bodies % RECORD ≡ 0 → Handed n s bodies after
-    → after ≡ handBack bodies (statesAt s n)
-handed-back n s {bodies} {after} e w h =
-    ext-getD nan after (handBack bodies (statesAt s n)) (h .kept .size ∙ sym (back-length bodies (statesAt s n))) same
+pub handed-back : (body-count : ℕ) (s : List Float) {bodies after : List Float} → body-count ≡ bodyCount bodies → length bodies % RECORD ≡ 0
+    → Handed body-count s bodies after → after ≡ handBack bodies (statesAt s body-count)
+handed-back body-count s {bodies} {after} e w h =
+    ext-getD nan after (handBack bodies (statesAt s body-count)) (h .kept .size ∙ sym (back-length bodies (statesAt s body-count))) same
   where
-    in-record : (k j : ℕ) → k < n → RECORD * k + j < length bodies → j < RECORD → Dec (j < MOVING)
-        → at after (RECORD * k + j) ≡ at (handBack bodies (statesAt s n)) (RECORD * k + j)
+    in-record : (k j : ℕ) → k < body-count → RECORD * k + j < length bodies → j < RECORD → Dec (j < MOVING)
+        → at after (RECORD * k + j) ≡ at (handBack bodies (statesAt s body-count)) (RECORD * k + j)
     in-record k j l m b (yes a) =
         handed-new h k l j a ∙ sym (doubles-at s (CANDIDATE + MOVING * k) j a)
-        ∙ ap (λ (t : BodyState). at (stateDoubles t) j) (sym (tab-at n (λ i. stateAt s (CANDIDATE + MOVING * i)) noState k l))
-        ∙ sym (back-new bodies (statesAt s n) k j m a)
-    in-record k j l m b (no a) = handed-old h k l j (omega arith) b ∙ sym (back-old bodies (statesAt s n) k j m (omega arith) b)
+        ∙ ap (λ (t : BodyState). at (stateDoubles t) j) (sym (tab-at body-count (λ i. stateAt s (CANDIDATE + MOVING * i)) noState k l))
+        ∙ sym (back-new bodies (statesAt s body-count) k j m a)
+    in-record k j l m b (no a) = handed-old h k l j (omega arith) b ∙ sym (back-old bodies (statesAt s body-count) k j m (omega arith) b)
 
-    same : (i : ℕ) → i < length after → at after i ≡ at (handBack bodies (statesAt s n)) i
+    same : (i : ℕ) → i < length after → at after i ≡ at (handBack bodies (statesAt s body-count)) i
     same i l =
         let size : length after ≡ length bodies = h .kept .size in
         let q : RECORD * (i / RECORD) + i % RECORD ≡ i = omega arith in
-        subst (λ (m : ℕ). at after m ≡ at (handBack bodies (statesAt s n)) m) q
+        subst (λ (m : ℕ). at after m ≡ at (handBack bodies (statesAt s body-count)) m) q
         (in-record (i / RECORD) (i % RECORD) (omega arith) (omega arith) (omega arith) (decLt (i % RECORD) MOVING))

@@ -95,28 +95,28 @@ module _ (doubles count : ℕ) (dt : Float) (scratch : ℕ) {r : Outcome} (next 
         room = ltb-false _ _ (p₄ .0);
       }
 
-module _ (bodies : List Float) (n : ℕ) {r : Outcome} (next : Outcome) (e : r ≡ bodiesOr bodies n Accepted) where
-  pub bodies-stop : (r ≡ Accepted → ⊥) → r ≡ bodiesOr bodies n next
+module _ (bodies : List Float) (body-count : ℕ) {r : Outcome} (next : Outcome) (e : r ≡ bodiesOr bodies body-count Accepted) where
+  pub bodies-stop : (r ≡ Accepted → ⊥) → r ≡ bodiesOr bodies body-count next
   unfolding bodiesOr
   bodies-stop h =
       onward (not (every (length bodies) (λ k. isFinite (at bodies k)))) NotFinite
-      (onward (not (every n (λ k. bodyInRange (recordAt bodies k)))) OutOfRange
-      (onward (not (every n (λ k. hasInverse (recordAt bodies k)))) Inertia (λ q. absurd (h q)))) e
+      (onward (not (every body-count (λ k. bodyInRange (recordAt bodies k)))) OutOfRange
+      (onward (not (every body-count (λ k. hasInverse (recordAt bodies k)))) Inertia (λ q. absurd (h q)))) e
 
-  pub bodies-go : r ≡ Accepted → {o : Outcome} → o ≡ next → o ≡ bodiesOr bodies n next
+  pub bodies-go : r ≡ Accepted → {o : Outcome} → o ≡ next → o ≡ bodiesOr bodies body-count next
   unfolding bodiesOr
   bodies-go h q =
       through (not (every (length bodies) (λ k. isFinite (at bodies k)))) NotFinite (omega arith) h
-      (through (not (every n (λ k. bodyInRange (recordAt bodies k)))) OutOfRange (omega arith) h
-      (through (not (every n (λ k. hasInverse (recordAt bodies k)))) Inertia (omega arith) h (λ _. q))) e
+      (through (not (every body-count (λ k. bodyInRange (recordAt bodies k)))) OutOfRange (omega arith) h
+      (through (not (every body-count (λ k. hasInverse (recordAt bodies k)))) Inertia (omega arith) h (λ _. q))) e
 
-module _ (n : ℕ) (joint : Joint) (e : joinsTwo n joint ≡ true) where
-  there : ((ltb (joint .«body_a») n && ltb (joint .«body_b») n) ≡ true) × (not (eqb (joint .«body_a») (joint .«body_b»)) ≡ true)
-  there = both (ltb (joint .«body_a») n && ltb (joint .«body_b») n) (not (eqb (joint .«body_a») (joint .«body_b»))) e
+module _ (body-count : ℕ) (joint : Joint) (e : joinsTwo body-count joint ≡ true) where
+  there : ((ltb (joint .«body_a») body-count && ltb (joint .«body_b») body-count) ≡ true) × (not (eqb (joint .«body_a») (joint .«body_b»)) ≡ true)
+  there = both (ltb (joint .«body_a») body-count && ltb (joint .«body_b») body-count) (not (eqb (joint .«body_a») (joint .«body_b»))) e
 
-  two : (joint .«body_a» < n) × (joint .«body_b» < n)
+  two : (joint .«body_a» < body-count) × (joint .«body_b» < body-count)
   two =
-      let p = both (ltb (joint .«body_a») n) (ltb (joint .«body_b») n) (there .0) in
+      let p = both (ltb (joint .«body_a») body-count) (ltb (joint .«body_b») body-count) (there .0) in
       (ltb-true _ _ (p .0), ltb-true _ _ (p .1))
 
   different : joint .«body_a» ≡ joint .«body_b» → ⊥

@@ -1,6 +1,6 @@
 -- Definitions that a reader must believe: Records, Checks, Bodies, Step, and Answered, which cites rows/specs/ExactGeometry. Words passes names on.
 -- The contracts inside the crate are said with the places of Layout, with View and RunView (where the scratch holds what, and how the code's answers
--- are read), Says (of the two loops), SettleView (of `settle` and `solve_in`) and Joined, what a run requires. The Laws are for proofs.
+-- are read), Says (of the two loops), ConcludeView (of `conclude` and `solve_in`) and Joined, what a run requires. The Laws are for proofs.
 pub mod Words
 pub mod Layout
 pub mod Records
@@ -11,7 +11,7 @@ pub mod Joined
 pub mod Step
 pub mod RunView
 pub mod Says
-pub mod SettleView
+pub mod ConcludeView
 pub mod CheckLaws
 pub mod NumberLaws
 pub mod ViewLaws

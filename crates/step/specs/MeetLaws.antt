@@ -39,7 +39,7 @@ use Rattle.step.specs.Checks.{numberOf, withinOf, massInRange, bodyInRan
 use Rattle.step.specs.CheckLaws.{Unrefused, number-zero, refused-number, accepted}
 use Rattle.step.specs.NumberLaws.{motions-finite, within-table}
 use Rattle.step.specs.Bodies.{bodyIn, recordIn, stateIn, jointRows, writeRows, rowsMet, statesOf}
-use Rattle.step.specs.Step.{Stepped, stepped, faultOutcome, grounded, handBack, cleared, settledAs, settled, jobOf, runFor, solveOf}
+use Rattle.step.specs.Step.{Stepped, stepped, faultOutcome, grounded, handBack, cleared, concluded, jobOf, runFor, solveOf}
 use Rattle.step.specs.BackLaws.{back-length, back-state}
 use Rattle.step.specs.TurnLaws.{each-at}
 use Rattle.step.specs.RunLaws.{Traced, ran}
@@ -178,8 +178,9 @@ module _ (bodies : List Float) (joints : List Joint) (count : ℕ) (dt : Float) 
   fault-answered p fault q =
       let left = cleared scratch in
       let run = runFor bodies joints count dt in
-      ap (λ (o : Outcome). numberOf (cond (isAccepted o) (settled bodies left run) (checked o) .outcome)) p
-      ∙ ap (λ (t : Result (List BodyState)). numberOf (settledAs bodies left (run .nonlinear) (run .linear) t .outcome)) q
+      let ended : Result (List BodyState) → Stepped = λ t. concluded bodies left (record { ends = t; nonlinear = run .nonlinear; linear = run .linear }) in
+      ap (λ (o : Outcome). numberOf (cond (isAccepted o) (concluded bodies left run) (checked o) .outcome)) p
+      ∙ ap (λ (t : Result (List BodyState)). numberOf (ended t .outcome)) q
       ∙ fault-number fault
 
   as-faulted : {t : Stepped} → Solved t → Faulted t
@@ -251,7 +252,8 @@ module _ (bodies : List Float) (joints : List Joint) (count : ℕ) (dt : Float) 
 
     -- however the run ends
     says-run : (n l : ℕ) (t : Result (List BodyState)) → runFor bodies joints count dt .ends ≡ t
-        → Solved (settledAs bodies (cleared scratch) n l t) → Says (settledAs bodies (cleared scratch) n l t)
+        → Solved (concluded bodies (cleared scratch) (record { ends = t; nonlinear = n; linear = l }))
+        → Says (concluded bodies (cleared scratch) (record { ends = t; nonlinear = n; linear = l }))
     says-run n l (stop fault) e is = says-failed (faultOutcome fault) n l (subst (λ (m : ℕ). 10 ≤ m) (sym (fault-number fault)) (fault-late fault)) is
     says-run n l (go states) e is = by-ground (grounded states) refl is
       where
@@ -266,7 +268,7 @@ module _ (bodies : List Float) (joints : List Joint) (count : ℕ) (dt : Float) 
   tested = refusalOf bodies joints count dt (length scratch)
 
   abbrev answer : Bool → Stepped
-  answer b = cond b (settled bodies (cleared scratch) (runFor bodies joints count dt)) (checked tested)
+  answer b = cond b (concluded bodies (cleared scratch) (runFor bodies joints count dt)) (checked tested)
 
   says : (b : Bool) → isAccepted tested ≡ b → Solved (answer b) → Says (answer b)
   says true e is =

@@ -7,7 +7,6 @@ use mathlib.Core.List.{List}
 use lib.ListN.{length}
 use lib.Ieee.{Float}
 use Rattle.arith.specs.Flow.{go, stop}
-use Rattle.arith.specs.Run.{_>>=_, try, again}
 use Rattle.arith.specs.RunLaws.{ends-then, left-if, not-left}
 use Rattle.arith.specs.UpToLaws.{left}
 use Rattle.rows.specs.declared.body.RigidBody.{RigidBody}
@@ -15,16 +14,24 @@ use Rattle.rows.specs.declared.body.BodyState.{BodyState}
 use Rattle.rows.specs.declared.body.MomentumBody.{MomentumBody}
 use Rattle.rows.specs.declared.geometry.Joint.{Joint}
 use Rattle.rows.specs.declared.geometry.EqualityRow.{EqualityRow}
+use Rattle.rows.specs.Fault.{Result}
 use Rattle.rows.specs.Body.{kickOf, driftOf}
 use Rattle.rows.specs.Laws.Results.{step, go-same}
 use Rattle.rows.specs.Laws.SamePlace.{SamePlace, same-place, same-then, kick-place, drift-local, new-local}
 use Rattle.solves.specs.declared.places.Generalized.{Generalized}
-use Rattle.solves.specs.System.{System}
-use Rattle.solves.specs.Search.{linearSolve}
-use Rattle.step.specs.Bodies.{Job, bodyIn, recordIn, startBodies, writeRows, Started, startOf, Found, kickAndDrift, moveBodies, rowsMet, rhsOf, addImpulses, candidateOf, kickBodies, reactionOf, statesOf}
+use Rattle.solves.specs.System.{System, Counting}
+use Rattle.step.specs.Bodies.{Job, bodyIn, recordIn, startBodies, writeRows, Started, startOf, Found, kickAndDrift, moveBodies, rowsMet}
+use Rattle.step.specs.Bodies.{addImpulses, candidateOf, kickBodies, reactionOf, statesOf}
 use Rattle.step.specs.View.{noBody}
-use Rattle.step.specs.Step.{nonlinearPass, nonlinearLoop, velocityPass, velocityLoop, finishOf, runOf}
+use Rattle.step.specs.Step.{correction, nonlinearPass, nonlinearLoop, velocityPass, velocityLoop, finishOf, runOf}
 use Rattle.step.specs.TurnLaws.{each-at, went-on, goes-with}
+
+-- a correction is never a loop's answer
+never-left : {A B : Type 0} (solve : Counting (List Float)) (make : List Float → Result A) (b : B) → correction solve make .ends ≡ go (stop b) → ⊥
+never-left solve make b h =
+    let r₁ = ends-then _ _ _ h in
+    let r₂ = ends-then _ _ _ (r₁ .2) in
+    not-left _ _ (r₂ .2)
 
 -- ---- the nonlinear loop
 module _ (job : Job) (start : Started) where
@@ -34,18 +41,8 @@ module _ (job : Job) (start : Started) where
   pass-found impulses found h =
       let r₁ = ends-then _ _ _ h in
       let r₂ = ends-then _ _ _ (r₁ .2) in
-      let r₃ = left-if _ _ found _ (never (rhsOf (job .dt) (r₂ .0 .rows))) (r₂ .2) in
+      let r₃ = left-if _ _ found _ (never-left _ (addImpulses impulses) found) (r₂ .2) in
       (r₂ .1 ∙ ap go (r₃ .1), ap (λ (f : Found). rowsMet (f .rows)) (sym (r₃ .1)) ∙ r₃ .0)
-    where
-      -- a correction is never the loop's answer
-      never : (rhs : List Float)
-          → (linearSolve (job .cyclic) (start .system) rhs >>= λ solution. try (addImpulses impulses solution) >>= λ next. again next) .ends ≡ go
-          (stop found)
-          → ⊥
-      never rhs g =
-          let q₁ = ends-then _ _ _ g in
-          let q₂ = ends-then _ _ _ (q₁ .2) in
-          not-left _ _ (q₂ .2)
 
   pub loop-found : (found : Found) → nonlinearLoop job start .ends ≡ go found
       → (impulses : List Float) × (candidateOf job start impulses ≡ go found) × (rowsMet (found .rows) ≡ true)
@@ -92,14 +89,7 @@ module _ (job : Job) (system : System) where
   unfolding velocityPass
   pass-left a b h =
       let r = ends-then _ _ _ h in
-      left-if _ _ b _ (never (r .0)) (r .2) .1
-    where
-      never : (rhs : List Float)
-          → (linearSolve (job .cyclic) system rhs >>= λ solution. try (reactionOf (system .rows) a solution) >>= λ next. again next) .ends ≡ go (stop b) → ⊥
-      never rhs g =
-          let q₁ = ends-then _ _ _ g in
-          let q₂ = ends-then _ _ _ (q₁ .2) in
-          not-left _ _ (q₂ .2)
+      left-if _ _ b _ (never-left _ (reactionOf (system .rows) a) b) (r .2) .1
 
   pub loop-stays : (a b : List MomentumBody) → velocityLoop job system a .ends ≡ go b → Stay a b
   unfolding velocityLoop

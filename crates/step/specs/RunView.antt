@@ -1,16 +1,15 @@
--- What of the scratch a run's values are, what its functions ask for and leave alone, and how the code's answers are read.
+-- What of the scratch a run's values are, what its functions ask for and leave alone, by the stage too, and how the code's answers are read.
 use Prim.Native.Nat.{ℕ, _+_, _-_, _≤_, _<_}
 use mathlib.Core.Path.{_≡_}
 use mathlib.Core.Bool.{Bool, cond}
-use mathlib.Core.List.{[], List}
+use mathlib.Core.List.{List}
 use lib.ListN.{length, getD}
 use lib.Ieee.{Float}
 use Rattle.arith.specs.Flow.{Turn, go, stop, turns}
-use Rattle.arith.specs.Run.{ran, try, again, _>>=_}
+use Rattle.arith.specs.Run.{ran}
 use Rattle.vectors.specs.Vector.{divOf}
 use Rattle.rows.specs.declared.body.MomentumBody.{MomentumBody}
 use Rattle.rows.specs.declared.geometry.Joint.{Joint}
-use Rattle.rows.specs.declared.geometry.EqualityRow.{EqualityRow}
 use Rattle.rows.specs.Fault.{arithmeticOverflow, Result, vectorOr}
 use Rattle.rows.specs.Body.{omegaOf}
 use Rattle.rows.specs.Count.{rowCount}
@@ -22,8 +21,7 @@ use Rattle.solves.specs.declared.places.MassResponse.{MassResponse}
 use Rattle.solves.specs.Layout.{ROW-TABLE}
 use Rattle.solves.specs.Lent.{Slice}
 use Rattle.solves.specs.Region.{vecAt}
-use Rattle.solves.specs.System.{System, Counting}
-use Rattle.solves.specs.Search.{linearSolve}
+use Rattle.solves.specs.System.{Counting}
 use Rattle.solves.specs.Answer.{ranAs, passAs, isDone}
 use Rattle.solves.specs.View.{ROWS, RHS, rowsOn, systemOn, Ready}
 use Rattle.step.specs.declared.integrator.MassAnswer.{MassAnswer}
@@ -31,11 +29,14 @@ use Rattle.step.specs.declared.passes.Task.{Task}
 use Rattle.step.specs.declared.velocity.Motion.{Motion}
 use Rattle.step.specs.declared.passes.Passed.{Passed}
 use Rattle.step.specs.declared.passes.Ran.{Ran}
+use Rattle.step.specs.declared.passes.Stage.{Stage}
+use Rattle.step.specs.declared.passes.Stage.the-variants as Stages
 use Rattle.step.specs.Checks.{jointIn}
 use Rattle.step.specs.Layout.{IMPULSES, START, CANDIDATE, STATES, USED}
 use Rattle.step.specs.View.{candidateAt, startBodiesAt, candidatesAt}
-use Rattle.step.specs.Bodies.{Job, Started, Found, rhsOf, addImpulses, reactionOf}
+use Rattle.step.specs.Bodies.{Job, Started, Found, addImpulses, reactionOf}
 use Rattle.step.specs.Joined.{Joined}
+use Rattle.step.specs.Step.{nonlinearPass, velocityPass}
 
 -- ---- views
 -- the candidates where bodies were moved, else those of the start
@@ -61,10 +62,6 @@ candidateTable t = record { place = ROWS; rows = t .rows; bodies = t .bodies }
 
 abbrev pub jobFor : List Joint → Task → Job
 jobFor joints task = record { joints = joints; count = task .count; dt = task .dt; cyclic = task .cyclic }
-
--- a job without its joints: all that is read of it once they were met
-abbrev pub alone : Job → Job
-alone job = record { joints = []; count = job .count; dt = job .dt; cyclic = job .cyclic }
 
 -- how many rows the joints before k have
 abbrev pub rowsBefore : List Joint → ℕ → ℕ
@@ -95,16 +92,12 @@ pub record Ours (s : Slice Float) (ia ib : Slice ℕ) (t : Table) : Type 0 where
   pub ready : Ready s ia ib t
   pub long : USED ≤ length (s .now)
 
--- the table is that of the starting rows: apart from the rows that a pass writes
-pub record Starting (s : Slice Float) (ia ib : Slice ℕ) (t : Table) : Type 0 where
-  pub ours : Ours s ia ib t
-  pub apart : t .place + ROW-TABLE ≤ ROWS
-
--- the rows of the table are those of the joints
+-- the table is that of the starting rows: they are those of the joints, apart from the rows that a pass writes
 pub record Joins (joints : List Joint) (count : ℕ) (ia ib : Slice ℕ) (t : Table) : Type 0 where
   pub joined : Joined joints count (t .bodies)
   pub sides : Sides joints count (ia .now) (ib .now)
   pub rows-are : t .rows ≡ rowsBefore joints count
+  pub apart : t .place + ROW-TABLE ≤ ROWS
 
 -- ---- outside of what is written
 -- Inside of it stands what the contract's views say; all else there is free: only the crate itself calls these functions, and the step zeroes
@@ -116,6 +109,50 @@ Trying i = (Out ROWS ROW-TABLE i) × (Out RHS (START - RHS) i) × (Out CANDIDATE
 -- by the velocity loop: not the starting bodies, the rows, the masses, the impulses
 abbrev pub Correcting : ℕ → Type 0
 Correcting i = (Out RHS (IMPULSES - RHS) i) × (Out CANDIDATE STATES i)
+
+-- ---- the two loops by their stage
+-- what a pass is given by the one before: the impulses, or the candidates
+abbrev pub Given : Stage → Type 0
+Given Stages.Nonlinear = List Float
+Given Stages.Velocity = List MomentumBody
+
+abbrev pub givenAt : (stage : Stage) → List Float → Table → Given stage
+givenAt Stages.Nonlinear s t = impulsesAt s t
+givenAt Stages.Velocity s t = candidatesOf t s
+
+-- what the loop is left with
+abbrev pub Gained : Stage → Type 0
+Gained Stages.Nonlinear = Found
+Gained Stages.Velocity = List MomentumBody
+
+abbrev pub gainedAt : (stage : Stage) → List ℕ → List ℕ → List Float → Table → Gained stage
+gainedAt Stages.Nonlinear ia ib s t = foundAt ia ib s t
+gainedAt Stages.Velocity ia ib s t = candidatesOf t s
+
+-- the definition's pass, over what else stands in the scratch
+abbrev pub passAt : (stage : Stage) → Job → List ℕ → List ℕ → Table → List Float → Given stage → Counting (Turn (Given stage) (Gained stage))
+passAt Stages.Nonlinear job ia ib t s = nonlinearPass job (startedAt ia ib s t)
+passAt Stages.Velocity job ia ib t s = velocityPass job (systemOn ia ib s t)
+
+-- what it makes of a solution
+abbrev pub makeAt : (stage : Stage) → List ℕ → List ℕ → Table → List Float → List Float → Result (Given stage)
+makeAt Stages.Nonlinear ia ib t s = addImpulses (impulsesAt s t)
+makeAt Stages.Velocity ia ib t s = reactionOf (rowsOn ia ib s (t .place) (t .rows)) (candidatesOf t s)
+
+-- how many nonlinear passes k passes are
+abbrev pub nonlinearOf : Stage → ℕ → ℕ
+nonlinearOf Stages.Nonlinear k = k
+nonlinearOf Stages.Velocity k = 0
+
+-- what is outside of what it writes
+abbrev pub Outside : Stage → ℕ → Type 0
+Outside Stages.Nonlinear = Trying
+Outside Stages.Velocity = Correcting
+
+-- what is asked for besides rows in a table
+abbrev pub Besides : Stage → List Joint → ℕ → Slice ℕ → Slice ℕ → Table → Type 0
+Besides Stages.Nonlinear joints count ia ib t = Joins joints count ia ib t
+Besides Stages.Velocity joints count ia ib t = Unit {0}
 
 -- ---- answers
 abbrev pub massAs : MassAnswer → Result MassResponse
@@ -132,15 +169,3 @@ passedAfter end linear = record { pass = cond (isDone end) Passes.Again (Passes.
 -- a loop or a run that left x
 abbrev pub leftAs : {A : Type 0} → Ran → A → Counting A
 leftAs r x = ran (ranAs (r .end) x) (r .nonlinear) (r .linear)
-
--- the second half of both passes: a solve, and what is made of its solution
-abbrev pub correction : {A B : Type 0} → Counting (List Float) → (List Float → Result A) → Counting (Turn A B)
-correction solve make = solve >>= λ solution. try (make solution) >>= λ next. again next
-
--- of a nonlinear pass: the impulses for the next, along the starting rows
-abbrev pub impulsesBy : Task → Started → List Float → List EqualityRow → Counting (Turn (List Float) Found)
-impulsesBy task start impulses rows = correction (linearSolve (task .cyclic) (start .system) (rhsOf (task .dt) rows)) (addImpulses impulses)
-
--- of a velocity pass: the candidates kicked, along their own rows
-abbrev pub kicksBy : Job → List Float → System → List MomentumBody → Counting (Turn (List MomentumBody) (List MomentumBody))
-kicksBy job rhs system candidate = correction (linearSolve (job .cyclic) system rhs) (reactionOf (system .rows) candidate)

@@ -3,31 +3,33 @@ use Prim.Native.Nat.{ℕ, _-_}
 use mathlib.Core.Bool.{Bool}
 use mathlib.Core.List.{List}
 use lib.Ieee.{Float}
-use Rattle.arith.specs.Flow.{Turn}
+use Rattle.arith.specs.Run.{ran, upTo}
 use Rattle.rows.specs.declared.body.BodyState.{BodyState}
-use Rattle.rows.specs.declared.body.MomentumBody.{MomentumBody}
 use Rattle.rows.specs.declared.geometry.Joint.{Joint}
-use Rattle.rows.specs.declared.geometry.EqualityRow.{EqualityRow}
-use Rattle.rows.specs.Fault.{Result}
+use Rattle.rows.specs.Fault.{Result, nonConvergent}
 use Rattle.rows.specs.View.{Out}
 use Rattle.rows.specs.declared.End.{End}
 use Rattle.solves.specs.declared.Ended.{Ended}
 use Rattle.solves.specs.declared.Table.{Table}
 use Rattle.solves.specs.Lent.{Lent, came, left}
-use Rattle.solves.specs.Region.{Does}
-use Rattle.solves.specs.System.{System, Counting}
+use Rattle.solves.specs.Region.{vecAt, Does}
+use Rattle.solves.specs.System.{Counting}
+use Rattle.solves.specs.Search.{linearSolve}
 use Rattle.solves.specs.Answer.{ranAs, endedAs}
-use Rattle.solves.specs.View.{START-ROWS, ROWS, MASSES, rowsOn, systemIn}
+use Rattle.solves.specs.View.{START-ROWS, RHS, MASSES, rowsOn, systemOn}
 use Rattle.solves.specs.Layout.{ROW-TABLE}
 use Rattle.step.specs.Joined.{Joined}
 use Rattle.step.specs.declared.passes.Task.{Task}
 use Rattle.step.specs.declared.passes.Passed.{Passed}
 use Rattle.step.specs.declared.passes.Ran.{Ran}
+use Rattle.step.specs.declared.passes.Stage.{Stage}
 use Rattle.step.specs.Layout.{USED}
 use Rattle.step.specs.Records.{bodyCount, recordsOf}
-use Rattle.step.specs.View.{candidatesAt, statesAt}
-use Rattle.step.specs.Bodies.{Started, startOf, Found, writeRows}
-use Rattle.step.specs.RunView.{impulsesAt, startedAt, foundAt, jobFor, rowsBefore, Sides, Trying, Correcting, passedAs, leftAs, bodiesAt}
+use Rattle.step.specs.View.{statesAt}
+use Rattle.step.specs.Bodies.{Job, Started, startOf, Found, writeRows}
+use Rattle.step.specs.Step.{correction}
+use Rattle.step.specs.RunView.{impulsesAt, startedAt, foundAt, jobFor, rowsBefore, Sides, Trying, passedAs, bodiesAt}
+use Rattle.step.specs.RunView.{givenAt, gainedAt, passAt, makeAt, nonlinearOf, Outside}
 
 -- a function that leaves a list in the scratch, or fails: what it touches, and what it left
 abbrev pub Leaves : {A : Type 0} → (ℕ → Type 0) → Lent Float → End → (List Float → A) → Result A → Type 0
@@ -45,6 +47,20 @@ Starts s bodies joints task r = (ia ib : List ℕ) → Sides joints (task .count
     (ranAs r (startedAt ia ib (left s) (record { place = START-ROWS; rows = rowsBefore joints (task .count); bodies = bodyCount (came bodies) })))
     (startOf (jobFor joints task) (recordsOf (came bodies)))
 
+-- both stages, from s to u: `correct`; `stage_pass`, `nonlinear_pass` and `velocity_pass`; `stage_loop`
+module _ (stage : Stage) (ia ib : List ℕ) (t : Table) (s u : List Float) where
+  abbrev pub Corrects : Bool → Passed → Type 0
+  Corrects cyclic r = Does (Outside stage) s u (passedAs 0 r (givenAt stage u t) (gainedAt stage ia ib u t))
+      (correction (linearSolve cyclic (systemOn ia ib s t) (vecAt s RHS (t .rows))) (makeAt stage ia ib t s))
+
+  abbrev pub Passes : Job → Passed → Type 0
+  Passes job r = Does (Outside stage) s u (passedAs (nonlinearOf stage 1) r (givenAt stage u t) (gainedAt stage ia ib u t))
+      (passAt stage job ia ib t s (givenAt stage s t))
+
+  abbrev pub Loops : Job → ℕ → Ran → Type 0
+  Loops job most r = Does (Outside stage) s u (ran (ranAs (r .end) (gainedAt stage ia ib u t)) (nonlinearOf stage (r .nonlinear)) (r .linear))
+      (upTo most nonConvergent (passAt stage job ia ib t s) (givenAt stage s t))
+
 module _ (s : Lent Float) (ia ib : Lent ℕ) (t : Table) where
   abbrev start : Started
   start = startedAt (came ia) (came ib) (came s) t
@@ -55,29 +71,6 @@ module _ (s : Lent Float) (ia ib : Lent ℕ) (t : Table) where
   -- `candidate`
   abbrev pub Finds : End → (Started → List Float → Result Found) → Type 0
   Finds r f = Does Trying (came s) (left s) (ranAs r found) (f start (impulsesAt (came s) t))
-
-  -- `correct`, of the rows that were found
-  abbrev pub Impels : Passed → (Started → List Float → List EqualityRow → Counting (Turn (List Float) Found)) → Type 0
-  Impels r f =
-      Does Trying (came s) (left s) (passedAs 0 r (impulsesAt (left s) t) found)
-      (f start (impulsesAt (came s) t) (rowsOn (came ia) (came ib) (came s) ROWS (t .rows)))
-
-  -- `nonlinear_pass`, which counts itself, and `nonlinear_loop`
-  abbrev pub Tries : Passed → (Started → List Float → Counting (Turn (List Float) Found)) → Type 0
-  Tries r f = Does Trying (came s) (left s) (passedAs 1 r (impulsesAt (left s) t) found) (f start (impulsesAt (came s) t))
-
-  abbrev pub Meets : Ran → (Started → Counting Found) → Type 0
-  Meets r f = Does Trying (came s) (left s) (leftAs r found) (f start)
-
-  -- `correct_velocities` and `velocity_pass`, and `velocity_loop`
-  abbrev pub Kicks : Passed → (System → List MomentumBody → Counting (Turn (List MomentumBody) (List MomentumBody))) → Type 0
-  Kicks r f =
-      Does Correcting (came s) (left s) (passedAs 0 r (candidatesAt (left s) (t .bodies)) (candidatesAt (left s) (t .bodies)))
-      (f (systemIn s ia ib t) (candidatesAt (came s) (t .bodies)))
-
-  abbrev pub Rests : Ended → (System → List MomentumBody → Counting (List MomentumBody)) → Type 0
-  Rests r f =
-      Does Correcting (came s) (left s) (endedAs r (candidatesAt (left s) (t .bodies))) (f (systemIn s ia ib t) (candidatesAt (came s) (t .bodies)))
 
   -- `finish_run`
   abbrev pub Finishes : Ended → (Found → Counting (List BodyState)) → Type 0

@@ -2,7 +2,7 @@
 -- In a `do` block `x ← e` is `let x = e?` with the passes that it counted; `try` marks what counts none, `begin` is `nonlinear_iterations = iteration + 1`.
 -- Bodies.antt has the parts that count nothing, solves/specs/Search.antt the linear solves.
 use Rattle.step.specs.Words.{ℕ, _/_, _%_, List, [], _++_, _∷_, Bool, cond, length, drop, replicate, Float, ltb, leb, tab, every, go, stop, Turn, ratio}
-use Rattle.step.specs.Words.{at, RigidBody, BodyState, MomentumBody, Joint, arithmeticOverflow, Fault, nonConvergent, System, rowsIn, Counting}
+use Rattle.step.specs.Words.{at, RigidBody, BodyState, MomentumBody, Joint, arithmeticOverflow, Result, Fault, nonConvergent, System, rowsIn, Counting}
 use Rattle.step.specs.Words.{linearSolve, Outcome}
 use Rattle.arith.specs.Run.{_>>=_, _>>_, try, begin, again, leaveIf, upTo}
 use Rattle.step.specs.Records.{RECORD, MOVING, SCRATCH, bodyCount, recordsOf}
@@ -10,15 +10,15 @@ use Rattle.step.specs.Checks.{withinOf, refusalOf, isAccepted}
 use Rattle.step.specs.Bodies.{Job, Started, startOf, Found, rowsMet, rhsOf, addImpulses, candidateOf, velocityRhs, compatibleOf, reactionOf}
 use Rattle.step.specs.Bodies.{prepareMasses, statesOf, stateIn}
 
--- ---- the run. For iteration in 0..32: candidates from the starting bodies, and where their rows are not met a correction along the starting rows
+-- ---- the run. The second half of both passes: a solve, and what is made of its solution
+abbrev pub correction : {A B : Type 0} → Counting (List Float) → (List Float → Result A) → Counting (Turn A B)
+correction solve make = solve >>= λ solution. try (make solution) >>= again
+
+-- for iteration in 0..32: candidates from the starting bodies, and where their rows are not met a correction along the starting rows
 unfoldable pub nonlinearPass : Job → Started → List Float → Counting (Turn (List Float) Found)
-nonlinearPass job start impulses = do
-  begin
+nonlinearPass job start impulses = begin >> do
   found ← try (candidateOf job start impulses)
-  leaveIf (rowsMet (found .rows)) found do
-    solution ← linearSolve (job .cyclic) (start .system) (rhsOf (job .dt) (found .rows))
-    next ← try (addImpulses impulses solution)
-    again next
+  leaveIf (rowsMet (found .rows)) found (correction (linearSolve (job .cyclic) (start .system) (rhsOf (job .dt) (found .rows))) (addImpulses impulses))
 
 unfoldable pub nonlinearLoop : Job → Started → Counting Found
 nonlinearLoop job start = upTo 32 nonConvergent (nonlinearPass job start) (replicate (rowsIn (start .system)) (ratio 0 1))
@@ -27,10 +27,7 @@ nonlinearLoop job start = upTo 32 nonConvergent (nonlinearPass job start) (repli
 unfoldable pub velocityPass : Job → System → List MomentumBody → Counting (Turn (List MomentumBody) (List MomentumBody))
 velocityPass job system candidate = do
   rhs ← try (velocityRhs (system .rows) candidate)
-  leaveIf (compatibleOf rhs) candidate do
-    solution ← linearSolve (job .cyclic) system rhs
-    next ← try (reactionOf (system .rows) candidate solution)
-    again next
+  leaveIf (compatibleOf rhs) candidate (correction (linearSolve (job .cyclic) system rhs) (reactionOf (system .rows) candidate))
 
 unfoldable pub velocityLoop : Job → System → List MomentumBody → Counting (List MomentumBody)
 velocityLoop job system candidate = upTo 3 nonConvergent (velocityPass job system) candidate
@@ -65,8 +62,7 @@ abbrev pub stepped : Outcome → ℕ → ℕ → List Float → List Float → S
 stepped outcome nonlinear linear bodies scratch = record { outcome = outcome; nonlinear = nonlinear; linear = linear; bodies = bodies; scratch = scratch }
 
 abbrev pub faultOutcome : Fault → Outcome  -- refusals 10 and 11
-faultOutcome nonConvergent = Outcome.NonConvergent
-faultOutcome arithmeticOverflow = Outcome.ArithmeticOverflow
+faultOutcome fault = elim fault [ nonConvergent ↦ Outcome.NonConvergent | arithmeticOverflow ↦ Outcome.ArithmeticOverflow ]
 
 unfoldable pub grounded : List BodyState → Bool  -- refusal 12: no coordinate of an origin above 8192 in magnitude
 grounded states = every (length states) (λ k. withinOf (stateIn states k .origin) (ratio 8192 1))
@@ -84,16 +80,15 @@ handBack bodies states = tab (length bodies) (λ i.
 unfoldable pub cleared : List Float → List Float  -- the first 6,144 doubles are +0, the others are as they were
 cleared scratch = replicate SCRATCH (ratio 0 1) ++ drop SCRATCH scratch
 
--- the end of a run, for the caller: bodies move only where the step is accepted
-abbrev pub settledAs : List Float → List Float → ℕ → ℕ → Turn (List BodyState) Fault → Stepped
-settledAs bodies left nonlinear linear (stop fault) = stepped (faultOutcome fault) nonlinear linear bodies left
-settledAs bodies left nonlinear linear (go states) =
-    cond (grounded states) (stepped Outcome.Accepted nonlinear linear (handBack bodies states) left) (stepped Outcome.Ground nonlinear linear bodies left)
-
-abbrev pub settled : List Float → List Float → Counting (List BodyState) → Stepped
-settled bodies left run = settledAs bodies left (run .nonlinear) (run .linear) (run .ends)
+abbrev pub concluded : List Float → List Float → Counting (List BodyState) → Stepped  -- of a run: bodies move only where the step is accepted
+concluded bodies left run =
+    let answer : Outcome → List Float → Stepped = λ outcome after. stepped outcome (run .nonlinear) (run .linear) after left in
+    elim (run .ends) [
+      | stop fault ↦ answer (faultOutcome fault) bodies
+      | go states ↦ cond (grounded states) (answer Outcome.Accepted (handBack bodies states)) (answer Outcome.Ground bodies)
+    ]
 
 unfoldable pub solveOf : List Float → List Joint → ℕ → Float → List Float → Stepped  -- SPECIFICATION's step: refusals 1 to 9 touch nothing
 solveOf bodies joints count dt scratch =
     let refusal : Outcome = refusalOf bodies joints count dt (length scratch) in
-    cond (isAccepted refusal) (settled bodies (cleared scratch) (runFor bodies joints count dt)) (stepped refusal 0 0 bodies scratch)
+    cond (isAccepted refusal) (concluded bodies (cleared scratch) (runFor bodies joints count dt)) (stepped refusal 0 0 bodies scratch)

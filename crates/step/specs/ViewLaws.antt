@@ -105,11 +105,13 @@ module _ {P : ℕ → Type 0} {s t : List Float} (kept : Kept P s t) where
   pub kept-candidate : (k : ℕ) → Over P (CANDIDATE + MOVING * k) MOVING → Over P (START + RECORD * k + 13) 13 → candidateAt t k ≡ candidateAt s k
   kept-candidate k v w = kept-body (CANDIDATE + MOVING * k) (START + RECORD * k) v w
 
-  pub kept-starts : (n : ℕ) → Over P START (RECORD * n) → startBodiesAt t n ≡ startBodiesAt s n
-  kept-starts n w = tab-ext n λ k h. kept-start k (λ i a b. w i (omega arith) (omega arith))
+  pub kept-starts : (body-count : ℕ) → Over P START (RECORD * body-count) → startBodiesAt t body-count ≡ startBodiesAt s body-count
+  kept-starts body-count w = tab-ext body-count λ k h. kept-start k (λ i a b. w i (omega arith) (omega arith))
 
-  pub kept-candidates : (n : ℕ) → Over P START (RECORD * n) → Over P CANDIDATE (MOVING * n) → candidatesAt t n ≡ candidatesAt s n
-  kept-candidates n v w = tab-ext n λ k h. kept-candidate k (λ i a b. w i (omega arith) (omega arith)) (λ i a b. v i (omega arith) (omega arith))
+  pub kept-candidates : (body-count : ℕ) → Over P START (RECORD * body-count) → Over P CANDIDATE (MOVING * body-count)
+      → candidatesAt t body-count ≡ candidatesAt s body-count
+  kept-candidates body-count v w =
+      tab-ext body-count λ k h. kept-candidate k (λ i a b. w i (omega arith) (omega arith)) (λ i a b. v i (omega arith) (omega arith))
 
 -- the 13 doubles of a state, one by one
 pub state-at : (s t : List Float) (i k : ℕ) → stateAt t i ≡ stateAt s k → (j : ℕ) → j < MOVING → at t (i + j) ≡ at s (k + j)
@@ -155,7 +157,7 @@ state-at s t i k e = by
     by (suc (suc (suc (suc (suc (suc (suc (suc (suc (suc (suc (suc zero)))))))))))) h = shift 10 2 refl ∙ g (λ v. v .z) ∙ shifts 10 2 refl
     by (suc (suc (suc (suc (suc (suc (suc (suc (suc (suc (suc (suc (suc n))))))))))))) h = absurd (omega arith)
 
-module _ {n : ℕ} {s bodies after : List Float} (h : Handed n s bodies after) (k : ℕ) (l : k < n) where
+module _ {body-count : ℕ} {s bodies after : List Float} (h : Handed body-count s bodies after) (k : ℕ) (l : k < body-count) where
   -- what stands in the record: 13 doubles of the scratch, and 13 as they were
   pub handed-new : (j : ℕ) → j < MOVING → at after (RECORD * k + j) ≡ at s (CANDIDATE + MOVING * k + j)
   handed-new = state-at s after (RECORD * k) (CANDIDATE + MOVING * k) (h .there k l)

@@ -1,4 +1,4 @@
-// The nonlinear loop of `solve` in solver.rs, and the run as a whole.
+// The nonlinear passes of `solve` in solver.rs, and the run as a whole.
 use crate::bodies::load_candidate;
 use crate::bodies::load_record;
 use crate::bodies::load_start;
@@ -12,11 +12,12 @@ use crate::layout::MOVING;
 use crate::layout::RECORD;
 use crate::passes::Passed;
 use crate::passes::Ran;
+use crate::passes::Stage;
 use crate::passes::Task;
-use crate::passes::pass_after;
+use crate::passes::correct;
 use crate::passes::pass_ended;
 use crate::passes::run_ended;
-use crate::velocity::velocity_loop;
+use crate::passes::stage_loop;
 use arith::number::abs;
 use arith::number::is_finite;
 use rows::body::BodyAnswer;
@@ -45,14 +46,13 @@ use solves::operator::transpose;
 use solves::places::MassResponse;
 use solves::places::load_generalized;
 use solves::places::store_mass;
-use solves::solver::linear_solve;
 use vectors::matrix::inverse_spd;
 use vectors::vector::Vec3;
 ghost use mathlib.Core.Path.{_≡_};
 ghost use Prim.Native.Nat.{ℕ, _+_, _*_, _≤_, _<_};
 ghost use lib.ListN.{length};
 ghost use mathlib.Core.Bool.{cond, _&&_};
-ghost use mathlib.Core.List.{List, []};
+ghost use mathlib.Core.List.{List};
 ghost use Rattle.arith.specs.Flow.{tab};
 ghost use Rattle.rows.specs.View.{Out};
 ghost use Rattle.rows.specs.Answer.{bodyAs};
@@ -60,15 +60,16 @@ ghost use Rattle.solves.specs.Lent.{came, left};
 ghost use Rattle.solves.specs.Region.{vecAt, Does};
 ghost use Rattle.solves.specs.View.{ROWS, MASSES, RHS, SOLUTION, GENERALIZED, rowsOn, massAt, massesAt, Beside, sharesIn};
 ghost use Rattle.solves.specs.Layout.{ROWS-MOST, BODIES-MOST, MASS-TABLE};
+ghost use Rattle.step.specs.declared.passes.Stage.the-variants.{Nonlinear};
 ghost use Rattle.step.specs.Layout.{RECORD, IMPULSES, START, CANDIDATE, USED, BODIES, STATES};
 ghost use Rattle.step.specs.Records.{bodyCount, recordAt, recordsOf};
 ghost use Rattle.step.specs.Bodies.{startBodies, massResponse, prepareMasses, kickAndDrift, moveBodies, rowsMet, rhsOf};
 ghost use Rattle.step.specs.Bodies.{addImpulses, candidateOf, statesOf};
-ghost use Rattle.step.specs.Step.{nonlinearPass, nonlinearLoop, finishOf, runFor};
+ghost use Rattle.step.specs.Step.{finishOf, runFor};
 ghost use Rattle.step.specs.View.{startBodyAt, candidateAt, startBodiesAt, candidatesAt, statesAt};
-ghost use Rattle.step.specs.RunView.{bodiesAt, impulsesAt, candidateTable, jobFor, rowsBefore, Sides, Ours, Starting};
-ghost use Rattle.step.specs.RunView.{Joins, massAs, leftAs, impulsesBy};
-ghost use Rattle.step.specs.Says.{Leaves, WritesRows, Impels, Finds, Tries, Meets, Finishes, Starts};
+ghost use Rattle.step.specs.RunView.{bodiesAt, impulsesAt, candidateTable, jobFor, rowsBefore, Sides, Ours};
+ghost use Rattle.step.specs.RunView.{Joins, massAs, leftAs};
+ghost use Rattle.step.specs.Says.{Leaves, WritesRows, Finds, Passes, Finishes, Starts};
 ghost use Rattle.step.specs.Joined.{Joined, RowBodies, Spread};
 
 // A mass response, if it is finite.
@@ -265,7 +266,7 @@ fn fill_rhs(s: &mut [f64], dt: f64, n: usize)
     }
 }
 
-fn add_impulses(s: &mut [f64], n: usize) -> End
+pub(crate) fn add_impulses(s: &mut [f64], n: usize) -> End
     requires { ⌜ (USED ≤ length (now s)) × (n ≤ ROWS-MOST) ⌝ }
     ensures { λ r. ⌜ Leaves (Beside IMPULSES) s r (λ u. vecAt u IMPULSES n) (addImpulses (vecAt (came s) IMPULSES n) (vecAt (came s) SOLUTION n)) ⌝ }
 {
@@ -279,21 +280,6 @@ fn add_impulses(s: &mut [f64], n: usize) -> End
     End::Done
 }
 
-// The second half of a pass: the impulses that the rows' values ask for, along the starting rows.
-fn correct(s: &mut [f64], ia: &[usize; 96], ib: &[usize; 96], t: Table, task: Task) -> Passed
-    requires { ⌜ Starting s ia ib t ⌝ }
-    ensures { λ r. ⌜ Impels s ia ib t r (impulsesBy task) ⌝ }
-{
-    fill_rhs(s, task.dt, t.rows);
-    let solved = linear_solve(s, ia, ib, t, task.cyclic);
-    let end = solved.end;
-    if !done(end) {
-        return pass_after(end, solved.linear);
-    }
-    let added = add_impulses(s, t.rows);
-    pass_after(added, solved.linear)
-}
-
 // The first half: the candidates and their rows.
 fn candidate(
     s: &mut [f64],
@@ -303,7 +289,7 @@ fn candidate(
     joints: [Joint; 16],
     task: Task,
 ) -> End
-    requires { ⌜ (Starting s ia ib t) × (Joins joints (task .count) ia ib t) ⌝ }
+    requires { ⌜ (Ours s ia ib t) × (Joins joints (task .count) ia ib t) ⌝ }
     ensures { λ r. ⌜ Finds s ia ib t r (candidateOf (jobFor joints task)) × (impulsesAt (left s) t ≡ impulsesAt (came s) t) ⌝ }
 {
     let pushed = transpose(s, ia, ib, t, IMPULSES);
@@ -317,7 +303,7 @@ fn candidate(
     write_rows(s, joints, task.count, ROWS, true)
 }
 
-fn nonlinear_pass(
+pub(crate) fn nonlinear_pass(
     s: &mut [f64],
     ia: &[usize; 96],
     ib: &[usize; 96],
@@ -325,8 +311,8 @@ fn nonlinear_pass(
     joints: [Joint; 16],
     task: Task,
 ) -> Passed
-    requires { ⌜ (Starting s ia ib t) × (Joins joints (task .count) ia ib t) ⌝ }
-    ensures { λ r. ⌜ Tries s ia ib t r (nonlinearPass (jobFor joints task)) ⌝ }
+    requires { ⌜ (Ours s ia ib t) × (Joins joints (task .count) ia ib t) ⌝ }
+    ensures { λ r. ⌜ Passes Nonlinear (came ia) (came ib) t (came s) (left s) (jobFor joints task) r ⌝ }
 {
     let found = candidate(s, ia, ib, t, joints, task);
     if !done(found) {
@@ -335,32 +321,8 @@ fn nonlinear_pass(
     if rows_met(s, t.rows) {
         return pass_ended(Pass::Over(End::Done), 0);
     }
-    correct(s, ia, ib, t, task)
-}
-
-// From no impulse, at most 32 passes, each counted when begun.
-fn nonlinear_loop(
-    s: &mut [f64],
-    ia: &[usize; 96],
-    ib: &[usize; 96],
-    t: Table,
-    joints: [Joint; 16],
-    task: Task,
-) -> Ran
-    requires { ⌜ (Starting s ia ib t) × (Joins joints (task .count) ia ib t) ⌝ }
-    ensures { λ r. ⌜ Meets s ia ib t r (nonlinearLoop (jobFor joints task)) ⌝ }
-{
-    clear(s, IMPULSES, t.rows);
-    let mut linear = 0;
-    for k in 0..32usize {
-        let passed = nonlinear_pass(s, ia, ib, t, joints, task);
-        linear += passed.linear;
-        let pass = passed.pass;
-        if let Pass::Over(end) = pass {
-            return run_ended(end, k + 1, linear);
-        }
-    }
-    run_ended(End::NonConvergent, 32, linear)
+    fill_rhs(s, task.dt, t.rows);
+    correct(s, ia, ib, t, task.cyclic, Stage::Nonlinear)
 }
 
 // The states of the candidates, in their places.
@@ -388,10 +350,11 @@ fn finish_run(
     ib: &[usize; 96],
     t: Table,
     bodies: &[f64],
+    joints: [Joint; 16],
     task: Task,
 ) -> Ended
     requires { ⌜ (Ours s ia ib (candidateTable t)) × (t .bodies ≤ bodyCount (now bodies)) ⌝ }
-    ensures { λ r. ⌜ Finishes s ia ib t r (finishOf (jobFor [] task) (recordsOf (came bodies))) ⌝ }
+    ensures { λ r. ⌜ Finishes s ia ib t r (finishOf (jobFor joints task) (recordsOf (came bodies))) ⌝ }
 {
     let weighed = prepare_masses(s, t.bodies, true);
     if !done(weighed) {
@@ -402,10 +365,10 @@ fn finish_run(
         rows: t.rows,
         bodies: t.bodies,
     };
-    let corrected = velocity_loop(s, ia, ib, candidate_table, task);
+    let corrected = stage_loop(s, ia, ib, candidate_table, joints, task, Stage::Velocity, 3);
     let end = corrected.end;
     if !done(end) {
-        return corrected;
+        return Ended::new(end, corrected.linear);
     }
     let made = make_states(s, bodies, t.bodies);
     Ended::new(made, corrected.linear)
@@ -451,12 +414,14 @@ pub(crate) fn run(bodies: &[f64], joints: [Joint; 16], count: usize, dt: f64, s:
         rows: n,
         bodies: body_count,
     };
-    let met = nonlinear_loop(s, &ia, &ib, t, joints, task);
+    // from no impulse, at most 32 passes
+    clear(s, IMPULSES, n);
+    let met = stage_loop(s, &ia, &ib, t, joints, task, Stage::Nonlinear, 32);
     let end = met.end;
     if !done(end) {
         return met;
     }
-    let last = finish_run(s, &ia, &ib, t, bodies, task);
+    let last = finish_run(s, &ia, &ib, t, bodies, joints, task);
     let end = last.end;
     run_ended(end, met.nonlinear, met.linear + last.linear)
 }

@@ -28,8 +28,8 @@ ghost use Rattle.step.specs.Records.{bodyCount};
 ghost use Rattle.step.specs.Checks.{numberOf};
 ghost use Rattle.step.specs.Joined.{Joined};
 ghost use Rattle.step.specs.View.{statesAt};
-ghost use Rattle.step.specs.Step.{settled, runFor};
-ghost use Rattle.step.specs.SettleView.{Settles, Reports};
+ghost use Rattle.step.specs.Step.{concluded, runFor};
+ghost use Rattle.step.specs.ConcludeView.{Concludes, Reports};
 ghost use Rattle.step.specs.Answered.{Answered};
 
 // Accepted, or the refusal of SPECIFICATION §7, in its order.
@@ -78,9 +78,9 @@ pub fn number(outcome: Outcome) -> usize
 }
 
 // What the run's end is to the caller: its states are written where all stand on the plan's ground.
-fn settle(bodies: &mut [f64], work: &[f64], body_count: usize, end: End) -> Outcome
+fn conclude(bodies: &mut [f64], work: &[f64], body_count: usize, end: End) -> Outcome
     requires { ⌜ (length (now bodies) % RECORD ≡ 0) × («body_count» ≡ bodyCount (now bodies)) × (USED ≤ length (now work)) × («body_count» ≤ BODIES-MOST) ⌝ }
-    ensures { λ r. ⌜ Settles bodies r (ranAs end (statesAt (came work) «body_count»)) ⌝ }
+    ensures { λ r. ⌜ Concludes bodies r (ranAs end (statesAt (came work) «body_count»)) ⌝ }
 {
     match end {
         End::Done => {
@@ -104,12 +104,12 @@ fn solve_in(
     work: &mut [f64],
 ) -> Report
     requires { ⌜ (length (now work) ≡ SCRATCH) × (length (now bodies) % RECORD ≡ 0) × (Joined joints count (bodyCount (now bodies))) ⌝ }
-    ensures { λ r. ⌜ Reports bodies work r (settled (came bodies) (replicate SCRATCH (ratio 0 1)) (runFor (came bodies) joints count dt)) ⌝ }
+    ensures { λ r. ⌜ Reports bodies work r (concluded (came bodies) (replicate SCRATCH (ratio 0 1)) (runFor (came bodies) joints count dt)) ⌝ }
 {
     let body_count = bodies.len() / RECORD;
     let ran = run(bodies, joints, count, dt, work);
     let end = ran.end;
-    let outcome = settle(bodies, work, body_count, end);
+    let outcome = conclude(bodies, work, body_count, end);
     clear(work, 0, SCRATCH);
     Report {
         outcome,

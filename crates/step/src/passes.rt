@@ -1,9 +1,27 @@
-// What a run is about, and how a pass of the step's two loops ends, and how a loop or the run: with the passes that were counted.
+// What a run is about; how a pass of its two stages ends, and how a loop or the run: with the passes that were counted; and what is one
+// for both stages: the second half of a pass, and the loop.
+use crate::integrator::add_impulses;
+use crate::integrator::nonlinear_pass;
+use crate::velocity::apply;
+use crate::velocity::velocity_pass;
+use rows::geometry::Joint;
 use solves::End;
 use solves::Pass;
+use solves::Table;
 use solves::done;
+use solves::solver::linear_solve;
 ghost use mathlib.Core.Path.{_≡_};
-ghost use Rattle.step.specs.RunView.{passedAfter};
+ghost use Prim.Native.Nat.{_≤_};
+ghost use Rattle.solves.specs.Lent.{came, left};
+ghost use Rattle.solves.specs.View.{solutionOn};
+ghost use Rattle.step.specs.RunView.{passedAfter, jobFor, Ours, Besides, Outside, givenAt, makeAt};
+ghost use Rattle.step.specs.Says.{Leaves, Corrects, Passes, Loops};
+
+// The nonlinear loop from the starting bodies, and the velocity loop over the candidates that it found.
+pub(crate) enum Stage {
+    Nonlinear,
+    Velocity,
+}
 
 // The definition's Job without its joints: how many there are, the time step, and whether there are at least as many as bodies.
 pub(crate) struct Task {
@@ -18,7 +36,7 @@ pub(crate) struct Passed {
     pub linear: usize,
 }
 
-// The end of the nonlinear loop or of the run, with both counts.
+// The end of the run, with both counts; or of a loop, whose own passes are `nonlinear` here, also where the run does not count them.
 pub(crate) struct Ran {
     pub end: End,
     pub nonlinear: usize,
@@ -49,4 +67,80 @@ pub(crate) fn run_ended(end: End, nonlinear: usize, linear: usize) -> Ran
         nonlinear,
         linear,
     }
+}
+
+// What is made of a solution: the impulses of the next pass, or the candidates kicked.
+fn use_solution(s: &mut [f64], ia: &[usize; 96], ib: &[usize; 96], t: Table, stage: Stage) -> End
+    requires { ⌜ Ours s ia ib t ⌝ }
+    ensures { λ r. ⌜ Leaves (Outside stage) s r (λ u. givenAt stage u t) (makeAt stage (came ia) (came ib) t (came s) (solutionOn s t)) ⌝ }
+{
+    match stage {
+        Stage::Nonlinear => add_impulses(s, t.rows),
+        Stage::Velocity => apply(s, ia, ib, t),
+    }
+}
+
+// The second half of a pass: a solve, and what is made of its solution.
+pub(crate) fn correct(
+    s: &mut [f64],
+    ia: &[usize; 96],
+    ib: &[usize; 96],
+    t: Table,
+    cyclic: bool,
+    stage: Stage,
+) -> Passed
+    requires { ⌜ Ours s ia ib t ⌝ }
+    ensures { λ r. ⌜ Corrects stage (came ia) (came ib) t (came s) (left s) cyclic r ⌝ }
+{
+    let solved = linear_solve(s, ia, ib, t, cyclic);
+    let end = solved.end;
+    if !done(end) {
+        return pass_after(end, solved.linear);
+    }
+    let used = use_solution(s, ia, ib, t, stage);
+    pass_after(used, solved.linear)
+}
+
+fn stage_pass(
+    s: &mut [f64],
+    ia: &[usize; 96],
+    ib: &[usize; 96],
+    t: Table,
+    joints: [Joint; 16],
+    task: Task,
+    stage: Stage,
+) -> Passed
+    requires { ⌜ (Ours s ia ib t) × (Besides stage joints (task .count) ia ib t) ⌝ }
+    ensures { λ r. ⌜ Passes stage (came ia) (came ib) t (came s) (left s) (jobFor joints task) r ⌝ }
+{
+    match stage {
+        Stage::Nonlinear => nonlinear_pass(s, ia, ib, t, joints, task),
+        Stage::Velocity => velocity_pass(s, ia, ib, t, task),
+    }
+}
+
+// At most so many passes, each counted when begun.
+pub(crate) fn stage_loop(
+    s: &mut [f64],
+    ia: &[usize; 96],
+    ib: &[usize; 96],
+    t: Table,
+    joints: [Joint; 16],
+    task: Task,
+    stage: Stage,
+    most: usize,
+) -> Ran
+    requires { ⌜ (Ours s ia ib t) × (Besides stage joints (task .count) ia ib t) × (most ≤ 32) ⌝ }
+    ensures { λ r. ⌜ Loops stage (came ia) (came ib) t (came s) (left s) (jobFor joints task) most r ⌝ }
+{
+    let mut linear = 0;
+    for k in 0..most {
+        let passed = stage_pass(s, ia, ib, t, joints, task, stage);
+        linear += passed.linear;
+        let pass = passed.pass;
+        if let Pass::Over(end) = pass {
+            return run_ended(end, k + 1, linear);
+        }
+    }
+    run_ended(End::NonConvergent, most, linear)
 }

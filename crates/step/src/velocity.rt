@@ -1,16 +1,16 @@
-// The velocity loop of `solve` in solver.rs: tested before each of at most 3 corrections; a third one is never accepted.
+// The velocity passes of `solve` in solver.rs: tested before each of at most 3 corrections; a third one is never accepted.
 use crate::bodies::load_candidate;
 use crate::bodies::store_candidate;
 use crate::passes::Passed;
+use crate::passes::Stage;
 use crate::passes::Task;
-use crate::passes::pass_after;
+use crate::passes::correct;
 use crate::passes::pass_ended;
 use arith::number::abs;
 use arith::number::is_finite;
 use rows::body::MomentumBody;
 use rows::geometry::EqualityRow;
 use solves::End;
-use solves::Ended;
 use solves::Pass;
 use solves::Sum;
 use solves::Table;
@@ -21,25 +21,25 @@ use solves::layout::SOLUTION;
 use solves::operator::transpose;
 use solves::places::load_generalized;
 use solves::places::load_row;
-use solves::solver::linear_solve;
 use vectors::vector::OptionVec3;
 use vectors::vector::Vec3;
 ghost use mathlib.Core.Path.{_≡_};
-ghost use mathlib.Core.List.{[]};
+ghost use mathlib.Core.List.{List};
 ghost use Prim.Native.Nat.{_≤_, _<_};
 ghost use lib.ListN.{length};
 ghost use Rattle.rows.specs.View.{Out};
-ghost use Rattle.solves.specs.Lent.{came};
+ghost use Rattle.solves.specs.Lent.{came, left};
 ghost use Rattle.solves.specs.Region.{vecAt};
 ghost use Rattle.solves.specs.Answer.{sumAs};
-ghost use Rattle.solves.specs.View.{RHS, GENERALIZED, Beside, systemIn, rhsOn, solutionOn, sharesIn};
+ghost use Rattle.solves.specs.View.{RHS, GENERALIZED, Beside, systemIn, solutionOn, sharesIn};
 ghost use Rattle.solves.specs.Layout.{ROWS-MOST, BODIES-MOST};
+ghost use Rattle.rows.specs.declared.geometry.Joint.{Joint};
+ghost use Rattle.step.specs.declared.passes.Stage.the-variants.{Velocity};
 ghost use Rattle.step.specs.Layout.{CANDIDATE, USED, STATES};
 ghost use Rattle.step.specs.Bodies.{velocityOf, velocityRhs, compatibleOf, kickBodies, reactionOf};
-ghost use Rattle.step.specs.Step.{velocityPass, velocityLoop};
 ghost use Rattle.step.specs.View.{candidatesAt};
-ghost use Rattle.step.specs.RunView.{jobFor, candidatesOf, MotionOf, MotionAt, Remembers, Ours, Correcting, kicksBy};
-ghost use Rattle.step.specs.Says.{Leaves, Kicks, Rests};
+ghost use Rattle.step.specs.RunView.{jobFor, candidatesOf, MotionOf, MotionAt, Remembers, Ours, Correcting};
+ghost use Rattle.step.specs.Says.{Leaves, Passes};
 
 // The number of no body: there are at most 16.
 const NO_BODY: usize = 16;
@@ -155,7 +155,7 @@ fn kick_candidates(s: &mut [f64], body_count: usize) -> End
 }
 
 // A solve's reaction on the candidates.
-fn apply(s: &mut [f64], ia: &[usize; 96], ib: &[usize; 96], t: Table) -> End
+pub(crate) fn apply(s: &mut [f64], ia: &[usize; 96], ib: &[usize; 96], t: Table) -> End
     requires { ⌜ Ours s ia ib t ⌝ }
     ensures { λ r. ⌜ Leaves Correcting s r (candidatesOf t) (reactionOf (systemIn s ia ib t .rows) (candidatesOf t (came s)) (solutionOn s t)) ⌝ }
 {
@@ -166,7 +166,7 @@ fn apply(s: &mut [f64], ia: &[usize; 96], ib: &[usize; 96], t: Table) -> End
     kick_candidates(s, t.bodies)
 }
 
-fn correct_velocities(
+pub(crate) fn velocity_pass(
     s: &mut [f64],
     ia: &[usize; 96],
     ib: &[usize; 96],
@@ -174,20 +174,7 @@ fn correct_velocities(
     task: Task,
 ) -> Passed
     requires { ⌜ Ours s ia ib t ⌝ }
-    ensures { λ r. ⌜ Kicks s ia ib t r (kicksBy (jobFor [] task) (rhsOn s t)) ⌝ }
-{
-    let solved = linear_solve(s, ia, ib, t, task.cyclic);
-    let end = solved.end;
-    if !done(end) {
-        return pass_after(end, solved.linear);
-    }
-    let applied = apply(s, ia, ib, t);
-    pass_after(applied, solved.linear)
-}
-
-fn velocity_pass(s: &mut [f64], ia: &[usize; 96], ib: &[usize; 96], t: Table, task: Task) -> Passed
-    requires { ⌜ Ours s ia ib t ⌝ }
-    ensures { λ r. ⌜ Kicks s ia ib t r (velocityPass (jobFor [] task)) ⌝ }
+    ensures { λ r. ⌜ ((joints : List Joint) → Passes Velocity (came ia) (came ib) t (came s) (left s) (jobFor joints task) r) ⌝ }
 {
     let rated = velocity_rhs(s, ia, ib, t);
     if !done(rated) {
@@ -196,27 +183,5 @@ fn velocity_pass(s: &mut [f64], ia: &[usize; 96], ib: &[usize; 96], t: Table, ta
     if compatible(s, t.rows) {
         return pass_ended(Pass::Over(End::Done), 0);
     }
-    correct_velocities(s, ia, ib, t, task)
-}
-
-pub(crate) fn velocity_loop(
-    s: &mut [f64],
-    ia: &[usize; 96],
-    ib: &[usize; 96],
-    t: Table,
-    task: Task,
-) -> Ended
-    requires { ⌜ Ours s ia ib t ⌝ }
-    ensures { λ r. ⌜ Rests s ia ib t r (velocityLoop (jobFor [] task)) ⌝ }
-{
-    let mut linear = 0;
-    for k in 0..3usize {
-        let passed = velocity_pass(s, ia, ib, t, task);
-        linear += passed.linear;
-        let pass = passed.pass;
-        if let Pass::Over(end) = pass {
-            return Ended::new(end, linear);
-        }
-    }
-    Ended::new(End::NonConvergent, linear)
+    correct(s, ia, ib, t, task.cyclic, Stage::Velocity)
 }

@@ -39,7 +39,7 @@ use Rattle.step.specs.Records.{SCRATCH, bodyCount}
 use Rattle.step.specs.Bodies.{startBodies, writeRows, massResponse, prepareMasses, startOf, moveBodies, rowsMet, rhsOf, addImpulses, candidateOf}
 use Rattle.step.specs.Bodies.{velocityOf, velocityRhs, compatibleOf, kickBodies, reactionOf, statesOf}
 use Rattle.step.specs.Step.{nonlinearPass, nonlinearLoop, velocityPass, velocityLoop, finishOf, runOf, runFor, Stepped, stepped, grounded}
-use Rattle.step.specs.Step.{handBack, cleared, settled, solveOf}
+use Rattle.step.specs.Step.{handBack, cleared, concluded, solveOf}
 
 record Plan : Type 0 where
   bodies : List Float
@@ -79,7 +79,7 @@ unfolding startBodies writeRows massResponse prepareMasses startOf moveBodies ro
     factorial horner sineSum cosineSum halfTurn doubled turnOf sinCosOf
     hypotOf scaledRoot sqrt roundRoot root rootIn
     _>>=_ turns loop tab every Run._>>=_ Run.failIf Run.leaveIf Run.upTo isFinite absOf ofBits add sub mul div neg lt le eq round
-ended plan scratch = settled (plan .bodies) scratch (runFor (plan .bodies) (plan .joints) (length (plan .joints)) (plan .dt))
+ended plan scratch = concluded (plan .bodies) scratch (runFor (plan .bodies) (plan .joints) (length (plan .joints)) (plan .dt))
 
 -- test 4 alone reads the scratch's length
 long-enough : (bodies : List Float) (joints : List Joint) (count : ℕ) (dt : Float) (n : ℕ) → SCRATCH ≤ n

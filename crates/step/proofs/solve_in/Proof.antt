@@ -1,4 +1,4 @@
--- `solve_in` is the run, settled, with the scratch cleared (FinishLaws).
+-- `solve_in` is the run, concluded, with the scratch cleared (FinishLaws).
 use borrow.Author.Needs.{needs}
 use native.Mathlib.Omega.{arith}
 use mathlib.Core.Path.{_∙_}
@@ -10,11 +10,11 @@ use Rattle.step.proofs.solve_in.Tie as tie
 
 returns : tie.Need-returns
 returns c =
-    let at-settle = c .before .before .before .before .before .before in let at-run = at-settle .before .before .before .before .before in
+    let at-conclude = c .before .before .before .before .before .before in let at-run = at-conclude .before .before .before .before .before in
     let at-entry = at-run .before .before .before .before .before in
     solved-in _
     (runFor (now (at-entry .args .bodies)) _ _ _) (at-run .run .result) _
-    (at-run .run .ensures) (at-settle .settle .ensures)
+    (at-run .run .ensures) (at-conclude .conclude .ensures)
     (all-zero (at-run .run .ensures .kept .size ∙ at-entry .pre .0) (c .before .before .clear .ensures))
 
 pub solve-in-spec : {M : Type 1} → statement M

@@ -14,10 +14,10 @@ use Rattle.step.proofs.bodies.in_ground.Statement.{statement}
 use Rattle.step.proofs.bodies.in_ground.Tie as tie
 
 abbrev Inv-loop : tie.InvT-loop
-Inv-loop s n k₀ k = (k ≤ n) × (true ≡ every k (λ j. withinOf (vec3At s (CANDIDATE + 13 * j)) (ratio 8192 1)))
+Inv-loop s body-count k₀ k = (k ≤ body-count) × (true ≡ every k (λ j. withinOf (vec3At s (CANDIDATE + 13 * j)) (ratio 8192 1)))
 
 abbrev μ-loop : tie.MeasureT-loop
-μ-loop s n k₀ k = n - k
+μ-loop s body-count k₀ k = body-count - k
 
 returns : tie.Need-returns Inv-loop μ-loop
 returns c =

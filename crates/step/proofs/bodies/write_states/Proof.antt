@@ -9,10 +9,10 @@ use Rattle.step.proofs.bodies.write_states.Statement.{statement}
 use Rattle.step.proofs.bodies.write_states.Tie as tie
 
 abbrev Inv-loop : tie.InvT-loop
-Inv-loop bodies₀ s n k₀ bodies k = (k ≤ n) × (length bodies ≡ length bodies₀) × (Handed k s bodies₀ bodies)
+Inv-loop bodies₀ s body-count k₀ bodies k = (k ≤ body-count) × (length bodies ≡ length bodies₀) × (Handed k s bodies₀ bodies)
 
 abbrev μ-loop : tie.MeasureT-loop
-μ-loop bodies₀ s n k₀ bodies k = n - k
+μ-loop bodies₀ s body-count k₀ bodies k = body-count - k
 
 loop-again : tie.Need-loop-again Inv-loop μ-loop
 loop-again c =

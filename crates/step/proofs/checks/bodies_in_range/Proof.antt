@@ -12,10 +12,10 @@ use Rattle.step.proofs.checks.bodies_in_range.Statement.{statement}
 use Rattle.step.proofs.checks.bodies_in_range.Tie as tie
 
 abbrev Inv-loop : tie.InvT-loop
-Inv-loop bodies n k₀ k = (k ≤ n) × (true ≡ every k (λ j. bodyInRange (recordAt bodies j)))
+Inv-loop bodies body-count k₀ k = (k ≤ body-count) × (true ≡ every k (λ j. bodyInRange (recordAt bodies j)))
 
 abbrev μ-loop : tie.MeasureT-loop
-μ-loop bodies n k₀ k = n - k
+μ-loop bodies body-count k₀ k = body-count - k
 
 returns : tie.Need-returns Inv-loop μ-loop
 returns c =

@@ -10,10 +10,10 @@ use Rattle.step.proofs.checks.joints_join.Statement.{statement}
 use Rattle.step.proofs.checks.joints_join.Tie as tie
 
 abbrev Inv-loop : tie.InvT-loop
-Inv-loop count n joints k₀ k = (k ≤ count) × (true ≡ every k (λ j. joinsTwo n (jointIn joints j)))
+Inv-loop count body-count joints k₀ k = (k ≤ count) × (true ≡ every k (λ j. joinsTwo body-count (jointIn joints j)))
 
 abbrev μ-loop : tie.MeasureT-loop
-μ-loop count n joints k₀ k = count - k
+μ-loop count body-count joints k₀ k = count - k
 
 returns : tie.Need-returns Inv-loop μ-loop
 returns c = every-fail _ _ (c .before .before .before .loop-test .taken) (sym (c .before .joins-two .ensures) ∙ not-yes _ (c .if1 .taken))

@@ -12,10 +12,10 @@ use Rattle.step.proofs.integrator.make_states.Statement.{statement}
 use Rattle.step.proofs.integrator.make_states.Tie as tie
 
 abbrev Inv-loop : tie.InvT-loop
-Inv-loop s₀ bodies n k₀ s k = (k ≤ n) × (length s ≡ length s₀) × (Stated bodies n s₀ k s)
+Inv-loop s₀ bodies body-count k₀ s k = (k ≤ body-count) × (length s ≡ length s₀) × (Stated bodies body-count s₀ k s)
 
 abbrev μ-loop : tie.MeasureT-loop
-μ-loop s₀ bodies n k₀ s k = n - k
+μ-loop s₀ bodies body-count k₀ s k = body-count - k
 
 mul-store-state : tie.Need-mul-store-state Inv-loop μ-loop
 mul-store-state c =

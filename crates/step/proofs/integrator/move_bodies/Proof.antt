@@ -11,10 +11,10 @@ use Rattle.step.proofs.integrator.move_bodies.Statement.{statement}
 use Rattle.step.proofs.integrator.move_bodies.Tie as tie
 
 abbrev Inv-loop : tie.InvT-loop
-Inv-loop s₀ n dt k₀ s k = (k ≤ n) × (length s ≡ length s₀) × (Moved dt n s₀ k s)
+Inv-loop s₀ body-count dt k₀ s k = (k ≤ body-count) × (length s ≡ length s₀) × (Moved dt body-count s₀ k s)
 
 abbrev μ-loop : tie.MeasureT-loop
-μ-loop s₀ n dt k₀ s k = n - k
+μ-loop s₀ body-count dt k₀ s k = body-count - k
 
 returns : tie.Need-returns Inv-loop μ-loop
 returns c =

@@ -13,7 +13,7 @@ returns c =
     let at-candidate = c .before .before .before .before .before in let at-entry = at-candidate .before .before .before in
     passed-is 1 (λ x. impulsesAt x (at-entry .args .t)) (λ x. foundAt (now (at-entry .args .ia)) (now (at-entry .args .ib)) x (at-entry .args .t))
     (c .pass-ended .ensures)
-    (not-found (jobFor _ _) (at-entry .pre .0) (at-candidate .candidate .result)
+    (not-found (jobFor _ _) (at-entry .pre .0) (at-entry .pre .1 .apart) (at-candidate .candidate .result)
     (at-candidate .candidate .ensures) (c .before .before .done .ensures) (c .before .if1 .taken))
 
 returns-2 : tie.Need-returns-2
@@ -22,24 +22,26 @@ returns-2 c =
     let at-entry = at-candidate .before .before .before in
     passed-is 1 (λ x. impulsesAt x (at-entry .args .t)) (λ x. foundAt (now (at-entry .args .ia)) (now (at-entry .args .ib)) x (at-entry .args .t))
     (c .pass-ended2 .ensures)
-    (found-met (jobFor _ _) (at-entry .pre .0) (at-candidate .candidate .result)
+    (found-met (jobFor _ _) (at-entry .pre .0) (at-entry .pre .1 .apart) (at-candidate .candidate .result)
     (at-candidate .candidate .ensures) (at-done .done .ensures) (at-if1 .if1 .left)
     (c .before .before .rows-met .ensures (now (at-entry .args .ia)) (now (at-entry .args .ib))) (c .before .if2 .taken))
 
 correct-requires : tie.Need-correct-requires
-correct-requires c κs = record { ours = record { ready = search needs; long = search needs }; apart = search needs }
+correct-requires c κs = record { ready = search needs; long = search needs }
 
 returns-3 : tie.Need-returns-3
 returns-3 c =
-    let at-if2 = c .before .before .before .before in let at-rows-met = at-if2 .before in let at-if1 = at-rows-met .before .before in
-    let at-done = at-if1 .before in let at-candidate = at-done .before .before .before in let at-entry = at-candidate .before .before .before in
-    found-unmet (jobFor _ _) (at-entry .pre .0) (at-candidate .candidate .result)
+    let at-correct = c .before .before in let at-fill-rhs = at-correct .before .before .before .before in let at-if2 = at-fill-rhs .before .before in
+    let at-rows-met = at-if2 .before in let at-if1 = at-rows-met .before .before in let at-done = at-if1 .before in
+    let at-candidate = at-done .before .before .before in let at-entry = at-candidate .before .before .before in
+    found-unmet (jobFor _ _) (at-entry .pre .0) (at-entry .pre .1 .apart) (at-candidate .candidate .result)
     (at-candidate .candidate .ensures) (at-done .done .ensures) (at-if1 .if1 .left)
-    (at-rows-met .rows-met .ensures (now (at-entry .args .ia)) (now (at-entry .args .ib))) (at-if2 .if2 .left) (c .before .before .correct .ensures)
+    (at-rows-met .rows-met .ensures (now (at-entry .args .ia)) (now (at-entry .args .ib))) (at-if2 .if2 .left)
+    (at-fill-rhs .fill-rhs .ensures (now (at-entry .args .ia)) (now (at-entry .args .ib))) (at-correct .correct .ensures)
 
 pub nonlinear-pass-spec : {M : Type 1} → statement M
 nonlinear-pass-spec =
     tie.close (tie.spec
     (λ c κs. search needs) (λ c κs. search needs) (λ c κs. search needs) (λ c. omega arith) returns
-    (λ c κs. search needs) (λ c κs. search needs) (λ c. omega arith) returns-2 correct-requires
+    (λ c κs. search needs) (λ c κs. search needs) (λ c. omega arith) returns-2 (λ c κs. search needs) correct-requires
     (λ c. omega arith) returns-3)

@@ -10,11 +10,11 @@ use Rattle.step.proofs.integrator.prepare_masses.Statement.{statement}
 use Rattle.step.proofs.integrator.prepare_masses.Tie as tie
 
 abbrev Inv-loop : tie.InvT-loop
-Inv-loop s₀ n moved k₀ s k =
-    (k ≤ n) × (length s ≡ length s₀) × (Weighed moved n s₀ k s)
+Inv-loop s₀ body-count moved k₀ s k =
+    (k ≤ body-count) × (length s ≡ length s₀) × (Weighed moved body-count s₀ k s)
 
 abbrev μ-loop : tie.MeasureT-loop
-μ-loop s₀ n moved k₀ s k = n - k
+μ-loop s₀ body-count moved k₀ s k = body-count - k
 
 returns : tie.Need-returns Inv-loop μ-loop
 returns c =

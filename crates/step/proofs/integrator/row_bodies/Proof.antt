@@ -17,8 +17,8 @@ use Rattle.step.proofs.integrator.row_bodies.Tie as tie
 abbrev Inv-loop : tie.InvT-loop
 Inv-loop ia₀ ib₀ count joints n₀ k₀ ia ib n k =
     (k ≤ count) × (n ≤ 6 * k) × (length ia ≡ length ia₀) × (length ib ≡ length ib₀) ×
-    ((size : ℕ) → Joined joints count size → (j : ℕ) → j < n → getD ia j 0 < size) ×
-    ((size : ℕ) → Joined joints count size → (j : ℕ) → j < n → getD ib j 0 < size) × (n ≡ rowsBefore joints k) ×
+    ((body-count : ℕ) → Joined joints count body-count → (j : ℕ) → j < n → getD ia j 0 < body-count) ×
+    ((body-count : ℕ) → Joined joints count body-count → (j : ℕ) → j < n → getD ib j 0 < body-count) × (n ≡ rowsBefore joints k) ×
     (Sides joints k ia ib)
 
 abbrev μ-loop : tie.MeasureT-loop
@@ -31,8 +31,8 @@ loop-holds c =
       omega arith,
       refl,
       refl,
-      (λ size q j h. absurd (omega arith)),
-      (λ size q j h. absurd (omega arith)),
+      (λ body-count q j h. absurd (omega arith)),
+      (λ body-count q j h. absurd (omega arith)),
       before-none (at-entry .args .t3),
       sides-none _ _ _,
     )
@@ -90,8 +90,8 @@ loop-again c =
       ),
       omega arith,
       omega arith,
-      (λ size q. spread-less (at-fill .fill .ensures) (at-loop .loop .inv .4 size q) (q .a-there _ (at-test .loop-test .taken))),
-      (λ size q. spread-less (at-fill2 .fill2 .ensures) (at-loop .loop .inv .5 size q) (q .b-there _ (at-test .loop-test .taken))),
+      (λ body-count q. spread-less (at-fill .fill .ensures) (at-loop .loop .inv .4 body-count q) (q .a-there _ (at-test .loop-test .taken))),
+      (λ body-count q. spread-less (at-fill2 .fill2 .ensures) (at-loop .loop .inv .5 body-count q) (q .b-there _ (at-test .loop-test .taken))),
       before-more (at-entry .args .t3) (at-loop .loop .k) _ (at-loop .loop .inv .6) (at-row-count .row-count .ensures),
       sides-more (at-entry .args .t3) (at-loop .loop .k) _ (at-loop .loop .inv .7) (at-loop .loop .inv .6) (at-row-count .row-count .ensures)
           (at-fill .fill .ensures) (at-fill2 .fill2 .ensures),

@@ -2,7 +2,9 @@
 use borrow.Author.Needs.{needs}
 use native.Mathlib.Omega.{arith}
 use mathlib.Core.Path.{_∙_}
+use Prim.Native.Nat.{_≤_}
 use denote.Ref.{now}
+use Rattle.solves.specs.declared.Table.{Table}
 use Rattle.solves.specs.View.{START-ROWS}
 use Rattle.step.specs.Records.{bodyCount, recordsOf}
 use Rattle.step.specs.View.{statesAt}
@@ -26,21 +28,26 @@ returns c =
     (started-as (at-row-bodies .row-bodies .ensures .1) _ (at-start .start .result) (at-row-bodies .row-bodies .ensures .2)
     (at-start .start .ensures _ _ (at-row-bodies .row-bodies .ensures .1))) (c .before .before .done .ensures) (c .before .if1 .taken))
 
-nonlinear-loop-requires : tie.Need-nonlinear-loop-requires
-nonlinear-loop-requires c κs =
-    let at-s = c .before .before .before .before .before .before in let at-start = at-s .before in
-    let at-row-bodies = at-start .before .before .before .before in let at-entry = at-row-bodies .before .before .before .before .before in (
-      record {
-        ours = record { ready = rows-of _ (omega arith) (omega arith) (at-entry .pre .1) (at-row-bodies .row-bodies .ensures .0); long = omega arith };
-        apart = omega arith;
-      },
-      record { joined = at-entry .pre .1; sides = at-row-bodies .row-bodies .ensures .1; rows-are = at-row-bodies .row-bodies .ensures .2 },
+clear-requires : tie.Need-clear-requires
+clear-requires c κs =
+    let at-start = c .before .before .before .before .before in let at-row-bodies = at-start .before .before .before .before in
+    let at-entry = at-row-bodies .before .before .before .before .before in
+    omega (arith, at-row-bodies .row-bodies .ensures .0 .most, at-entry .pre .1 .few)
+
+stage-loop-requires : tie.Need-stage-loop-requires
+stage-loop-requires c κs =
+    let at-clear = c .before .before .before .before .before in let at-start = at-clear .before .before .before .before .before .before in
+    let at-row-bodies = at-start .before .before .before .before in let at-entry = at-row-bodies .before .before .before .before .before in
+    let told = at-row-bodies .row-bodies .ensures in (
+      record { ready = rows-of _ (omega arith) (omega arith) (at-entry .pre .1) (told .0); long = omega arith },
+      record { joined = at-entry .pre .1; sides = told .1; rows-are = told .2; apart = omega arith },
+      omega arith,
     )
 
 returns-2 : tie.Need-returns-2
 returns-2 c =
-    let at-nonlinear-loop = c .before .before .before .before in let at-if1 = at-nonlinear-loop .before .before .before .before in
-    let at-done = at-if1 .before in let at-start = at-done .before .before .before in
+    let at-stage-loop = c .before .before .before .before in let at-clear = at-stage-loop .before .before .before .before .before .before in
+    let at-if1 = at-clear .before .before in let at-done = at-if1 .before in let at-start = at-done .before .before .before in
     let at-row-bodies = at-start .before .before .before .before in let at-entry = at-row-bodies .before .before .before .before .before in
     not-met (jobOf (now (at-entry .args .bodies)) _ _ _)
     (recordsOf (now (at-entry .args .bodies))) (at-row-bodies .row-bodies .ensures .1)
@@ -48,12 +55,13 @@ returns-2 c =
     (at-start .start .result)
     (started-as (at-row-bodies .row-bodies .ensures .1) _ (at-start .start .result) (at-row-bodies .row-bodies .ensures .2)
     (at-start .start .ensures _ _ (at-row-bodies .row-bodies .ensures .1))) (at-done .done .ensures) (at-if1 .if1 .left)
-    (at-nonlinear-loop .nonlinear-loop .result) (at-nonlinear-loop .nonlinear-loop .ensures) (c .before .done2 .ensures) (c .if2 .taken)
+    (omega arith) (omega (arith, at-row-bodies .row-bodies .ensures .0 .most, at-entry .pre .1 .few)) (at-entry .pre .1 .small) (at-clear .clear .ensures)
+    (at-stage-loop .stage-loop .result) (at-stage-loop .stage-loop .ensures) (c .before .done2 .ensures) (c .if2 .taken)
 
 finish-run-requires : tie.Need-finish-run-requires
 finish-run-requires c κs =
-    let at-s2 = c .before .before .before .before .before .before in let at-nonlinear-loop = at-s2 .before in
-    let at-slice-known2 = at-nonlinear-loop .before .before .before .before .before .before in let at-start = at-slice-known2 .before .before in
+    let at-if2 = c .before .before .before in let at-stage-loop = at-if2 .before .before .before .before in
+    let at-clear = at-stage-loop .before .before .before .before .before .before in let at-start = at-clear .before .before .before .before .before .before in
     let at-row-bodies = at-start .before .before .before .before in let at-entry = at-row-bodies .before .before .before .before .before in (
       record { ready = rows-of _ (omega arith) (omega arith) (at-entry .pre .1) (at-row-bodies .row-bodies .ensures .0); long = omega arith },
       omega arith,
@@ -61,38 +69,32 @@ finish-run-requires c κs =
 
 add-run-ended : tie.Need-add-run-ended
 add-run-ended c =
-    let at-finish-run = c .before .before .before .before in let at-slice-known3 = at-finish-run .before .before .before .before .before .before in
-    let at-nonlinear-loop = at-slice-known3 .before .before in
-    let at-slice-known2 = at-nonlinear-loop .before .before .before .before .before .before in
-    let at-row-bodies = at-slice-known2 .before .before .before .before .before .before in
-    let at-entry = at-row-bodies .before .before .before .before .before in
+    let at-finish-run = c .before .before .before .before in let at-if2 = at-finish-run .before .before .before .before in
+    let at-stage-loop = at-if2 .before .before .before .before in let at-clear = at-stage-loop .before .before .before .before .before .before in
+    let at-start = at-clear .before .before .before .before .before .before in
+    let at-row-bodies = at-start .before .before .before .before in let at-entry = at-row-bodies .before .before .before .before .before in
+    let table : Table = record { place = START-ROWS; rows = at-row-bodies .row-bodies .result; bodies = bodyCount (now (at-entry .args .bodies)) } in
+    let few : at-row-bodies .row-bodies .result ≤ 96 = omega (arith, at-row-bodies .row-bodies .ensures .0 .most, at-entry .pre .1 .few) in
     omega (
       arith,
-      loop-few (at-row-bodies .row-bodies .ensures .1)
-          (record { place = START-ROWS; rows = at-row-bodies .row-bodies .result; bodies = bodyCount (now (at-entry .args .bodies)) })
-          (omega (arith, at-row-bodies .row-bodies .ensures .0 .most, at-entry .pre .1 .few))
-          (jobOf (now (at-entry .args .bodies)) _ _ _)
-          (at-nonlinear-loop .nonlinear-loop .ensures),
-      finish-few (at-row-bodies .row-bodies .ensures .1)
-          (record { place = START-ROWS; rows = at-row-bodies .row-bodies .result; bodies = bodyCount (now (at-entry .args .bodies)) })
-          (omega (arith, at-row-bodies .row-bodies .ensures .0 .most, at-entry .pre .1 .few)) _ _ (at-finish-run .finish-run .ensures),
+      loop-few (at-row-bodies .row-bodies .ensures .1) table few (jobOf (now (at-entry .args .bodies)) _ _ _) _ (at-stage-loop .stage-loop .ensures),
+      finish-few (at-row-bodies .row-bodies .ensures .1) table few (jobOf (now (at-entry .args .bodies)) _ _ _) _ (at-finish-run .finish-run .ensures),
     )
 
 same-length-3 : tie.Need-same-length-3
 same-length-3 c =
-    let at-finish-run = c .before .before .before .before .before in
-    let at-slice-known3 = at-finish-run .before .before .before .before .before .before in
-    let at-nonlinear-loop = at-slice-known3 .before .before in
-    let at-slice-known2 = at-nonlinear-loop .before .before .before .before .before .before in let at-start = at-slice-known2 .before .before in
-    let at-row-bodies = at-start .before .before .before .before in
-    at-finish-run .finish-run .ensures .kept .size ∙ at-nonlinear-loop .nonlinear-loop .ensures .kept .size ∙
-    (at-start .start .ensures _ _ (at-row-bodies .row-bodies .ensures .1)) .kept .size
+    let at-finish-run = c .before .before .before .before .before in let at-if2 = at-finish-run .before .before .before .before in
+    let at-stage-loop = at-if2 .before .before .before .before in let at-clear = at-stage-loop .before .before .before .before .before .before in
+    let at-start = at-clear .before .before .before .before .before .before in let at-row-bodies = at-start .before .before .before .before in
+    at-finish-run .finish-run .ensures .kept .size ∙ at-stage-loop .stage-loop .ensures .kept .size ∙ at-clear .clear .ensures .kept .size
+    ∙ (at-start .start .ensures _ _ (at-row-bodies .row-bodies .ensures .1)) .kept .size
 
 returns-3 : tie.Need-returns-3
 returns-3 c =
     let at-finish-run = c .before .before .before .before .before in let at-if2 = at-finish-run .before .before .before .before in
-    let at-done2 = at-if2 .before in let at-nonlinear-loop = at-done2 .before .before .before in
-    let at-if1 = at-nonlinear-loop .before .before .before .before in let at-done = at-if1 .before in
+    let at-done2 = at-if2 .before in let at-stage-loop = at-done2 .before .before .before in
+    let at-clear = at-stage-loop .before .before .before .before .before .before in
+    let at-if1 = at-clear .before .before in let at-done = at-if1 .before in
     let at-start = at-done .before .before .before in let at-row-bodies = at-start .before .before .before .before in
     let at-entry = at-row-bodies .before .before .before .before .before in
     left-is (λ x. statesAt x (bodyCount (now (at-entry .args .bodies)))) (c .run-ended2 .ensures)
@@ -102,13 +104,14 @@ returns-3 c =
     (at-start .start .result)
     (started-as (at-row-bodies .row-bodies .ensures .1) _ (at-start .start .result) (at-row-bodies .row-bodies .ensures .2)
     (at-start .start .ensures _ _ (at-row-bodies .row-bodies .ensures .1))) (at-done .done .ensures) (at-if1 .if1 .left)
-    (at-nonlinear-loop .nonlinear-loop .result) (at-nonlinear-loop .nonlinear-loop .ensures) (at-done2 .done2 .ensures) (at-if2 .if2 .left)
+    (omega arith) (omega (arith, at-row-bodies .row-bodies .ensures .0 .most, at-entry .pre .1 .few)) (at-entry .pre .1 .small) (at-clear .clear .ensures)
+    (at-stage-loop .stage-loop .result) (at-stage-loop .stage-loop .ensures) (at-done2 .done2 .ensures) (at-if2 .if2 .left)
     (at-finish-run .finish-run .result) (at-finish-run .finish-run .ensures))
 
 pub run-spec : {M : Type 1} → statement M
 run-spec =
     tie.close (tie.spec
     (λ c. search needs) (λ c. search needs) (λ c κs. search needs) (λ c κs. search needs)
-    (λ c κs. search needs) (λ c κs. search needs) (λ c. omega arith) returns nonlinear-loop-requires
+    (λ c κs. search needs) (λ c κs. search needs) (λ c. omega arith) returns clear-requires stage-loop-requires
     (λ c κs. search needs) (λ c. omega arith) returns-2 finish-run-requires add-run-ended
     (λ c κs. search needs) same-length-3 returns-3)

@@ -12,10 +12,10 @@ use Rattle.step.proofs.integrator.start_bodies.Statement.{statement}
 use Rattle.step.proofs.integrator.start_bodies.Tie as tie
 
 abbrev Inv-loop : tie.InvT-loop
-Inv-loop s₀ bodies n k₀ s k = (k ≤ n) × (length s ≡ length s₀) × (Begun bodies n s₀ k s)
+Inv-loop s₀ bodies body-count k₀ s k = (k ≤ body-count) × (length s ≡ length s₀) × (Begun bodies body-count s₀ k s)
 
 abbrev μ-loop : tie.MeasureT-loop
-μ-loop s₀ bodies n k₀ s k = n - k
+μ-loop s₀ bodies body-count k₀ s k = body-count - k
 
 returns : tie.Need-returns Inv-loop μ-loop
 returns c =

@@ -13,13 +13,13 @@ use Rattle.step.proofs.integrator.write_rows.Statement.{statement}
 use Rattle.step.proofs.integrator.write_rows.Tie as tie
 
 abbrev Inv-loop : tie.InvT-loop
-Inv-loop s₀ count rows moved joints n₀ k₀ s n k =
+Inv-loop s₀ count place moved joints n₀ k₀ s n k =
     (k ≤ count) × (n ≤ 6 * k) × (length s ≡ length s₀) × (n ≡ rowsBefore joints k) ×
-    ((size : ℕ) (J : Joined joints count size) (ia ib : List ℕ) (S : Sides joints count ia ib) → Wrote joints count
-    moved rows s₀ size J ia ib S k n s)
+    ((body-count : ℕ) (J : Joined joints count body-count) (ia ib : List ℕ) (S : Sides joints count ia ib) → Wrote joints count
+    moved place s₀ body-count J ia ib S k n s)
 
 abbrev μ-loop : tie.MeasureT-loop
-μ-loop s₀ count rows moved joints n₀ k₀ s n k = count - k
+μ-loop s₀ count place moved joints n₀ k₀ s n k = count - k
 
 loop-holds : tie.Need-loop-holds Inv-loop μ-loop
 loop-holds c = (
@@ -27,7 +27,7 @@ loop-holds c = (
   omega arith,
   refl,
   before-none (c .before .args .t2),
-  λ size J ia ib S. wrote-none (c .before .args .t2) (c .before .args .count) (c .before .args .moved) (c .before .args .place) _ size J ia ib S,
+  λ body-count J ia ib S. wrote-none (c .before .args .t2) (c .before .args .count) (c .before .args .moved) (c .before .args .place) _ body-count J ia ib S,
 )
 
 load-moved-requires : tie.Need-load-moved-requires Inv-loop μ-loop
@@ -58,8 +58,8 @@ returns c =
     let at-write-equality-rows = c .before .before .before .before in let at-load-moved2 = at-write-equality-rows .before .before in
     let at-load-moved = at-load-moved2 .before .before in let at-test = at-load-moved .before .before .before in let at-loop = at-test .before in
     let at-entry = at-loop .before .before in
-    λ size J ia ib S. wrote-nonconvergent _ _ (at-entry .args .moved) _ _ size J ia ib
-    S (at-loop .loop .k) _ _ (at-loop .loop .inv .4 size J ia ib S) (at-test .loop-test .taken) (omega arith) (at-entry .pre .1)
+    λ body-count J ia ib S. wrote-nonconvergent _ _ (at-entry .args .moved) _ _ body-count J ia ib
+    S (at-loop .loop .k) _ _ (at-loop .loop .inv .4 body-count J ia ib S) (at-test .loop-test .taken) (omega arith) (at-entry .pre .1)
     (at-loop .loop .inv .3) (at-load-moved .load-moved .ensures) (at-load-moved2 .load-moved2 .ensures) _
     (at-write-equality-rows .write-equality-rows .ensures) (c .enum-told .given .1)
 
@@ -68,8 +68,8 @@ returns-2 c =
     let at-write-equality-rows = c .before .before .before .before in let at-load-moved2 = at-write-equality-rows .before .before in
     let at-load-moved = at-load-moved2 .before .before in let at-test = at-load-moved .before .before .before in let at-loop = at-test .before in
     let at-entry = at-loop .before .before in
-    λ size J ia ib S. wrote-overflow _ _ (at-entry .args .moved) _ _ size J ia ib S
-    (at-loop .loop .k) _ _ (at-loop .loop .inv .4 size J ia ib S) (at-test .loop-test .taken) (omega arith) (at-entry .pre .1)
+    λ body-count J ia ib S. wrote-overflow _ _ (at-entry .args .moved) _ _ body-count J ia ib S
+    (at-loop .loop .k) _ _ (at-loop .loop .inv .4 body-count J ia ib S) (at-test .loop-test .taken) (omega arith) (at-entry .pre .1)
     (at-loop .loop .inv .3) (at-load-moved .load-moved .ensures) (at-load-moved2 .load-moved2 .ensures) _
     (at-write-equality-rows .write-equality-rows .ensures) (c .enum-told2 .given .1)
 
@@ -96,8 +96,8 @@ loop-again c =
       omega arith,
       wrote-rows (at-entry .args .t2) (at-loop .loop .k) _ (at-loop .loop .inv .3) (at-write-equality-rows .write-equality-rows .ensures) _
           (c .before .m .given .1),
-      λ size J ia ib S. wrote-again _ _ (at-entry .args .moved) _ _ size J ia ib S
-          (at-loop .loop .k) _ _ (at-loop .loop .inv .4 size J ia ib S) (at-test .loop-test .taken) (omega arith) (at-entry .pre .1)
+      λ body-count J ia ib S. wrote-again _ _ (at-entry .args .moved) _ _ body-count J ia ib S
+          (at-loop .loop .k) _ _ (at-loop .loop .inv .4 body-count J ia ib S) (at-test .loop-test .taken) (omega arith) (at-entry .pre .1)
           (at-loop .loop .inv .3) (at-load-moved .load-moved .ensures) (at-load-moved2 .load-moved2 .ensures) _
           (at-write-equality-rows .write-equality-rows .ensures) (c .before .m .given .1),
     )
@@ -105,8 +105,8 @@ loop-again c =
 returns-3 : tie.Need-returns-3 Inv-loop μ-loop
 returns-3 c =
     let at-entry = c .before .before .before in
-    λ size J ia ib S. wrote-ends _ _ (at-entry .args .moved) _ _ size J ia ib S
-    (c .before .loop .k) _ _ (c .before .loop .inv .4 size J ia ib S) (c .before .loop .inv .3) (omega arith) (c .loop-test .left)
+    λ body-count J ia ib S. wrote-ends _ _ (at-entry .args .moved) _ _ body-count J ia ib S
+    (c .before .loop .k) _ _ (c .before .loop .inv .4 body-count J ia ib S) (c .before .loop .inv .3) (omega arith) (c .loop-test .left)
 
 pub write-rows-spec : {M : Type 1} → statement M
 write-rows-spec =

@@ -11,10 +11,10 @@ use Rattle.step.proofs.velocity.kick_candidates.Statement.{statement}
 use Rattle.step.proofs.velocity.kick_candidates.Tie as tie
 
 abbrev Inv-loop : tie.InvT-loop
-Inv-loop s₀ bodies k₀ s k = (k ≤ bodies) × (length s ≡ length s₀) × (Kicked s₀ bodies k s)
+Inv-loop s₀ body-count k₀ s k = (k ≤ body-count) × (length s ≡ length s₀) × (Kicked s₀ body-count k s)
 
 abbrev μ-loop : tie.MeasureT-loop
-μ-loop s₀ bodies k₀ s k = bodies - k
+μ-loop s₀ body-count k₀ s k = body-count - k
 
 returns : tie.Need-returns Inv-loop μ-loop
 returns c =
