@@ -25,12 +25,8 @@ integrateAsUnit unit omega dt = quatOr arithmeticOverflow (integrateAsUnitOf uni
 
 -- a matrix of the body's frame, applied to a vector of the world
 unfoldable pub inFrame : Quat → Mat3 → Vec3 → Result Vec3
-inFrame unit matrix vector = do
-  local ← tryRotateAsUnit (conjugateOf unit) vector
-  tryRotateAsUnit unit (applyOf matrix local)
+inFrame unit matrix vector = tryRotateAsUnit (conjugateOf unit) vector >>= λ local. tryRotateAsUnit unit (applyOf matrix local)
 
 -- origin plus rotated local centre
 unfoldable pub worldCenterAsUnit : Vec3 → Quat → Vec3 → Result Vec3
-worldCenterAsUnit origin unit centerOfMass = do
-  turned ← tryRotateAsUnit unit centerOfMass
-  tryFinite (addOf turned origin)
+worldCenterAsUnit origin unit centerOfMass = tryRotateAsUnit unit centerOfMass >>= λ turned. tryFinite (addOf turned origin)

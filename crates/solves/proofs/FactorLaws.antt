@@ -22,7 +22,7 @@ use Rattle.rows.specs.declared.End.the-variants as Ends
 use Rattle.solves.specs.Region.{vecAt, Filled, Does}
 use Rattle.solves.specs.RegionLaws.{vec-at, kept-vec, vec-set, vec-more, filled-vec}
 use Rattle.solves.specs.Solver.{rowIn, crossMass}
-use Rattle.solves.specs.Path.{index, cell, reduced, Factor, rowOf, scaleAt, pathScale, pathEntry, pathRow, pathFactor, pathFactored}
+use Rattle.solves.specs.Path.{index, bandCell, reduced, Factor, rowOf, scaleAt, pathScale, pathEntry, pathRow, pathFactor, pathFactored}
 use Rattle.solves.specs.Answer.{ranAs}
 use Rattle.solves.specs.View.{rowOn, rowsOn, massesAt, listAt, bandAt, factorAt, Factoring, RowsAlong, MASSES, PATH-BAND, PATH-SCALE, Beside, BAND}
 use Rattle.solves.specs.DoesLaws.{goes-on, returns-if}
@@ -30,12 +30,12 @@ use Rattle.solves.specs.ViewLaws.{kept-rows, kept-masses, row-in}
 use Rattle.solves.proofs.BlockLaws.{list-at}
 
 -- a place of the band, read
-pub cell-at : (s : List Float) (n i d : ℕ) → i < n → d < 12 → at s (PATH-BAND + 12 * i + d) ≡ cell (bandAt s n) i d
+pub cell-at : (s : List Float) (n i d : ℕ) → i < n → d < 12 → at s (PATH-BAND + 12 * i + d) ≡ bandCell (bandAt s n) i d
 cell-at s n i d h l =
     let e : PATH-BAND + 12 * i + d ≡ PATH-BAND + (12 * i + d) = omega arith in
     ap (at s) e ∙ vec-at s PATH-BAND (12 * n) (12 * i + d) (omega arith)
 
-pub cell-first : (s : List Float) (n i : ℕ) → i < n → at s (PATH-BAND + 12 * i) ≡ cell (bandAt s n) i 0
+pub cell-first : (s : List Float) (n i : ℕ) → i < n → at s (PATH-BAND + 12 * i) ≡ bandCell (bandAt s n) i 0
 cell-first s n i h =
     let e : PATH-BAND + 12 * i ≡ PATH-BAND + (12 * i + 0) = omega arith in
     ap (at s) e ∙ vec-at s PATH-BAND (12 * n) (12 * i + 0) (omega arith)

@@ -13,7 +13,7 @@ use Rattle.rows.specs.Region.{kept-refl, kept-then, kept-set}
 use Rattle.solves.specs.declared.path.Line.{Line}
 use Rattle.solves.specs.Region.{vecAt, Does}
 use Rattle.solves.specs.RegionLaws.{vec-at, vec-in, kept-vec, vec-set, vec-more}
-use Rattle.solves.specs.Path.{index, cell, lessProducts, reduced, forwardSum, forwardTurn, forward, backwardSum, Back, backwardTurn, backward}
+use Rattle.solves.specs.Path.{index, bandCell, lessProducts, reduced, forwardSum, forwardTurn, forward, backwardSum, Back, backwardTurn, backward}
 use Rattle.solves.specs.View.{listAt, bandAt, Along, SOLUTION, RESIDUAL, PATH-BAND, PATH-SCALE, PATH-RHS, END, Beside}
 use Rattle.solves.specs.PathView.{placeOf, lineAt, InLine, Lie, rowLine, columnLine, sideLine}
 use Rattle.solves.proofs.BlockLaws.{list-at}
@@ -42,12 +42,12 @@ sum-along s start {a} {b} {p} {q} {m} {k} x y e ea eb em px qy =
     e ∙ (λ j. lessProducts (lineAt s (ea j)) (lineAt s (eb j)) (em j) start) ∙ products-same (lineAt s p) (lineAt s q) x y k start px qy
 
 -- what stands on a line
-row-is : (s : List Float) (n i from t : ℕ) → i < n → from + t ≤ i → i ≤ from + 11 → lineAt s (rowLine i from) t ≡ cell (bandAt s n) i (i - (from + t))
+row-is : (s : List Float) (n i from t : ℕ) → i < n → from + t ≤ i → i ≤ from + 11 → lineAt s (rowLine i from) t ≡ bandCell (bandAt s n) i (i - (from + t))
 row-is s n i from t h l m =
     let place : PATH-BAND + 12 * i + (i - from) + 0 * t - 1 * t ≡ PATH-BAND + 12 * i + (i - (from + t)) = omega arith in
     ap (at s) place ∙ cell-at s n i (i - (from + t)) h (omega arith)
 
-column-is : (s : List Float) (n i t : ℕ) → i + 1 + t < n → t < 11 → lineAt s (columnLine i (i + 1)) t ≡ cell (bandAt s n) (i + 1 + t) (i + 1 + t - i)
+column-is : (s : List Float) (n i t : ℕ) → i + 1 + t < n → t < 11 → lineAt s (columnLine i (i + 1)) t ≡ bandCell (bandAt s n) (i + 1 + t) (i + 1 + t - i)
 column-is s n i t h l =
     let place : PATH-BAND + 12 * (i + 1) + (i + 1 - i) + 13 * t - 0 * t ≡ PATH-BAND + 12 * (i + 1 + t) + (i + 1 + t - i) = omega arith in
     ap (at s) place ∙ cell-at s n (i + 1 + t) (i + 1 + t - i) h (omega arith)
@@ -163,8 +163,8 @@ module _ (n : ℕ) (order : List ℕ) (s₀ : List Float) where
     abbrev new : Float
     new = value ⊘ at s (PATH-BAND + 12 * i)
 
-    new-is : new ≡ forwardSum Bd (vecAt s PATH-RHS i) i (at Re (index O i) ⊘ at Sc i) ⊘ cell Bd i 0
-    new-is = (λ j. (ev ∙ λ k. forwardSum (band-is k) (vecAt s PATH-RHS i) i (start-is k ⊘ scale-is k)) j ⊘ (cell-first s n i h ∙ λ k. cell (band-is k) i 0) j)
+    new-is : new ≡ forwardSum Bd (vecAt s PATH-RHS i) i (at Re (index O i) ⊘ at Sc i) ⊘ bandCell Bd i 0
+    new-is = (λ j. (ev ∙ λ k. forwardSum (band-is k) (vecAt s PATH-RHS i) i (start-is k ⊘ scale-is k)) j ⊘ (cell-first s n i h ∙ λ k. bandCell (band-is k) i 0) j)
 
     pub forwards-more : ForwardSo (i + 1) (set s (PATH-RHS + i) new)
     forwards-more = swept-more inv h record {
@@ -231,9 +231,9 @@ module _ (n : ℕ) (order : List ℕ) (s₀ : List Float) where
     abbrev value : Float
     value = sum ⊘ at s (PATH-BAND + 12 * i)
 
-    value-is : value ≡ backwardSum n Bd₁ (vecAt s PATH-RHS n) i (at (vecAt s PATH-RHS n) i) ⊘ cell Bd₁ i 0
+    value-is : value ≡ backwardSum n Bd₁ (vecAt s PATH-RHS n) i (at (vecAt s PATH-RHS n) i) ⊘ bandCell Bd₁ i 0
     value-is = λ j. (es ∙ λ x. backwardSum n (band₁ x) (vecAt s PATH-RHS n) i (vec-at s PATH-RHS n i i-there x)) j
-        ⊘ (cell-first s n i i-there ∙ λ x. cell (band₁ x) i 0) j
+        ⊘ (cell-first s n i i-there ∙ λ x. bandCell (band₁ x) i 0) j
 
     abbrev s₁ : List Float
     s₁ = set s (PATH-RHS + i) value
@@ -263,7 +263,7 @@ module _ (n : ℕ) (order : List ℕ) (s₀ : List Float) where
     old-is = vec-at s₁ SOLUTION n m m-there ∙ λ j. at (sol₁ j) (list-at order n i i-there j)
 
     abbrev want : Float
-    want = backwardSum n Bd₁ (vecAt s PATH-RHS n) i (at (vecAt s PATH-RHS n) i) ⊘ cell Bd₁ i 0
+    want = backwardSum n Bd₁ (vecAt s PATH-RHS n) i (at (vecAt s PATH-RHS n) i) ⊘ bandCell Bd₁ i 0
 
     y₂ : vecAt s₂ PATH-RHS n ≡ set (vecAt s PATH-RHS n) i want
     y₂ = kept-vec (kept-set s₁ (SOLUTION + m) moved) PATH-RHS n (λ j x y. omega (arith, m-there))

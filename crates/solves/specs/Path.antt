@@ -88,8 +88,8 @@ pathOrder a b n = do
   _ ← returnIf (not (eqb (length (seen .order)) n)) tt
   go (seen .order)
 
-abbrev pub cell : List Float → ℕ → ℕ → Float  -- path_band[i][d]: twelve doubles a row, one row after the other
-cell band i d = at band (12 * i + d)
+abbrev pub bandCell : List Float → ℕ → ℕ → Float  -- path_band[i][d]: twelve doubles a row, one row after the other
+bandCell band i d = at band (12 * i + d)
 
 abbrev pub bandStart : ℕ → ℕ  -- i.saturating_sub(BAND_WIDTH - 1)
 bandStart i = i - 11
@@ -98,7 +98,7 @@ abbrev pub lessProducts : (ℕ → Float) → (ℕ → Float) → ℕ → Float 
 lessProducts x y terms value = turns (λ t value. value ⊖ x t ⊗ y t) terms value
 
 unfoldable pub reduced : List Float → ℕ → ℕ → Float → Float  -- for k in band_start..j { value -= path_band[i][i - k] * path_band[j][j - k]; }
-reduced band i j value = lessProducts (λ t. cell band i (i - (bandStart i + t))) (λ t. cell band j (j - (bandStart i + t))) (j - bandStart i) value
+reduced band i j value = lessProducts (λ t. bandCell band i (i - (bandStart i + t))) (λ t. bandCell band j (j - (bandStart i + t))) (j - bandStart i) value
 
 pub record Factor : Type 0 where  -- self.path_scale and self.path_band
   pub scale : List Float
@@ -123,7 +123,7 @@ module _ (rows : List EqualityRow) (masses : List MassResponse) (order : List �
     let value : Float = reduced band i j (entry ⊘ (at scale i ⊗ at scale j)) in
         cond (eqb j i)
         (cond (not (isFinite value) || le value (ratio 0 1)) (stop nonConvergent) (go (set band (12 * i) (sqrt binary64 value))))
-        (go (set band (12 * i + (i - j)) (value ⊘ cell band j 0)))
+        (go (set band (12 * i + (i - j)) (value ⊘ bandCell band j 0)))
 
   unfoldable pub pathRow : List Float → ℕ → List Float → Result (List Float)  -- for j in band_start..=i
   pathRow scale i band = loop (i + 1 - bandStart i) (λ t band. pathEntry scale i (bandStart i + t) band) band
@@ -139,10 +139,10 @@ module _ (rows : List EqualityRow) (masses : List MassResponse) (order : List �
 
 -- y is self.path_rhs
 unfoldable pub forwardSum : List Float → List Float → ℕ → Float → Float  -- for j in band_start..i { value -= path_band[i][i - j] * path_rhs[j]; }
-forwardSum band y i value = lessProducts (λ t. cell band i (i - (bandStart i + t))) (λ t. at y (bandStart i + t)) (i - bandStart i) value
+forwardSum band y i value = lessProducts (λ t. bandCell band i (i - (bandStart i + t))) (λ t. at y (bandStart i + t)) (i - bandStart i) value
 
 unfoldable pub backwardSum : ℕ → List Float → List Float → ℕ → Float → Float  -- for j in i + 1..n.min(i + BAND_WIDTH) { value -= .. * path_rhs[j]; }
-backwardSum n band y i value = lessProducts (λ t. cell band (i + 1 + t) (i + 1 + t - i)) (λ t. at y (i + 1 + t)) (min n (i + 12) - (i + 1)) value
+backwardSum n band y i value = lessProducts (λ t. bandCell band (i + 1 + t) (i + 1 + t - i)) (λ t. at y (i + 1 + t)) (min n (i + 12) - (i + 1)) value
 
 pub record Back : Type 0 where
   pub y : List Float
@@ -150,7 +150,7 @@ pub record Back : Type 0 where
 
 module _ (n : ℕ) (order : List ℕ) (scale band : List Float) where
   abbrev pub forwardTurn : List Float → ℕ → List Float → List Float  -- path_rhs[i] = value / path_band[i][0]
-  forwardTurn residual i y = y ++ (forwardSum band y i (at residual (index order i) ⊘ at scale i) ⊘ cell band i 0 ∷ [])
+  forwardTurn residual i y = y ++ (forwardSum band y i (at residual (index order i) ⊘ at scale i) ⊘ bandCell band i 0 ∷ [])
 
   unfoldable pub forward : List Float → List Float
   forward residual = turns (forwardTurn residual) n []
@@ -158,7 +158,7 @@ module _ (n : ℕ) (order : List ℕ) (scale band : List Float) where
   -- for i in (0..n).rev() { path_rhs[i] = value / path_band[i][0]; solution[path_order[i]] += path_rhs[i] / path_scale[i]; }
   unfoldable pub backwardTurn : ℕ → Back → Back
   backwardTurn k s =
-      let i : ℕ = n - 1 - k in let value : Float = backwardSum n band (s .y) i (at (s .y) i) ⊘ cell band i 0 in
+      let i : ℕ = n - 1 - k in let value : Float = backwardSum n band (s .y) i (at (s .y) i) ⊘ bandCell band i 0 in
       record { y = set (s .y) i value; solution = set (s .solution) (index order i) (at (s .solution) (index order i) ⊕ value ⊘ at scale i) }
 
   unfoldable pub backward : List Float → List Float → List Float

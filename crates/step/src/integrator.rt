@@ -34,6 +34,7 @@ use rows::geometry::write_equality_rows;
 use solves::End;
 use solves::Ended;
 use solves::Pass;
+use solves::PerRow;
 use solves::Table;
 use solves::done;
 use solves::layout::GENERALIZED;
@@ -283,8 +284,8 @@ pub(crate) fn add_impulses(s: &mut [f64], n: usize) -> End
 // The first half: the candidates and their rows.
 fn candidate(
     s: &mut [f64],
-    ia: &[usize; 96],
-    ib: &[usize; 96],
+    ia: &PerRow,
+    ib: &PerRow,
     t: Table,
     joints: [Joint; 16],
     task: Task,
@@ -305,8 +306,8 @@ fn candidate(
 
 pub(crate) fn nonlinear_pass(
     s: &mut [f64],
-    ia: &[usize; 96],
-    ib: &[usize; 96],
+    ia: &PerRow,
+    ib: &PerRow,
     t: Table,
     joints: [Joint; 16],
     task: Task,
@@ -346,8 +347,8 @@ fn make_states(s: &mut [f64], bodies: &[f64], body_count: usize) -> End
 // The velocity loop over the candidates' rows and the states, after the nonlinear loop met its rows.
 fn finish_run(
     s: &mut [f64],
-    ia: &[usize; 96],
-    ib: &[usize; 96],
+    ia: &PerRow,
+    ib: &PerRow,
     t: Table,
     bodies: &[f64],
     joints: [Joint; 16],

@@ -7,6 +7,7 @@ use crate::velocity::velocity_pass;
 use rows::geometry::Joint;
 use solves::End;
 use solves::Pass;
+use solves::PerRow;
 use solves::Table;
 use solves::done;
 use solves::solver::linear_solve;
@@ -70,7 +71,7 @@ pub(crate) fn run_ended(end: End, nonlinear: usize, linear: usize) -> Ran
 }
 
 // What is made of a solution: the impulses of the next pass, or the candidates kicked.
-fn use_solution(s: &mut [f64], ia: &[usize; 96], ib: &[usize; 96], t: Table, stage: Stage) -> End
+fn use_solution(s: &mut [f64], ia: &PerRow, ib: &PerRow, t: Table, stage: Stage) -> End
     requires { ⌜ Ours s ia ib t ⌝ }
     ensures { λ r. ⌜ Leaves (Outside stage) s r (λ u. givenAt stage u t) (makeAt stage (came ia) (came ib) t (came s) (solutionOn s t)) ⌝ }
 {
@@ -83,8 +84,8 @@ fn use_solution(s: &mut [f64], ia: &[usize; 96], ib: &[usize; 96], t: Table, sta
 // The second half of a pass: a solve, and what is made of its solution.
 pub(crate) fn correct(
     s: &mut [f64],
-    ia: &[usize; 96],
-    ib: &[usize; 96],
+    ia: &PerRow,
+    ib: &PerRow,
     t: Table,
     cyclic: bool,
     stage: Stage,
@@ -103,8 +104,8 @@ pub(crate) fn correct(
 
 fn stage_pass(
     s: &mut [f64],
-    ia: &[usize; 96],
-    ib: &[usize; 96],
+    ia: &PerRow,
+    ib: &PerRow,
     t: Table,
     joints: [Joint; 16],
     task: Task,
@@ -122,8 +123,8 @@ fn stage_pass(
 // At most so many passes, each counted when begun.
 pub(crate) fn stage_loop(
     s: &mut [f64],
-    ia: &[usize; 96],
-    ib: &[usize; 96],
+    ia: &PerRow,
+    ib: &PerRow,
     t: Table,
     joints: [Joint; 16],
     task: Task,

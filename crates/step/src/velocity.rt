@@ -12,6 +12,7 @@ use rows::body::MomentumBody;
 use rows::geometry::EqualityRow;
 use solves::End;
 use solves::Pass;
+use solves::PerRow;
 use solves::Sum;
 use solves::Table;
 use solves::done;
@@ -106,7 +107,7 @@ fn velocity(row: EqualityRow, a: Motion, b: Motion) -> Sum
     Sum::ArithmeticOverflow
 }
 
-fn velocity_rhs(s: &mut [f64], ia: &[usize; 96], ib: &[usize; 96], t: Table) -> End
+fn velocity_rhs(s: &mut [f64], ia: &PerRow, ib: &PerRow, t: Table) -> End
     requires { ⌜ Ours s ia ib t ⌝ }
     ensures { λ r. ⌜ Leaves (Beside RHS) s r (λ u. vecAt u RHS (t .rows)) (velocityRhs (systemIn s ia ib t .rows) (candidatesOf t (came s))) ⌝ }
 {
@@ -155,7 +156,7 @@ fn kick_candidates(s: &mut [f64], body_count: usize) -> End
 }
 
 // A solve's reaction on the candidates.
-pub(crate) fn apply(s: &mut [f64], ia: &[usize; 96], ib: &[usize; 96], t: Table) -> End
+pub(crate) fn apply(s: &mut [f64], ia: &PerRow, ib: &PerRow, t: Table) -> End
     requires { ⌜ Ours s ia ib t ⌝ }
     ensures { λ r. ⌜ Leaves Correcting s r (candidatesOf t) (reactionOf (systemIn s ia ib t .rows) (candidatesOf t (came s)) (solutionOn s t)) ⌝ }
 {
@@ -166,13 +167,7 @@ pub(crate) fn apply(s: &mut [f64], ia: &[usize; 96], ib: &[usize; 96], t: Table)
     kick_candidates(s, t.bodies)
 }
 
-pub(crate) fn velocity_pass(
-    s: &mut [f64],
-    ia: &[usize; 96],
-    ib: &[usize; 96],
-    t: Table,
-    task: Task,
-) -> Passed
+pub(crate) fn velocity_pass(s: &mut [f64], ia: &PerRow, ib: &PerRow, t: Table, task: Task) -> Passed
     requires { ⌜ Ours s ia ib t ⌝ }
     ensures { λ r. ⌜ ((joints : List Joint) → Passes Velocity (came ia) (came ib) t (came s) (left s) (jobFor joints task) r) ⌝ }
 {

@@ -147,7 +147,7 @@ round-neg f s a c =
     ∙ units-neg f s (nearest (n / u) (compare (n % u * 2) u)) k
     ∙ ap neg (sym (round-is f s a c))
 
-unlike-neg : (s t : Bool) → unlike (not s) t ≡ not (unlike s t)
+pub unlike-neg : (s t : Bool) → unlike (not s) t ≡ not (unlike s t)
 unlike-neg true true = refl
 unlike-neg true false = refl
 unlike-neg false true = refl

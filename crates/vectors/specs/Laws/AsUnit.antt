@@ -7,7 +7,7 @@ use lib.Dec.{eqb}
 use lib.Ieee.{Float, nan, inf, fin, binary64, unlike, up, down, round, neg, div}
 use Rattle.arith.specs.Real.{_⊘_, isFinite, absOf}
 use Rattle.arith.specs.Hypot.{hypotOf}
-use Rattle.arith.specs.Laws.Rounding.{round-neg}
+use Rattle.arith.specs.Laws.Rounding.{round-neg, unlike-neg}
 use Rattle.vectors.specs.declared.vector.Vec3.{Vec3}
 use Rattle.vectors.specs.declared.vector.OptionVec3.the-variants as Vector
 use Rattle.vectors.specs.declared.quaternion.Quat.{Quat}
@@ -29,12 +29,6 @@ unfolding absOf neg
 neg-abs nan = refl
 neg-abs (inf s) = refl
 neg-abs (fin s m e) = refl
-
-unlike-neg : (s t : Bool) → unlike (not s) t ≡ not (unlike s t)
-unlike-neg true true = refl
-unlike-neg true false = refl
-unlike-neg false true = refl
-unlike-neg false false = refl
 
 neg-div : (x y : Float) → neg x ⊘ y ≡ neg (x ⊘ y)
 unfolding div neg
