@@ -164,7 +164,8 @@ module _ (n : ℕ) (order : List ℕ) (s₀ : List Float) where
     new = value ⊘ at s (PATH-BAND + 12 * i)
 
     new-is : new ≡ forwardSum Bd (vecAt s PATH-RHS i) i (at Re (index O i) ⊘ at Sc i) ⊘ bandCell Bd i 0
-    new-is = (λ j. (ev ∙ λ k. forwardSum (band-is k) (vecAt s PATH-RHS i) i (start-is k ⊘ scale-is k)) j ⊘ (cell-first s n i h ∙ λ k. bandCell (band-is k) i 0) j)
+    new-is = (λ j. (ev ∙ λ k. forwardSum (band-is k) (vecAt s PATH-RHS i) i (start-is k ⊘ scale-is k)) j
+        ⊘ (cell-first s n i h ∙ λ k. bandCell (band-is k) i 0) j)
 
     pub forwards-more : ForwardSo (i + 1) (set s (PATH-RHS + i) new)
     forwards-more = swept-more inv h record {
