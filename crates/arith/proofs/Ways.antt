@@ -18,7 +18,7 @@ use Rattle.arith.specs.Real.{_⊕_, _⊖_, _⊗_, _⊘_, F, isFinite, ab
 use Rattle.arith.specs.Root.{sqrt}
 use Rattle.arith.specs.Hypot.{hypotOf, scaledRoot}
 use Rattle.arith.specs.Fault.{number, arithmeticOverflow}
-use Rattle.arith.specs.Angle.{PI, TAU, sineSum, cosineSum, halfTurn, doubled, turnOf, sinCosOf}
+use Rattle.arith.specs.Angle.{PI, TAU, sineSum, cosineSum, sumsAt, doubled, halvedOf, sinCosOf}
 use Rattle.arith.specs.Angle.{halfTangent, arcSum, octant, quadrant, facing, angleOf, atan2Of, remTauOf}
 use Rattle.arith.specs.Answered.{sinCosNumber, SinCosAnswered, angleNumber, Atan2Answered}
 use Rattle.arith.specs.declared.angle.SineCosine.{SineCosine}
@@ -37,33 +37,33 @@ unfolding ofBits round scaledRoot
 scaled-else a b h e = ap (λ (s : Float). a ⊗ s) e ∙ cond-no _ _ h
 
 -- ---- sine and cosine
-pub half-turn-is : (x : Float) {s c : Float} → s ≡ sineSum x → c ≡ cosineSum x → record { s = s; c = c } ≡ halfTurn x
-unfolding halfTurn
-half-turn-is x {c = c} e f = ap (λ (s : Float). record { s = s; c = c }) e ∙ ap (λ (c : Float). record { s = sineSum x; c = c }) f
+pub sums-at-is : (x : Float) {s c : Float} → s ≡ sineSum x → c ≡ cosineSum x → record { s = s; c = c } ≡ sumsAt x
+unfolding sumsAt
+sums-at-is x {c = c} e f = ap (λ (s : Float). record { s = s; c = c }) e ∙ ap (λ (c : Float). record { s = sineSum x; c = c }) f
 
 module _ (x : Float) where
-  pub turn-none : {k : ℕ} → k ≡ 0 → halfTurn x ≡ turnOf k x
-  unfolding turnOf
-  turn-none h = ap (λ (k : ℕ). turnOf k x) (sym h)
+  pub turn-none : {k : ℕ} → k ≡ 0 → sumsAt x ≡ halvedOf k x
+  unfolding halvedOf
+  turn-none h = ap (λ (k : ℕ). halvedOf k x) (sym h)
 
-  pub turn-small : (k : ℕ) → (k ≡ 0 → ⊥) → Ieee.le x (F 0x3fe0_0000_0000_0000) ≡ true → halfTurn x ≡ turnOf k x
-  unfolding ofBits round turnOf
+  pub turn-small : (k : ℕ) → (k ≡ 0 → ⊥) → Ieee.le x (F 0x3fe0_0000_0000_0000) ≡ true → sumsAt x ≡ halvedOf k x
+  unfolding ofBits round halvedOf
   turn-small zero n h = absurd (n refl)
   turn-small (suc k) n h = cond-yes _ _ h
 
   pub turn-large : (k : ℕ) {t : SineCosine} → (k ≡ 0 → ⊥) → Ieee.le x (F 0x3fe0_0000_0000_0000) ≡ false
-      → t ≡ turnOf (k - 1) (x ⊗ F 0x3fe0_0000_0000_0000) → doubled t ≡ turnOf k x
-  unfolding ofBits round turnOf
+      → t ≡ halvedOf (k - 1) (x ⊗ F 0x3fe0_0000_0000_0000) → doubled t ≡ halvedOf k x
+  unfolding ofBits round halvedOf
   turn-large zero n h e = absurd (n refl)
   turn-large (suc k) n h e =
       let one-less : suc k - 1 ≡ k = omega arith in
-      ap doubled (e ∙ ap (λ (j : ℕ). turnOf j (x ⊗ F 0x3fe0_0000_0000_0000)) one-less) ∙ cond-no _ _ h
+      ap doubled (e ∙ ap (λ (j : ℕ). halvedOf j (x ⊗ F 0x3fe0_0000_0000_0000)) one-less) ∙ cond-no _ _ h
 
 pub sines-low : (h : Float) → Ieee.lt h (F 0) ≡ true → Sines.Refused ≡ sinCosOf h
 unfolding ofBits round sinCosOf
 sines-low h p = cond-yes _ _ p
 
-pub sines-in : (h : Float) {t : SineCosine} → Ieee.lt h (F 0) ≡ false → Ieee.le h (F 0x4010_0000_0000_0000) ≡ true → t ≡ turnOf 3 h → Sines.Value t ≡ sinCosOf h
+pub sines-in : (h : Float) {t : SineCosine} → Ieee.lt h (F 0) ≡ false → Ieee.le h (F 0x4010_0000_0000_0000) ≡ true → t ≡ halvedOf 3 h → Sines.Value t ≡ sinCosOf h
 unfolding ofBits round sinCosOf
 sines-in h p q e = ap Sines.Value e ∙ cond-yes _ _ q ∙ cond-no _ _ p
 
@@ -93,7 +93,7 @@ unfolding ofBits round sinCosOf
 sines-answered h e = record {
   is = e;
   numbered = ap sinCosNumber e
-      ∙ numbered-turn (Ieee.lt h (F 0)) (Ieee.le h (F 0x4010_0000_0000_0000)) (turnOf 3 h)
+      ∙ numbered-turn (Ieee.lt h (F 0)) (Ieee.le h (F 0x4010_0000_0000_0000)) (halvedOf 3 h)
       ∙ ap (λ (b : Bool). cond b 0 (number arithmeticOverflow)) (within-four h);
 }
 

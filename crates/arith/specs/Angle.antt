@@ -18,10 +18,10 @@ unfoldable pub horner : Float → Float → List Float → Float  -- from the hi
 horner z a [] = a
 horner z a (c ∷ cs) = horner z (a ⊗ z ⊕ c) cs
 
-abbrev pub part : ℕ → Float  -- 1 / n and -1 / n, rounded once
+abbrev pub part : ℕ → Float  -- 1 / n, rounded once
 part n = ratio 1 n
 
-abbrev pub negPart : ℕ → Float
+abbrev pub negPart : ℕ → Float  -- -1 / n, rounded once
 negPart n = neg (ratio 1 n)
 
 unfoldable pub sineSum : Float → Float  -- x - x³/3! + .. + x¹³/13!, by Horner in x², then times x
@@ -34,18 +34,18 @@ cosineSum x =
     horner (x ⊗ x) (negPart (factorial 14))
     (part (factorial 12) ∷ negPart (factorial 10) ∷ part (factorial 8) ∷ negPart (factorial 6) ∷ part (factorial 4) ∷ negPart (factorial 2) ∷ part 1 ∷ [])
 
-unfoldable pub halfTurn : Float → SineCosine
-halfTurn x = record { s = sineSum x; c = cosineSum x }
+unfoldable pub sumsAt : Float → SineCosine
+sumsAt x = record { s = sineSum x; c = cosineSum x }
 
 unfoldable pub doubled : SineCosine → SineCosine  -- s becomes (2 times s) times c, and c becomes 1 - (2 times s) times s, both from the old s and c
 doubled t = record { s = ratio 2 1 ⊗ t .s ⊗ t .c; c = ratio 1 1 ⊖ ratio 2 1 ⊗ t .s ⊗ t .s }
 
-unfoldable pub turnOf : ℕ → Float → SineCosine  -- x halved until it is at most 1/2, the sums there, doubled as often; k halvings are allowed
-turnOf zero x = halfTurn x
-turnOf (suc k) x = cond (le x (ratio 1 2)) (halfTurn x) (doubled (turnOf k (x ⊗ ratio 1 2)))
+unfoldable pub halvedOf : ℕ → Float → SineCosine  -- x halved until it is at most 1/2, the sums there, doubled as often; k halvings are allowed
+halvedOf zero x = sumsAt x
+halvedOf (suc k) x = cond (le x (ratio 1 2)) (sumsAt x) (doubled (halvedOf k (x ⊗ ratio 1 2)))
 
 unfoldable pub sinCosOf : Float → SinCos  -- below 0, above 4 or not a number: refused. An angle of at most 4 is at most 1/2 after three halvings
-sinCosOf h = cond (lt h (ratio 0 1)) SinCos.Refused (cond (le h (ratio 4 1)) (SinCos.Value (turnOf 3 h)) SinCos.Refused)
+sinCosOf h = cond (lt h (ratio 0 1)) SinCos.Refused (cond (le h (ratio 4 1)) (SinCos.Value (halvedOf 3 h)) SinCos.Refused)
 
 unfoldable pub halfTangent : Float → Float  -- the arc tangent, from here to atan2Of: q becomes q / (1 + sqrt(1 + q times q))
 halfTangent q = q ⊘ (ratio 1 1 ⊕ sqrt binary64 (ratio 1 1 ⊕ q ⊗ q))

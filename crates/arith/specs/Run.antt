@@ -42,10 +42,10 @@ r >> s = r >>= λ _. s
 unfoldable pub failIf : {E : Type 0} → Bool → E → Run (Unit {0}) E  -- if test { return Err(e); }
 failIf test e = cond test (fail e) (ok tt)
 
-abbrev pub again : {A B E : Type 0} → A → Run (Turn A B) E  -- how a pass ends: the next one starts from a, or the loop is left with b
+abbrev pub again : {A B E : Type 0} → A → Run (Turn A B) E  -- how a pass ends: the next one starts from a
 again a = ok (go a)
 
-abbrev pub leave : {A B E : Type 0} → B → Run (Turn A B) E
+abbrev pub leave : {A B E : Type 0} → B → Run (Turn A B) E  -- or the loop is left with b
 leave b = ok (stop b)
 
 unfoldable pub leaveIf : {A B E : Type 0} → Bool → B → Run (Turn A B) E → Run (Turn A B) E  -- if test { leave with b; } rest

@@ -4,7 +4,7 @@ use crate::number::is_finite;
 use crate::remainder::remainder_tau;
 use crate::root::sqrt;
 ghost use mathlib.Core.Path.{_≡_};
-ghost use Rattle.arith.specs.Angle.{sineSum, cosineSum, halfTurn, doubled, turnOf};
+ghost use Rattle.arith.specs.Angle.{sineSum, cosineSum, sumsAt, doubled, halvedOf};
 ghost use Rattle.arith.specs.Angle.{halfTangent, arcSum, octant, quadrant, facing, angleOf, remTauOf};
 ghost use Rattle.arith.specs.Answered.{SinCosAnswered, Atan2Answered};
 
@@ -67,8 +67,8 @@ fn cosine_sum(x: f64) -> f64
 }
 
 // The sums at an angle of at most 1/2.
-fn half_turn(x: f64) -> SineCosine
-    ensures { λ r. ⌜ r ≡ halfTurn x ⌝ }
+fn sums_at(x: f64) -> SineCosine
+    ensures { λ r. ⌜ r ≡ sumsAt x ⌝ }
 {
     SineCosine {
         s: sine_sum(x),
@@ -89,13 +89,13 @@ fn doubled(t: SineCosine) -> SineCosine
 
 // The angle halved until it is at most 0.5, but at most `halvings` times; each halving is undone by a doubling.
 fn halved(halvings: usize, x: f64) -> SineCosine
-    ensures { λ r. ⌜ r ≡ turnOf halvings x ⌝ }
+    ensures { λ r. ⌜ r ≡ halvedOf halvings x ⌝ }
 {
     if halvings == 0 {
-        return half_turn(x);
+        return sums_at(x);
     }
     if x <= 0.5 {
-        return half_turn(x);
+        return sums_at(x);
     }
     doubled(halved(halvings - 1, x * 0.5))
 }

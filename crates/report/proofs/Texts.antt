@@ -18,7 +18,7 @@ use Rattle.io.specs.Digits.{digits, Fewest}
 use Rattle.report.specs.Text.{written, Puts, places, decimalOf, hexOf, fieldOf, countsOf, fieldsOf, bodyLine, bodyLines, okLine}
 use Rattle.report.specs.Text.{noLine, headLine, HEAD-LINE, BODY-LINE, reportOf, roomOf, reportLength, reportOut}
 use Rattle.arith.specs.Flow.{turns}
-use Rattle.report.specs.TextLaws.{decimal-length, hex-length, numbers-more, numbers-length, lines-more, lines-length, head-length, report-fits}
+use Rattle.report.specs.TextLaws.{decimal-length, hex-length, fields-more, fields-length, lines-more, lines-length, head-length, report-fits}
 
 -- ---- a NaN is what does not equal itself
 same : (b : Bool) → Bool·beq b b ≡ true
@@ -247,7 +247,7 @@ module _ (bodies : List Float) where
 
     module _ {two : List ℕ} {b : ℕ} (q : Puts one a (fieldsOf bodies (26 * i) 13) two b) where
       pub line-after-state : b + 1 ≤ length two
-      line-after-state = left (puts-then p q) 241 1 (simp length-append (omega (arith, decimal-length i, numbers-length bodies (26 * i) 13))) (omega arith)
+      line-after-state = left (puts-then p q) 241 1 (simp length-append (omega (arith, decimal-length i, fields-length bodies (26 * i) 13))) (omega arith)
 
       pub line-puts : {three : List ℕ} {d : ℕ} → Puts two b (10 ∷ []) three d → Puts out at (bodyLine bodies i) three d
       unfolding bodyLine
@@ -261,11 +261,11 @@ module _ (bodies : List Float) where
 
     module _ (k : ℕ) {now : List ℕ} {next : ℕ} (p : Puts out at (fieldsOf bodies from k) now next) where
       pub numbers-room : k < 13 → next + 17 ≤ length now
-      numbers-room h = left p (17 * k) 17 (omega (arith, numbers-length bodies from k)) (omega arith)
+      numbers-room h = left p (17 * k) 17 (omega (arith, fields-length bodies from k)) (omega arith)
 
-      pub numbers-puts : {after : List ℕ} {r : ℕ} → Puts now next (fieldOf (getD bodies (from + k) nan)) after r
+      pub fields-puts : {after : List ℕ} {r : ℕ} → Puts now next (fieldOf (getD bodies (from + k) nan)) after r
           → Puts out at (fieldsOf bodies from (k + 1)) after r
-      numbers-puts q = puts-as (numbers-more bodies from k) (puts-then p q)
+      fields-puts q = puts-as (fields-more bodies from k) (puts-then p q)
 
       pub numbers-end : k ≤ 13 → 13 ≤ k → Puts out at (fieldsOf bodies from 13) now next
       numbers-end h g = let all : k ≡ 13 = omega arith in puts-as (ap (fieldsOf bodies from) all) p

@@ -36,28 +36,28 @@ pub hex-length : (x : Float) → length (hexOf x) ≡ 16
 unfolding hexOf
 hex-length x = digits-length 16 16 (toBits binary64 x)
 
-pub number-length : (x : Float) → length (fieldOf x) ≡ 17
+pub field-length : (x : Float) → length (fieldOf x) ≡ 17
 unfolding fieldOf
-number-length x = ap suc (hex-length x)
+field-length x = ap suc (hex-length x)
 
 pub counts-length : (n m : ℕ) → length (countsOf n m) ≤ 42
 unfolding countsOf
 counts-length n m = simp length-append (omega (arith, decimal-length n, decimal-length m))
 
 module _ (bodies : List Float) where
-  pub numbers-more : (i k : ℕ) → fieldsOf bodies i k ++ fieldOf (getD bodies (i + k) nan) ≡ fieldsOf bodies i (k + 1)
+  pub fields-more : (i k : ℕ) → fieldsOf bodies i k ++ fieldOf (getD bodies (i + k) nan) ≡ fieldsOf bodies i (k + 1)
   unfolding fieldsOf turns
-  numbers-more i k = rw (add-one k) refl
+  fields-more i k = rw (add-one k) refl
 
-  pub numbers-length : (i k : ℕ) → length (fieldsOf bodies i k) ≡ 17 * k
+  pub fields-length : (i k : ℕ) → length (fieldsOf bodies i k) ≡ 17 * k
   unfolding fieldsOf turns
-  numbers-length i zero = refl
-  numbers-length i (suc k) =
-      length-append (fieldsOf bodies i k) (fieldOf (getD bodies (i + k) nan)) ∙ omega (arith, numbers-length i k, number-length (getD bodies (i + k) nan))
+  fields-length i zero = refl
+  fields-length i (suc k) =
+      length-append (fieldsOf bodies i k) (fieldOf (getD bodies (i + k) nan)) ∙ omega (arith, fields-length i k, field-length (getD bodies (i + k) nan))
 
   pub line-length : (i : ℕ) → length (bodyLine bodies i) ≤ BODY-LINE
   unfolding bodyLine
-  line-length i = simp length-append (omega (arith, decimal-length i, numbers-length (26 * i) 13))
+  line-length i = simp length-append (omega (arith, decimal-length i, fields-length (26 * i) 13))
 
   pub lines-more : (n : ℕ) → bodyLines bodies n ++ bodyLine bodies n ≡ bodyLines bodies (n + 1)
   unfolding bodyLines turns

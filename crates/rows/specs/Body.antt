@@ -3,11 +3,11 @@ use Rattle.rows.specs.Words.{_^_, Bool, cond, not, _&&_, Float, eq, le, 
 use Rattle.rows.specs.Words.{addOf, subOf, scaleOf, divOf, conjugateOf, isNormalizedOf, integrateOf, applyOf, RigidBody, BodyState, MomentumBody}
 use Rattle.rows.specs.Fault.{nonConvergent, arithmeticOverflow, Result, quatOr, tryFinite, tryLength, tryRotate, orLeave}
 
-abbrev pub bodyWith : Vec3 → Quat → Vec3 → Vec3 → Float → Vec3 → Mat3 → MomentumBody  -- the body and the state with these parts
+abbrev pub bodyWith : Vec3 → Quat → Vec3 → Vec3 → Float → Vec3 → Mat3 → MomentumBody  -- the body with these parts
 bodyWith center rotation momentum spin mass local inverse =
     record { center = center; rotation = rotation; momentum = momentum; spin = spin; mass = mass; «center_of_mass» = local; «inverse_inertia» = inverse }
 
-abbrev pub stateWith : Vec3 → Quat → Vec3 → Vec3 → BodyState
+abbrev pub stateWith : Vec3 → Quat → Vec3 → Vec3 → BodyState  -- the state with these parts
 stateWith origin rotation linear angular = record { origin = origin; rotation = rotation; «linear_velocity» = linear; «angular_velocity» = angular }
 
 unfoldable pub worldCenterOfMassOf : Vec3 → Quat → Vec3 → Result Vec3  -- rigid_body.rs, fn world_center_of_mass_for
@@ -28,10 +28,10 @@ inverseAngularMassOf self spin =
 abbrev pub omegaOf : MomentumBody → Result Vec3  -- fn omega
 omegaOf self = inverseAngularMassOf self (self .spin)
 
-abbrev pub withMomenta : MomentumBody → Vec3 → Vec3 → MomentumBody  -- the body with other momenta, and at another place
+abbrev pub withMomenta : MomentumBody → Vec3 → Vec3 → MomentumBody  -- the body with other momenta
 withMomenta self momentum spin = bodyWith (self .center) (self .rotation) momentum spin (self .mass) (self .«center_of_mass») (self .«inverse_inertia»)
 
-abbrev pub placedAt : MomentumBody → Vec3 → Quat → MomentumBody
+abbrev pub placedAt : MomentumBody → Vec3 → Quat → MomentumBody  -- the body at another place
 placedAt self center rotation = bodyWith center rotation (self .momentum) (self .spin) (self .mass) (self .«center_of_mass») (self .«inverse_inertia»)
 
 unfoldable pub kickOf : MomentumBody → Vec3 → Vec3 → Result MomentumBody  -- fn kick
@@ -46,7 +46,8 @@ anchorOf self local = tryRotate (self .rotation) (subOf local (self .«center_of
 abbrev pub integrate : Quat → Vec3 → Float → Result Quat  -- rotation.integrate_world_angular_velocity(omega, dt)?
 integrate rotation omega dt = quatOr arithmeticOverflow (integrateOf rotation omega dt)
 
-unfoldable pub passOf : MomentumBody → Float → Vec3 → Turn Vec3 (Result Quat)  -- a pass of the loop: the next omega, or the rotation at the end
+-- a pass of the loop, from the rotation at entry: the next omega, or the loop is left with the rotation at the end of the step
+unfoldable pub passOf : MomentumBody → Float → Vec3 → Turn Vec3 (Result Quat)
 passOf self dt omega = do
   half ← orLeave (integrate (self .rotation) omega (dt ⊗ ratio 1 2))
   next ← orLeave (omegaOf (placedAt self (self .center) half))
@@ -65,10 +66,10 @@ driftOf self dt = do
   rotation ← settled (loop 32 (λ k. passOf self dt) omega)
   go (placedAt self center rotation)
 
-abbrev pub sameVec3 : Vec3 → Vec3 → Bool  -- transform == other
+abbrev pub sameVec3 : Vec3 → Vec3 → Bool  -- transform == other: the origins
 sameVec3 v w = eq (v .x) (w .x) && eq (v .y) (w .y) && eq (v .z) (w .z)
 
-abbrev pub sameQuat : Quat → Quat → Bool
+abbrev pub sameQuat : Quat → Quat → Bool  -- and the rotations
 sameQuat p q = eq (p .x) (q .x) && eq (p .y) (q .y) && eq (p .z) (q .z) && eq (p .w) (q .w)
 
 unfoldable pub originOf : MomentumBody → Result Vec3  -- the origin, as Transform::new and set_transform take it

@@ -5,13 +5,13 @@ pub use Rattle.arith.specs.Fault.{Fault, nonConvergent, arithmeticOverflow, num
 abbrev pub Result : Type 0 → Type 0
 Result A = Turn A Fault
 
-abbrev pub vectorOr : Fault → OptionVec3 → Result Vec3  -- .ok_or(fault)
+abbrev pub vectorOr : Fault → OptionVec3 → Result Vec3  -- .ok_or(fault), of a vector
 vectorOr fault option = elim option [ OptionVec3.Some v ↦ go v | OptionVec3.None ↦ stop fault ]
 
-abbrev pub numberOr : Fault → OptionF64 → Result Float
+abbrev pub numberOr : Fault → OptionF64 → Result Float  -- .ok_or(fault), of a number
 numberOr fault option = elim option [ OptionF64.Some x ↦ go x | OptionF64.None ↦ stop fault ]
 
-abbrev pub quatOr : Fault → OptionQuat → Result Quat
+abbrev pub quatOr : Fault → OptionQuat → Result Quat  -- and of a quaternion
 quatOr fault option = elim option [ OptionQuat.Some q ↦ go q | OptionQuat.None ↦ stop fault ]
 
 unfoldable pub tryFinite : Vec3 → Result Vec3  -- fn finite

@@ -62,10 +62,10 @@ linearRows linear joint e = do
   z ← rowIf (axesOf linear .z) (linearRow joint e axisZ)
   go ((x ++ y) ++ z)
 
-abbrev pub swingLocked : Float → Bool  -- limit == 0.0, and below cone.twist_limit.lower == cone.twist_limit.upper
+abbrev pub swingLocked : Float → Bool  -- limit == 0.0
 swingLocked limit = eq limit (ratio 0 1)
 
-abbrev pub twistLocked : Cone → Bool
+abbrev pub twistLocked : Cone → Bool  -- cone.twist_limit.lower == cone.twist_limit.upper
 twistLocked cone = eq (cone .«twist_lower») (cone .«twist_upper»)
 
 abbrev pub anyLocked : Cone → Bool
@@ -81,10 +81,10 @@ relativeOf cone frameA frameB = do
   _ ← returnIf (halfTurned cone normSquared) nonConvergent
   go (record { rotation = q; «norm_squared» = normSquared; norm = sqrt binary64 normSquared })
 
-abbrev pub swingX : Quat → Swing  -- (numerator, gradient, scalar), axis 0 and axis 1
+abbrev pub swingX : Quat → Swing  -- (numerator, gradient, scalar) of axis 0
 swingX q = record { numerator = q .w ⊗ q .x ⊖ q .z ⊗ q .y; gradient = vec (q .w) (neg (q .z)) (neg (q .y)); scalar = q .x }
 
-abbrev pub swingY : Quat → Swing
+abbrev pub swingY : Quat → Swing  -- and of axis 1
 swingY q = record { numerator = q .w ⊗ q .y ⊕ q .z ⊗ q .x; gradient = vec (q .z) (q .w) (q .x); scalar = q .y }
 
 abbrev pub localOf : Quat → Vec3 → Float → Vec3  -- (gradient * relative.w + vector.cross(gradient) - vector * scalar) * 0.5
@@ -161,5 +161,5 @@ abbrev pub motionRows : Motions → Joint → Ends → Result (List EqualityRow)
 motionRows (Motions.Rod length) joint e = distanceRow joint e length >>= λ row. go (row ∷ [])
 motionRows (Motions.Frame linear turning) joint e = frameRows linear turning joint e
 
-unfoldable pub writeEqualityRows : Joint → MomentumBody → MomentumBody → Result (List EqualityRow)  -- the rows that it leaves in out
+unfoldable pub writeEqualityRows : Joint → MomentumBody → MomentumBody → Result (List EqualityRow)  -- fn write_equality_rows: what it leaves in out
 writeEqualityRows joint a b = endsOf joint a b >>= motionRows (motionsOf (joint .kind)) joint

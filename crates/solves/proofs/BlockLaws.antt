@@ -178,12 +178,12 @@ module _ (ia ib : List ℕ) (n : ℕ) (before : List ℕ) where
     }
 
 -- ---- what the definitions read of blocks
-module _ {ia ib : List ℕ} {blocks : Blocks} (pre : Blocked ia ib blocks) {k : ℕ} (h : k < blocks .many) where
+module _ {ia ib : List ℕ} {blocks : Blocks} (pre : Blocked ia ib blocks) {k : ℕ} (h : k < blocks .number) where
   abbrev row : ℕ
   row = getD (blocks .starts) k 0
 
   pub start-is : row ≡ index (startsOf blocks) k
-  start-is = list-at (blocks .starts) (blocks .many) k h
+  start-is = list-at (blocks .starts) (blocks .number) k h
 
   pub row-there : row < 96
   row-there = omega (arith, pre .inside k h, pre .most)
@@ -199,14 +199,14 @@ module _ {ia ib : List ℕ} {blocks : Blocks} (pre : Blocked ia ib blocks) {k : 
   b-body = pre .b-there row (pre .inside k h)
 
   pub end-is : getD (blocks .starts) (k + 1) 0 ≡ getD (startsOf blocks) (k + 1) (rowsOf blocks)
-  end-is = by (decLt (k + 1) (blocks .many))
+  end-is = by (decLt (k + 1) (blocks .number))
     where
-      by : Dec (k + 1 < blocks .many) → getD (blocks .starts) (k + 1) 0 ≡ getD (startsOf blocks) (k + 1) (rowsOf blocks)
-      by (yes q) = sym (tab-at (blocks .many) (λ j. getD (blocks .starts) j 0) (rowsOf blocks) (k + 1) q)
+      by : Dec (k + 1 < blocks .number) → getD (blocks .starts) (k + 1) 0 ≡ getD (startsOf blocks) (k + 1) (rowsOf blocks)
+      by (yes q) = sym (tab-at (blocks .number) (λ j. getD (blocks .starts) j 0) (rowsOf blocks) (k + 1) q)
       by (no q) =
-          let last : k + 1 ≡ blocks .many = omega arith in
+          let last : k + 1 ≡ blocks .number = omega arith in
           ap (λ (j : ℕ). getD (blocks .starts) j 0) last
-          ∙ sym (List·getD-eq-default (startsOf blocks) (rowsOf blocks) (rw (tab-length (blocks .many) (λ j. getD (blocks .starts) j 0)) (omega arith)))
+          ∙ sym (List·getD-eq-default (startsOf blocks) (rowsOf blocks) (rw (tab-length (blocks .number) (λ j. getD (blocks .starts) j 0)) (omega arith)))
 
 -- ---- edges
 module _ (body block : ℕ) (edges : List ℕ) where
@@ -266,14 +266,14 @@ edges-no r t e h = sym (ap (λ (b : Bool). edgesAs b t) h) ∙ e
 -- path_edges after k turns
 pub record EdgesSo (ia ib : List ℕ) (blocks : Blocks) (before : List ℕ) (k : ℕ) (edges : List ℕ) : Type 0 where
   pub is : go edges ≡ loop k (edgesOn ia ib blocks) before
-  pub links : Linking (blocks .many) edges
+  pub links : Linking (blocks .number) edges
 
-pub edges-none : {ia ib : List ℕ} {blocks : Blocks} {edges : List ℕ} → Linking (blocks .many) edges → EdgesSo ia ib blocks edges 0 edges
+pub edges-none : {ia ib : List ℕ} {blocks : Blocks} {edges : List ℕ} → Linking (blocks .number) edges → EdgesSo ia ib blocks edges 0 edges
 edges-none l = record { is = loop-none _ _; links = l }
 
 -- what a turn does, from what its two calls did
 module _ {ia ib : List ℕ} {blocks : Blocks} (pre : Blocked ia ib blocks) {before : List ℕ} {k : ℕ} {edges : List ℕ}
-    (inv : EdgesSo ia ib blocks before k edges) (h : k < blocks .many) where
+    (inv : EdgesSo ia ib blocks before k edges) (h : k < blocks .number) where
   abbrev Noted : ℕ → List ℕ → Turn (List ℕ) (Unit {0})
   Noted = edgesOn ia ib blocks
 
@@ -282,17 +282,17 @@ module _ {ia ib : List ℕ} {blocks : Blocks} (pre : Blocked ia ib blocks) {befo
       → d ≡ addEdge (index (listAt ix (rowsOf blocks)) (index (startsOf blocks) k)) k u
   call-is ix u e = e ∙ ap (λ (b : ℕ). addEdge b k u) (body-is pre h ix)
 
-  pub edges-lost-a : stop tt ≡ addEdge (getD ia (getD (blocks .starts) k 0) 0) k edges → stop tt ≡ loop (blocks .many) Noted before
+  pub edges-lost-a : stop tt ≡ addEdge (getD ia (getD (blocks .starts) k 0) 0) k edges → stop tt ≡ loop (blocks .number) Noted before
   unfolding blockEdges
-  edges-lost-a e = loop-stop Noted before (blocks .many) h (inv .is) (then-stop _ (call-is ia edges e))
+  edges-lost-a e = loop-stop Noted before (blocks .number) h (inv .is) (then-stop _ (call-is ia edges e))
 
   module _ {t : List ℕ} (e : go t ≡ addEdge (getD ia (getD (blocks .starts) k 0) 0) k edges) where
     both : {d : Turn (List ℕ) (Unit {0})} → d ≡ addEdge (getD ib (getD (blocks .starts) k 0) 0) k t → d ≡ Noted k edges
     unfolding blockEdges
     both f = call-is ib t f ∙ then-go _ (call-is ia edges e)
 
-    pub edges-lost-b : stop tt ≡ addEdge (getD ib (getD (blocks .starts) k 0) 0) k t → stop tt ≡ loop (blocks .many) Noted before
-    edges-lost-b f = loop-stop Noted before (blocks .many) h (inv .is) (both f)
+    pub edges-lost-b : stop tt ≡ addEdge (getD ib (getD (blocks .starts) k 0) 0) k t → stop tt ≡ loop (blocks .number) Noted before
+    edges-lost-b f = loop-stop Noted before (blocks .number) h (inv .is) (both f)
 
     pub edges-more : {u : List ℕ} → go u ≡ addEdge (getD ib (getD (blocks .starts) k 0) 0) k t → EdgesSo ia ib blocks before (k + 1) u
     edges-more f = record {
@@ -300,5 +300,5 @@ module _ {ia ib : List ℕ} {blocks : Blocks} (pre : Blocked ia ib blocks) {befo
       links = edge-linked _ k h few (b-body pre h) (edge-linked _ k h few (a-body pre h) (inv .links) e) f;
     }
       where
-        few : blocks .many ≤ 96
+        few : blocks .number ≤ 96
         few = omega (arith, pre .few, pre .most)

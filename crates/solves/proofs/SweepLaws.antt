@@ -15,7 +15,7 @@ use Rattle.solves.specs.Region.{vecAt, Does}
 use Rattle.solves.specs.RegionLaws.{vec-at, vec-in, kept-vec, vec-set, vec-more}
 use Rattle.solves.specs.Path.{index, bandCell, lessProducts, reduced, forwardSum, forwardTurn, forward, backwardSum, Back, backwardTurn, backward}
 use Rattle.solves.specs.View.{listAt, bandAt, Along, SOLUTION, RESIDUAL, PATH-BAND, PATH-SCALE, PATH-RHS, END, Beside}
-use Rattle.solves.specs.PathView.{placeOf, lineAt, InLine, Lie, rowLine, columnLine, sideLine}
+use Rattle.solves.specs.PathView.{placeOf, lineAt, InLine, LinesIn, rowLine, columnLine, sideLine}
 use Rattle.solves.proofs.BlockLaws.{list-at}
 use Rattle.solves.proofs.FactorLaws.{cell-at, cell-first}
 
@@ -69,21 +69,21 @@ module _ {line : Line} (t : ℕ) where
   side-lies from e l = subst (λ (x : Line). InLine x t) (sym e) (omega arith, omega arith)
 
 module _ {s : List Float} (n i : ℕ) {a b : Line} (whole : END ≤ length s) (most : n ≤ 96) (hi : i < n) where
-  pub reduced-lie : (j from : ℕ) → j ≤ i → from ≡ i - 11 → a ≡ rowLine i from → b ≡ rowLine j from → Lie s a b (j - from)
+  pub reduced-lie : (j from : ℕ) → j ≤ i → from ≡ i - 11 → a ≡ rowLine i from → b ≡ rowLine j from → LinesIn s a b (j - from)
   reduced-lie j from h ef ea eb = record {
     whole = whole;
     first = λ t l. row-lies t i from ea (omega arith) (omega arith);
     second = λ t l. row-lies t j from eb (omega arith) l;
   }
 
-  pub forward-lie : (from : ℕ) → from ≡ i - 11 → a ≡ rowLine i from → b ≡ sideLine from → Lie s a b (i - from)
+  pub forward-lie : (from : ℕ) → from ≡ i - 11 → a ≡ rowLine i from → b ≡ sideLine from → LinesIn s a b (i - from)
   forward-lie from ef ea eb = record {
     whole = whole;
     first = λ t l. row-lies t i from ea (omega arith) l;
     second = λ t l. side-lies t from eb (omega arith);
   }
 
-  pub backward-lie : (end : ℕ) → end ≡ min n (i + 12) → a ≡ columnLine i (i + 1) → b ≡ sideLine (i + 1) → Lie s a b (end - (i + 1))
+  pub backward-lie : (end : ℕ) → end ≡ min n (i + 12) → a ≡ columnLine i (i + 1) → b ≡ sideLine (i + 1) → LinesIn s a b (end - (i + 1))
   backward-lie end ee ea eb = record {
     whole = whole;
     first = λ t l. column-lies t i ea (omega arith);

@@ -166,7 +166,7 @@ module _ (blocks : Blocks) where
           let y : part (set v c true) k ≡ part v k = part-by (set v c true) k (getD-set-other v c k true false (λ q. omega arith)) in
           omega arith
 
-room-none : {ia ib : List ℕ} {blocks : Blocks} → Blocked ia ib blocks → (k : ℕ) → k ≤ blocks .many
+room-none : {ia ib : List ℕ} {blocks : Blocks} → Blocked ia ib blocks → (k : ℕ) → k ≤ blocks .number
     → room blocks (replicate 96 false) k ≤ getD (blocks .starts) k 0
 unfolding room
 room-none pre zero h = omega arith
@@ -196,7 +196,7 @@ pub record WalkSo (ia ib : List ℕ) (blocks : Blocks) (edges : List ℕ) (start
   pub is : go (record { seen = seenOf order visited; current = current; previous = previous })
       ≡ loop k (walkTurn (listAt ia (rowsOf blocks)) (listAt ib (rowsOf blocks)) (rowsOf blocks) (startsOf blocks) edges)
       (record { seen = seenOf start visited₀; current = first; previous = none })
-  pub here : current < blocks .many
+  pub here : current < blocks .number
   pub free : Free blocks order visited
 
 pub record WalksSo (ia ib : List ℕ) (blocks : Blocks) (edges : List ℕ) (k : ℕ) (order : Order) (visited : List Bool) : Type 0 where
@@ -219,34 +219,34 @@ module _ {ia ib : List ℕ} {blocks : Blocks} {edges : List ℕ} (graph : Graph 
   abbrev Step : ℕ → Walk → Turn Walk (Turn Seen (Unit {0}))
   Step = walkTurn A B (rowsOf blocks) S edges
 
-  many-is : length S ≡ blocks .many
-  many-is = tab-length (blocks .many) (λ j. getD (blocks .starts) j 0)
+  number-is : length S ≡ blocks .number
+  number-is = tab-length (blocks .number) (λ j. getD (blocks .starts) j 0)
 
   -- a block's neighbor on one side, as the code and as the definition name it
-  near : (ix : List ℕ) (current : ℕ) {x : ℕ} → current < blocks .many → x ≡ neighbor edges (getD ix (getD (blocks .starts) current 0) 0) current
+  near : (ix : List ℕ) (current : ℕ) {x : ℕ} → current < blocks .number → x ≡ neighbor edges (getD ix (getD (blocks .starts) current 0) 0) current
       → x ≡ neighbor edges (index (listAt ix (rowsOf blocks)) (index S current)) current
   near ix current here e = e ∙ ap (λ (b : ℕ). neighbor edges b current) (body-is pre here ix)
 
   -- the neighbors of a block on both sides, and the block that follows it
-  module _ (current previous : ℕ) (here : current < blocks .many) {x y next : ℕ}
+  module _ (current previous : ℕ) (here : current < blocks .number) {x y next : ℕ}
       (ex : x ≡ neighbor edges (getD ia (getD (blocks .starts) current 0) 0) current)
       (ey : y ≡ neighbor edges (getD ib (getD (blocks .starts) current 0) 0) current) (en : next ≡ nextBlock x y previous) where
     next-is : next ≡ nextBlock (neighbor edges (index A (index S current)) current) (neighbor edges (index B (index S current)) current) previous
     next-is = en ∙ λ j. nextBlock (near ia current here ex j) (near ib current here ey j) previous
 
-    next-there : (next ≡ 96 → ⊥) → next < blocks .many
+    next-there : (next ≡ 96 → ⊥) → next < blocks .number
     next-there q = linked-there (rw en (next-linked previous lx ly)) q
       where
-        lx : Linked (blocks .many) x
+        lx : Linked (blocks .number) x
         lx = rw ex (neighbor-linked _ current (graph .linking) (a-body pre here))
 
-        ly : Linked (blocks .many) y
+        ly : Linked (blocks .number) y
         ly = rw ey (neighbor-linked _ current (graph .linking) (b-body pre here))
 
   abbrev begun : Order → List Bool → ℕ → Walk
   begun start visited first = record { seen = seenOf start visited; current = first; previous = none }
 
-  pub walk-none : {start : Order} {visited : List Bool} {first : ℕ} → first < blocks .many → Free blocks start visited
+  pub walk-none : {start : Order} {visited : List Bool} {first : ℕ} → first < blocks .number → Free blocks start visited
       → WalkSo ia ib blocks edges start visited first 0 start visited first none
   walk-none {start} {visited} {first} h f = record { is = loop-none Step (begun start visited first); here = h; free = f }
 
@@ -261,15 +261,15 @@ module _ {ia ib : List ℕ} {blocks : Blocks} {edges : List ℕ} (graph : Graph 
     abbrev at-first : Walk
     at-first = begun start visited₀ first
 
-    pub walk-spent : k ≤ blocks .many → blocks .many ≤ k → Walks blocks false order visited Whole
+    pub walk-spent : k ≤ blocks .number → blocks .number ≤ k → Walks blocks false order visited Whole
     unfolding walk
-    walk-spent a b = lost (ap walked (loop-end Step at-first a b (inv .is) ∙ ap (λ (m : ℕ). loop m Step at-first) (sym many-is)))
+    walk-spent a b = lost (ap walked (loop-end Step at-first a b (inv .is) ∙ ap (λ (m : ℕ). loop m Step at-first) (sym number-is)))
 
-    module _ (h : k < blocks .many) where
+    module _ (h : k < blocks .number) where
       -- the turn ends the walk
       whole-is : {d : Turn Seen (Unit {0})} → stop d ≡ Step k (record { seen = seenOf order visited; current = current; previous = previous }) → d ≡ Whole
       unfolding walk
-      whole-is e = ap walked (loop-stop Step at-first (blocks .many) h (inv .is) e ∙ ap (λ (m : ℕ). loop m Step at-first) (sym many-is))
+      whole-is e = ap walked (loop-stop Step at-first (blocks .number) h (inv .is) e ∙ ap (λ (m : ℕ). loop m Step at-first) (sym number-is))
 
       pub walk-met : getD visited current false ≡ true → Walks blocks false order visited Whole
       unfolding walkTurn
@@ -277,8 +277,8 @@ module _ {ia ib : List ℕ} {blocks : Blocks} {edges : List ℕ} (graph : Graph 
 
       module _ (q : getD visited current false ≡ false) where
         -- what the block takes of the room
-        room-is : room blocks (set visited current true) (blocks .many) + sizeOf blocks current ≡ room blocks visited (blocks .many)
-        room-is = room-set blocks visited current (blocks .many) (inv .here) (omega (arith, inv .free .size, inv .here, pre .few, pre .most)) q
+        room-is : room blocks (set visited current true) (blocks .number) + sizeOf blocks current ≡ room blocks visited (blocks .number)
+        room-is = room-set blocks visited current (blocks .number) (inv .here) (omega (arith, inv .free .size, inv .here, pre .few, pre .most)) q
 
         pub append-fits : (getD (blocks .starts) current 0 ≤ getD (blocks .starts) (current + 1) 0) × (getD (blocks .starts) (current + 1) 0 ≤ 96)
             × (order .listed + sizeOf blocks current ≤ 96) × (length (order .rows) ≡ 96)
@@ -346,7 +346,7 @@ module _ {ia ib : List ℕ} {blocks : Blocks} {edges : List ℕ} (graph : Graph 
     pub end-visited : getD visited block false ≡ true → false ≡ End
     end-visited q = end-by q refl refl
 
-    module _ (h : block < blocks .many) (q : getD visited block false ≡ false) {x : ℕ}
+    module _ (h : block < blocks .number) (q : getD visited block false ≡ false) {x : ℕ}
         (ex : x ≡ neighbor edges (getD ia (getD (blocks .starts) block 0) 0) block) where
       pub end-a : x ≡ 96 → true ≡ End
       end-a w = end-by q (eq-eqb _ _ (sym (near ia block h ex) ∙ w)) refl
@@ -384,12 +384,12 @@ module _ {ia ib : List ℕ} {blocks : Blocks} {edges : List ℕ} (graph : Graph 
     is = loop-none From none-seen;
     free = record {
       size = length-replicate {A = Bool} 96 false;
-      left = omega (arith, room-none pre (blocks .many) (omega arith), pre .most);
+      left = omega (arith, room-none pre (blocks .number) (omega arith), pre .most);
       listed = l;
     };
   }
 
-  module _ {k : ℕ} {order : Order} {visited : List Bool} (inv : Sos k order visited) (h : k < blocks .many) {found : Bool} {out : Order} {t : List Bool}
+  module _ {k : ℕ} {order : Order} {visited : List Bool} (inv : Sos k order visited) (h : k < blocks .number) {found : Bool} {out : Order} {t : List Bool}
       (w : Walks blocks found out t (From k (seenOf order visited))) where
     pub walks-more : found ≡ true → Sos (k + 1) out t
     walks-more e = record { is = loop-more From none-seen (inv .is) (seen-yes w e); free = w .free e }
@@ -397,14 +397,14 @@ module _ {ia ib : List ℕ} {blocks : Blocks} {edges : List ℕ} (graph : Graph 
     pub walks-lost : found ≡ false → {last : Order} → Orders blocks false last All
     unfolding pathWalks
     walks-lost e = record {
-      is = ap orderIn (loop-stop From none-seen (blocks .many) h (inv .is) (seen-no w e) ∙ ap (λ (m : ℕ). loop m From none-seen) (sym many-is));
+      is = ap orderIn (loop-stop From none-seen (blocks .number) h (inv .is) (seen-no w e) ∙ ap (λ (m : ℕ). loop m From none-seen) (sym number-is));
       listed = λ f. absurd (false-true f);
     }
 
-  pub walks-end : {k : ℕ} {order : Order} {visited : List Bool} → Sos k order visited → k ≤ blocks .many → blocks .many ≤ k → Orders blocks true order All
+  pub walks-end : {k : ℕ} {order : Order} {visited : List Bool} → Sos k order visited → k ≤ blocks .number → blocks .number ≤ k → Orders blocks true order All
   unfolding pathWalks
   walks-end inv a b = record {
-    is = ap orderIn (loop-end From none-seen a b (inv .is) ∙ ap (λ (m : ℕ). loop m From none-seen) (sym many-is));
+    is = ap orderIn (loop-end From none-seen a b (inv .is) ∙ ap (λ (m : ℕ). loop m From none-seen) (sym number-is));
     listed = λ _. inv .free .listed;
   }
 

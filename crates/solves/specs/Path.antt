@@ -12,7 +12,7 @@ index l i = getD l i 0
 abbrev pub none : ℕ  -- no block: usize::MAX in the Rust. There are at most 96 blocks.
 none = 96
 
--- ---- self.path_blocks: runs of rows on one pair of bodies; a and b are the bodies of the rows
+-- self.path_blocks: runs of rows on one pair of bodies; a and b are the bodies of the rows
 unfoldable pub begins : List ℕ → List ℕ → ℕ → Bool  -- row i joins another pair than the row before it
 begins a b i = eqb i 0 || not (eqb (index a i) (index a (i - 1)) && eqb (index b i) (index b (i - 1)))
 
@@ -168,7 +168,7 @@ pub record Refined : Type 0 where
   pub solution : List Float
   pub residual : List Float
 
-unfoldable pub refine : System → List Float → List ℕ → Factor → Refined → Result Refined  -- the factor's solution of the residual is added
+unfoldable pub refine : System → List Float → List ℕ → Factor → Refined → Result Refined  -- fn path_solve: the residual solved for and added, and taken again
 refine system rhs order factor s =
     let n : ℕ = rowsIn system in let y : List Float = forward n order (factor .scale) (factor .band) (s .residual) in
     let solution : List Float = backward n order (factor .scale) (factor .band) y (s .solution) in do

@@ -29,26 +29,26 @@ Bodies l n = (k : ℕ) → k < n → getD l k 0 < 16
 -- the first row of each block; after the last block stands the number of rows
 pub record Blocks : Type 0 where
   pub starts : List ℕ
-  pub many : ℕ
+  pub number : ℕ
 
 abbrev pub blocksAt : List ℕ → ℕ → Blocks
-blocksAt starts many = record { starts = starts; many = many }
+blocksAt starts number = record { starts = starts; number = number }
 
 abbrev pub startsOf : Blocks → List ℕ
-startsOf blocks = listAt (blocks .starts) (blocks .many)
+startsOf blocks = listAt (blocks .starts) (blocks .number)
 
 abbrev pub rowsOf : Blocks → ℕ
-rowsOf blocks = getD (blocks .starts) (blocks .many) 0
+rowsOf blocks = getD (blocks .starts) (blocks .number) 0
 
 abbrev pub sizeOf : Blocks → ℕ → ℕ
 sizeOf blocks k = getD (blocks .starts) (k + 1) 0 - getD (blocks .starts) k 0
 
 pub record Blocked (ia ib : List ℕ) (blocks : Blocks) : Type 0 where
   pub most : rowsOf blocks ≤ 96
-  pub few : blocks .many ≤ rowsOf blocks
-  pub inside : (k : ℕ) → k < blocks .many → getD (blocks .starts) k 0 < rowsOf blocks
-  pub ends : (k : ℕ) → k < blocks .many → getD (blocks .starts) (k + 1) 0 ≤ rowsOf blocks
-  pub rising : (k : ℕ) → k < blocks .many → getD (blocks .starts) k 0 ≤ getD (blocks .starts) (k + 1) 0
+  pub few : blocks .number ≤ rowsOf blocks
+  pub inside : (k : ℕ) → k < blocks .number → getD (blocks .starts) k 0 < rowsOf blocks
+  pub ends : (k : ℕ) → k < blocks .number → getD (blocks .starts) (k + 1) 0 ≤ rowsOf blocks
+  pub rising : (k : ℕ) → k < blocks .number → getD (blocks .starts) k 0 ≤ getD (blocks .starts) (k + 1) 0
   pub a-there : Bodies ia (rowsOf blocks)
   pub b-there : Bodies ib (rowsOf blocks)
 
@@ -77,7 +77,7 @@ pub record Linking (m : ℕ) (edges : List ℕ) : Type 0 where
 -- blocks and their edges, which every walk goes along
 pub record Graph (ia ib : List ℕ) (blocks : Blocks) (edges : List ℕ) : Type 0 where
   pub blocked : Blocked ia ib blocks
-  pub linking : Linking (blocks .many) edges
+  pub linking : Linking (blocks .number) edges
 
 abbrev pub OnGraph : Slice ℕ → Slice ℕ → Slice ℕ → ℕ → Slice ℕ → Type 0
 OnGraph ia ib starts blocks edges = Graph (ia .now) (ib .now) (blocksAt (starts .now) blocks) (edges .now)
@@ -123,7 +123,7 @@ room blocks visited (suc k) = room blocks visited k + cond (getD visited k false
 -- an order and what was visited: there is room for the rows of all other blocks
 pub record Free (blocks : Blocks) (order : Order) (visited : List Bool) : Type 0 where
   pub size : length visited ≡ 96
-  pub left : order .listed + room blocks visited (blocks .many) ≤ 96
+  pub left : order .listed + room blocks visited (blocks .number) ≤ 96
   pub listed : Listed order (rowsOf blocks)
 
 -- ---- the definitions on the arrays
@@ -203,7 +203,7 @@ lineAt s line t = at s (placeOf line t)
 abbrev pub InLine : Line → ℕ → Type 0
 InLine line t = (line .back * t ≤ line .first + line .on * t) × (line .first + line .on * t < END)
 
-pub record Lie (s : List Float) (a b : Line) (terms : ℕ) : Type 0 where
+pub record LinesIn (s : List Float) (a b : Line) (terms : ℕ) : Type 0 where
   pub whole : END ≤ length s
   pub first : (t : ℕ) → t < terms → InLine a t
   pub second : (t : ℕ) → t < terms → InLine b t

@@ -6,10 +6,10 @@ use Rattle.solves.specs.System.{System, rowsIn, sideOf, Counting}
 use Rattle.solves.specs.Solver.{operator, dot, plus, minus, within, toleranceFor, Search, prepare, trueResidual, scaledSquare, nextDirection, advance}
 use Rattle.solves.specs.Path.{Factor, Refined, pathOrder, pathFactored, refine}
 
-abbrev pub leastMost : ℕ → ℕ  -- the most passes over n rows, of least squares and of the gradients
+abbrev pub leastMost : ℕ → ℕ  -- the most passes of least squares over n rows
 leastMost n = 4 * n + 64
 
-abbrev pub gradientMost : ℕ → ℕ
+abbrev pub gradientMost : ℕ → ℕ  -- and of the gradients
 gradientMost n = 2 * n + 32
 
 unfoldable pub leastPass : System → Float → Search → Counting (Turn Search (List Float))  -- fn least_squares: counted when it was gone through whole
@@ -44,8 +44,7 @@ settle system rhs diagonal tolerance s = do
 unfoldable pub gradientPass : System → List Float → List Float → Float → Search → Counting (Turn Search (List Float))
 gradientPass system rhs diagonal tolerance s = do
   near ← try (within (s .residual) tolerance)
-  leaveIf near (s .solution) do
-    try (advance system s) >>= settle system rhs diagonal tolerance
+  leaveIf near (s .solution) (try (advance system s) >>= settle system rhs diagonal tolerance)
 
 unfoldable pub gradients : System → List Float → List Float → List Float → Counting (List Float)
 gradients system rhs solution residual = do
@@ -83,7 +82,7 @@ solveBy byLeastSquares system rhs solution = leastSquares system rhs solution rh
 solveBy (byPath order) system rhs solution = pathAlong system rhs solution order
 solveBy byGradients system rhs solution = gradients system rhs solution rhs
 
-unfoldable pub linearSolve : Bool → System → List Float → Counting (List Float)  -- from a solution of zeros, with the right side as residual
+unfoldable pub linearSolve : Bool → System → List Float → Counting (List Float)  -- fn linear_solve: from zeros, with the right side as residual
 linearSolve cyclic system rhs =
     let choice : Choice = choose cyclic (sideOf (λ r. r .a) (system .rows)) (sideOf (λ r. r .b) (system .rows)) (rowsIn system) in
     solveBy choice system rhs (replicate (rowsIn system) (ratio 0 1))

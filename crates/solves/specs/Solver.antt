@@ -88,13 +88,13 @@ crossMass a b masses = tryNumber
     (crossEnd masses (a .b) (a .«linear_b») (a .«angular_b») b
     (crossEnd masses (a .a) (a .«linear_a») (a .«angular_a») b (ratio 0 1)))
 
-unfoldable pub plus : List Float → Float → List Float → List Float  -- x[i] += alpha * d[i], x[i] -= alpha * d[i], a[i] - b[i]
+unfoldable pub plus : List Float → Float → List Float → List Float  -- x[i] += alpha * d[i]
 plus x alpha d = tab (length x) (λ i. at x i ⊕ alpha ⊗ at d i)
 
-unfoldable pub minus : List Float → Float → List Float → List Float
+unfoldable pub minus : List Float → Float → List Float → List Float  -- x[i] -= alpha * d[i]
 minus x alpha d = tab (length x) (λ i. at x i ⊖ alpha ⊗ at d i)
 
-unfoldable pub difference : List Float → List Float → List Float
+unfoldable pub difference : List Float → List Float → List Float  -- a[i] - b[i]
 difference a b = tab (length a) (λ i. at a i ⊖ at b i)
 
 unfoldable pub within : List Float → Float → Result Bool  -- dot(&residual, &residual)?.sqrt() <= tolerance
@@ -103,7 +103,7 @@ within residual tolerance = dot residual residual >>= λ square. go (le (sqrt bi
 unfoldable pub toleranceFor : Float → List Float → Result Float  -- scale * (1.0 + dot(&rhs, &rhs)?.sqrt())
 toleranceFor scale rhs = dot rhs rhs >>= λ square. go (scale ⊗ (ratio 1 1 ⊕ sqrt binary64 square))
 
-pub record Search : Type 0 where  -- what goes from pass to pass; rho is `norm` in least squares
+pub record Search : Type 0 where  -- from pass to pass: self.solution, self.residual, self.direction, and rho (`norm` in least squares)
   pub solution : List Float
   pub residual : List Float
   pub direction : List Float

@@ -1,4 +1,4 @@
--- The names that the definitions use of the toolchain, of the crates beneath and of the code's types, passed on.
+-- The names that the definitions use of the toolchain, of the crates beneath and of the code's types, passed on: nothing is defined here.
 pub use Rattle.arith.specs.Words.{ℕ, _+_, _*_, _-_, _^_, min, List, [], _∷_, _++_, Bool, true, false, cond, not, _&&_, _||_, length, getD, set, replicate, eqb}
 pub use Rattle.arith.specs.Words.{Float, nan, binary64, le}
 pub use Rattle.arith.specs.Real.{_⊕_, _⊖_, _⊗_, _⊘_, ratio, isFinite}

@@ -40,7 +40,7 @@ ghost use Rattle.solves.specs.Answer.{sumAs, ranAs, edgesAs, Solves};
 ghost use Rattle.solves.specs.Lent.{came, left};
 ghost use Rattle.solves.specs.PathView.{Bodies, blocksAt, rowsOf, Noted, Parted, OnGraph, Edged, orderAt, Listed, Appended, Free};
 ghost use Rattle.solves.specs.PathView.{edgesOn, walkOn, endOn, fromOn, walksOn, walkedWith, WalksOn, Orders, Ordered, onPath, BandAs, byFactor};
-ghost use Rattle.solves.specs.PathView.{placeOf, lineAt, InLine, Lie, rowLine, columnLine, sideLine};
+ghost use Rattle.solves.specs.PathView.{placeOf, lineAt, InLine, LinesIn, rowLine, columnLine, sideLine};
 ghost use Rattle.solves.specs.Region.{vecAt, Does};
 ghost use Rattle.solves.specs.View.{listAt, Along, noPath, bandAt, factorAt, refinedAt, Refining, Factoring};
 ghost use Rattle.solves.specs.View.{SOLUTION, RESIDUAL, PATH-SCALE, PATH-RHS, END, Beside};
@@ -397,7 +397,7 @@ fn place(line: Line, k: usize) -> usize
 
 // `start` less the products of two lines, one after the other: the three sums of the Rust.
 fn less_products(s: &[f64], start: f64, a: Line, b: Line, terms: usize) -> f64
-    requires { ⌜ Lie (now s) a b terms ⌝ }
+    requires { ⌜ LinesIn (now s) a b terms ⌝ }
     ensures { λ r. ⌜ r ≡ lessProducts (lineAt (came s) a) (lineAt (came s) b) terms start ⌝ }
 {
     let mut value = start;

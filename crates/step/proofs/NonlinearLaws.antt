@@ -24,7 +24,8 @@ use Rattle.solves.specs.Answer.{ranAs, isDone}
 use Rattle.solves.specs.View.{ROWS, RHS, Beside, rowOn, rowsOn, systemOn}
 use Rattle.step.specs.Layout.{IMPULSES}
 use Rattle.step.specs.Bodies.{Job, Found, rowsMet, rhsOf, addImpulses, candidateOf}
-use Rattle.step.specs.Step.{correction, nonlinearPass, nonlinearLoop}
+use Rattle.step.specs.TurnLaws.{correction}
+use Rattle.step.specs.Step.{nonlinearPass, nonlinearLoop}
 use Rattle.solves.specs.Lent.{Slice}
 use Rattle.step.specs.RunView.{impulsesAt, startedAt, foundAt, Ours, Trying}
 use Rattle.step.proofs.LoopLaws.{kept-started}

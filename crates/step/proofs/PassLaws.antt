@@ -36,7 +36,8 @@ use Rattle.step.specs.declared.passes.Stage.the-variants as Stages
 use Rattle.step.specs.Layout.{IMPULSES}
 use Rattle.step.specs.ViewLaws.{kept-candidates}
 use Rattle.step.specs.Bodies.{Job, addImpulses, reactionOf}
-use Rattle.step.specs.Step.{correction, nonlinearPass, velocityPass}
+use Rattle.step.specs.TurnLaws.{correction}
+use Rattle.step.specs.Step.{nonlinearPass, velocityPass}
 use Rattle.step.specs.RunView.{Ours, passedAs, passedAfter, leftAs, Given, givenAt, gainedAt, passAt, makeAt, nonlinearOf, Outside, Besides}
 use Rattle.step.specs.Says.{Passes, Loops}
 use Rattle.step.proofs.LoopLaws.{kept-started}

@@ -36,7 +36,8 @@ use Rattle.solves.specs.ViewLaws.{row-in, share-in, system-kept}
 use Rattle.solves.specs.DoesLaws.{number-yes, number-no, does-stop, does-then, does-eq, does-is, does-more}
 use Rattle.step.specs.Layout.{IMPULSES, CANDIDATE, STATES}
 use Rattle.step.specs.Bodies.{Job, bodyIn, velocityOf, velocityRhs, compatibleOf, kickBodies, reactionOf}
-use Rattle.step.specs.Step.{correction, velocityPass}
+use Rattle.step.specs.TurnLaws.{correction}
+use Rattle.step.specs.Step.{velocityPass}
 use Rattle.step.specs.RunView.{MotionOf, MotionAt, Remembers, Correcting}
 use Rattle.solves.specs.RegionLaws.{vec-at}
 use Rattle.step.specs.View.{startBodyAt, candidateAt, candidatesAt, movedTo}

@@ -23,7 +23,7 @@ recordIn bodies k = getD bodies k (recordWith noVec (quat nan nan nan nan) noVec
 abbrev pub stateIn : List BodyState → ℕ → BodyState
 stateIn states k = getD states k (stateWith noVec (quat nan nan nan nan) noVec noVec)
 
-unfoldable pub startBodies : List RigidBody → Result (List MomentumBody)  -- scratch.start.push(MomentumBody::new(body.body())?)
+unfoldable pub startBodies : List RigidBody → Result (List MomentumBody)  -- before the first pass: scratch.start.push(MomentumBody::new(body.body())?)
 startBodies bodies = each (length bodies) (λ k. newOf (recordIn bodies k) (inverseSpdOf (recordIn bodies k .inertia) .inverse))
 
 abbrev pub jointRows : List Joint → List MomentumBody → ℕ → Result (List EqualityRow)
@@ -53,7 +53,7 @@ startOf job bodies = do
   masses ← prepareMasses start
   go (record { bodies = start; system = record { rows = rows; masses = masses } })
 
-pub record Found : Type 0 where  -- for iteration in 0..32: scratch.candidate and scratch.rows
+pub record Found : Type 0 where  -- what a pass of the first loop finds: scratch.candidate and scratch.rows
   pub candidate : List MomentumBody
   pub rows : List EqualityRow
 
@@ -97,9 +97,9 @@ unfoldable pub kickBodies : List MomentumBody → List Generalized → Result (L
 kickBodies candidate generalized = each (length candidate) (λ k.
     kickOf (bodyIn candidate k) (generalizedIn generalized k .linear) (generalizedIn generalized k .angular))
 
-unfoldable pub reactionOf : List EqualityRow → List MomentumBody → List Float → Result (List MomentumBody)  -- kicked by a solution, along their rows
+unfoldable pub reactionOf : List EqualityRow → List MomentumBody → List Float → Result (List MomentumBody)  -- the candidates, kicked by a solution
 reactionOf rows candidate solution = transpose rows solution (length candidate) >>= kickBodies candidate
 
-unfoldable pub statesOf : List RigidBody → List MomentumBody → Result (List BodyState)  -- scratch.states.push(body.state(*original.body())?)
+unfoldable pub statesOf : List RigidBody → List MomentumBody → Result (List BodyState)  -- after both loops: scratch.states.push(body.state(..)?)
 statesOf bodies candidate = each (length candidate) (λ k. stateOf (bodyIn candidate k)
     (stateWith (recordIn bodies k .origin) (recordIn bodies k .rotation) (recordIn bodies k .«linear_velocity») (recordIn bodies k .«angular_velocity»)))

@@ -23,8 +23,8 @@ use Rattle.solves.specs.System.{System, Counting}
 use Rattle.step.specs.Bodies.{Job, bodyIn, recordIn, startBodies, writeRows, Started, startOf, Found, kickAndDrift, moveBodies, rowsMet}
 use Rattle.step.specs.Bodies.{addImpulses, candidateOf, kickBodies, reactionOf, statesOf}
 use Rattle.step.specs.View.{noBody}
-use Rattle.step.specs.Step.{correction, nonlinearPass, nonlinearLoop, velocityPass, velocityLoop, finishOf, runOf}
-use Rattle.step.specs.TurnLaws.{each-at, went-on, goes-with}
+use Rattle.step.specs.Step.{nonlinearPass, nonlinearLoop, velocityPass, velocityLoop, finishOf, runOf}
+use Rattle.step.specs.TurnLaws.{correction, each-at, went-on, goes-with}
 
 -- a correction is never a loop's answer
 never-left : {A B : Type 0} (solve : Counting (List Float)) (make : List Float → Result A) (b : B) → correction solve make .ends ≡ go (stop b) → ⊥

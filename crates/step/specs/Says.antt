@@ -27,7 +27,7 @@ use Rattle.step.specs.Layout.{USED}
 use Rattle.step.specs.Records.{bodyCount, recordsOf}
 use Rattle.step.specs.View.{statesAt}
 use Rattle.step.specs.Bodies.{Job, Started, startOf, Found, writeRows}
-use Rattle.step.specs.Step.{correction}
+use Rattle.step.specs.TurnLaws.{correction}
 use Rattle.step.specs.RunView.{impulsesAt, startedAt, foundAt, jobFor, rowsBefore, Sides, Trying, passedAs, bodiesAt}
 use Rattle.step.specs.RunView.{givenAt, gainedAt, passAt, makeAt, nonlinearOf, Outside}
 

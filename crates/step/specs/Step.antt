@@ -2,7 +2,7 @@
 -- In a `do` block `x ← e` is `let x = e?` with the passes that it counted; `try` marks what counts none, `begin` is `nonlinear_iterations = iteration + 1`.
 -- Bodies.antt has the parts that count nothing, solves/specs/Search.antt the linear solves.
 use Rattle.step.specs.Words.{ℕ, _/_, _%_, List, [], _++_, _∷_, Bool, cond, length, drop, replicate, Float, ltb, leb, tab, every, go, stop, Turn, ratio}
-use Rattle.step.specs.Words.{at, RigidBody, BodyState, MomentumBody, Joint, arithmeticOverflow, Result, Fault, nonConvergent, System, rowsIn, Counting}
+use Rattle.step.specs.Words.{at, RigidBody, BodyState, MomentumBody, Joint, arithmeticOverflow, Fault, nonConvergent, System, rowsIn, Counting}
 use Rattle.step.specs.Words.{linearSolve, Outcome}
 use Rattle.arith.specs.Run.{_>>=_, _>>_, try, begin, again, leaveIf, upTo}
 use Rattle.step.specs.Records.{RECORD, MOVING, SCRATCH, bodyCount, recordsOf}
@@ -10,15 +10,13 @@ use Rattle.step.specs.Checks.{withinOf, refusalOf, isAccepted}
 use Rattle.step.specs.Bodies.{Job, Started, startOf, Found, rowsMet, rhsOf, addImpulses, candidateOf, velocityRhs, compatibleOf, reactionOf}
 use Rattle.step.specs.Bodies.{prepareMasses, statesOf, stateIn}
 
--- ---- the run. The second half of both passes: a solve, and what is made of its solution
-abbrev pub correction : {A B : Type 0} → Counting (List Float) → (List Float → Result A) → Counting (Turn A B)
-correction solve make = solve >>= λ solution. try (make solution) >>= again
-
--- for iteration in 0..32: candidates from the starting bodies, and where their rows are not met a correction along the starting rows
+-- ---- the run. For iteration in 0..32: candidates from the starting bodies, and where their rows are not met a correction along the starting rows
 unfoldable pub nonlinearPass : Job → Started → List Float → Counting (Turn (List Float) Found)
 nonlinearPass job start impulses = begin >> do
   found ← try (candidateOf job start impulses)
-  leaveIf (rowsMet (found .rows)) found (correction (linearSolve (job .cyclic) (start .system) (rhsOf (job .dt) (found .rows))) (addImpulses impulses))
+  leaveIf (rowsMet (found .rows)) found do
+    solution ← linearSolve (job .cyclic) (start .system) (rhsOf (job .dt) (found .rows))
+    try (addImpulses impulses solution) >>= again
 
 unfoldable pub nonlinearLoop : Job → Started → Counting Found
 nonlinearLoop job start = upTo 32 nonConvergent (nonlinearPass job start) (replicate (rowsIn (start .system)) (ratio 0 1))
@@ -27,7 +25,9 @@ nonlinearLoop job start = upTo 32 nonConvergent (nonlinearPass job start) (repli
 unfoldable pub velocityPass : Job → System → List MomentumBody → Counting (Turn (List MomentumBody) (List MomentumBody))
 velocityPass job system candidate = do
   rhs ← try (velocityRhs (system .rows) candidate)
-  leaveIf (compatibleOf rhs) candidate (correction (linearSolve (job .cyclic) system rhs) (reactionOf (system .rows) candidate))
+  leaveIf (compatibleOf rhs) candidate do
+    solution ← linearSolve (job .cyclic) system rhs
+    try (reactionOf (system .rows) candidate solution) >>= again
 
 unfoldable pub velocityLoop : Job → System → List MomentumBody → Counting (List MomentumBody)
 velocityLoop job system candidate = upTo 3 nonConvergent (velocityPass job system) candidate

@@ -9,7 +9,7 @@ use native.Mathlib.Decide.{ℕ-discrete}
 use lib.ListN.{length, getD, length-append, List·getD-append}
 use lib.Seq.{getD-at}
 use Rattle.arith.specs.Flow.{Turn, go, loop, _>>=_, each}
-use Rattle.arith.specs.Run.{Run, leaveIf}
+use Rattle.arith.specs.Run.{Run, try, again, leaveIf, _>>=_ as _>>=ʳ_}
 use Rattle.rows.specs.Laws.Results.{step, go-same}
 
 -- ---- a list was answered: it has every f(k)
@@ -36,6 +36,10 @@ each-at {A} {E} (suc n) f xs h =
         pick none k l (no q) =
             let m : k < n = omega arith in
             E .at none k m ∙ ap go (sym (List·getD-append ys (x ∷ []) none k (rw (E .size) m)))
+
+-- ---- the second half of a pass: a solve, and what is made of its solution
+abbrev pub correction : {A B S E : Type 0} → Run S E → (S → Turn A E) → Run (Turn A B) E
+correction solve make = solve >>=ʳ λ solution. try (make solution) >>=ʳ again
 
 -- ---- a pass that goes on
 pub went-on : {A B E : Type 0} (test : Bool) (b : B) (a : A) (rest : Run (Turn A B) E) → leaveIf test b rest .ends ≡ go (go a) → rest .ends ≡ go (go a)

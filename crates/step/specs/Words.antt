@@ -1,4 +1,4 @@
--- The names that the definitions use of the toolchain, of the crates beneath and of the code's types, passed on.
+-- The names that the definitions use of the toolchain, of the crates beneath and of the code's types, passed on: nothing is defined here.
 pub use Rattle.arith.specs.Words.{ℕ, _+_, _*_, _/_, _%_, _^_, _≤_, _<_, List, [], _++_, _∷_, Bool, true, cond, not, _&&_, _||_, _≡_, length, getD, drop}
 pub use Rattle.arith.specs.Words.{replicate, Float, nan, neg, eq, lt, le, ltb, leb, eqb}
 pub use Rattle.arith.specs.Flow.{tab, every, go, stop, _>>=_, loop, each, Turn}

@@ -44,21 +44,21 @@ module _ (a b c : Bool) {p : Bool} (ep : p ≡ a) where
     pub uneven-third : q ≡ false → {r : Bool} → r ≡ c → not r ≡ not (a || b || c)
     uneven-third h er = cc
 
--- ---- one place of the factor
+-- ---- one entry of the factor
 module _ (n : Cells) (row column : ℕ) (l : Cells) {p : Float} (ep : p ≡ correctionOf l row column) where
-  place-is : entered l row column (cell n row column ⊖ p) ≡ entryOf n row column l
+  entry-is : entered l row column (cell n row column ⊖ p) ≡ entryOf n row column l
   unfolding entryOf
-  place-is = ap (λ (z : Float). entered l row column (cell n row column ⊖ z)) ep
+  entry-is = ap (λ (z : Float). entered l row column (cell n row column ⊖ z)) ep
 
   module _ (h : row ≡ column) {t : Bool} (et : t ≡ aboveZero (cell n row column ⊖ p)) where
-    pub place-root : t ≡ true → {r : Float} → r ≡ sqrt binary64 (cell n row column ⊖ p) → go (put l row column r) ≡ entryOf n row column l
-    place-root ht er = ap (λ (z : Float). go (put l row column z)) er ∙ (simp (eq-eqb _ _ h, sym et ∙ ht) at place-is)
+    pub entry-root : t ≡ true → {r : Float} → r ≡ sqrt binary64 (cell n row column ⊖ p) → go (put l row column r) ≡ entryOf n row column l
+    entry-root ht er = ap (λ (z : Float). go (put l row column z)) er ∙ (simp (eq-eqb _ _ h, sym et ∙ ht) at entry-is)
 
-    pub place-not : t ≡ false → stop l ≡ entryOf n row column l
-    place-not ht = simp (eq-eqb _ _ h, sym et ∙ ht) at place-is
+    pub entry-not : t ≡ false → stop l ≡ entryOf n row column l
+    entry-not ht = simp (eq-eqb _ _ h, sym et ∙ ht) at entry-is
 
-  pub place-below : (row ≡ column → ⊥) → go (put l row column ((cell n row column ⊖ p) ⊘ cell l column column)) ≡ entryOf n row column l
-  place-below h = simp (ne-eqb _ _ h) at place-is
+  pub entry-below : (row ≡ column → ⊥) → go (put l row column ((cell n row column ⊖ p) ⊘ cell l column column)) ≡ entryOf n row column l
+  entry-below h = simp (ne-eqb _ _ h) at entry-is
 
 -- the answer taken apart
 module _ (r : Bool) {l : Cells} {x : Turn Cells Cells} (e : ranOf r l ≡ x) where

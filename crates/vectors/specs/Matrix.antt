@@ -59,13 +59,13 @@ uneven a b = lt (ratio 32 (2 ^ 52)) (absOf (a ⊖ b))
 abbrev pub notSymmetric : Cells → Bool
 notSymmetric n = uneven (cell n 1 0) (cell n 0 1) || uneven (cell n 2 0) (cell n 0 2) || uneven (cell n 2 1) (cell n 1 2)
 
-unfoldable pub correctionOf : Cells → ℕ → ℕ → Float  -- the products of the places before `column` in two rows of the factor, summed from +0
+unfoldable pub correctionOf : Cells → ℕ → ℕ → Float  -- the products of the entries before `column` in two rows of the factor, summed from +0
 correctionOf lower row column = turns (λ k sum. sum ⊕ cell lower row k ⊗ cell lower column k) column (ratio 0 1)
 
 abbrev pub aboveZero : Float → Bool
 aboveZero x = isFinite x && lt (ratio 0 1) x
 
-abbrev pub entered : Cells → ℕ → ℕ → Float → Turn Cells Cells  -- `stop lower` where a pivot is not finite and above 0, with what was written until then
+abbrev pub entered : Cells → ℕ → ℕ → Float → Turn Cells Cells  -- `stop lower` where a pivot is not finite and above 0, with the entries until then
 entered lower row column value =
     cond (eqb row column)
     (cond (aboveZero value) (go (put lower row column (sqrt binary64 value))) (stop lower))
@@ -95,12 +95,12 @@ factorSpdOf m =
     (cond (notSymmetric normalized) (unfactored NotSymmetric)
     (factoredWith scale (factorOf normalized (zeroMat .columns)))))
 
-abbrev pub forwardOf : Cells → Vec3 → Vec3  -- solve: for column in 0..row { value -= lower[row][column] * intermediate[column]; }
+abbrev pub forwardOf : Cells → Vec3 → Vec3  -- solve, for row in 0..3: value -= lower[row][column] * intermediate[column]
 forwardOf l v =
     let x = v .x ⊘ cell l 0 0 in let y = (v .y ⊖ cell l 1 0 ⊗ x) ⊘ cell l 1 1 in
     vec x y ((v .z ⊖ cell l 2 0 ⊗ x ⊖ cell l 2 1 ⊗ y) ⊘ cell l 2 2)
 
-abbrev pub backwardOf : Cells → Vec3 → Vec3  -- for column in row + 1..3 { value -= lower[column][row] * solution[column]; }
+abbrev pub backwardOf : Cells → Vec3 → Vec3  -- for row in (0..3).rev(): value -= lower[column][row] * solution[column]
 backwardOf l v =
     let z = v .z ⊘ cell l 2 2 in let y = (v .y ⊖ cell l 2 1 ⊗ z) ⊘ cell l 1 1 in
     vec ((v .x ⊖ cell l 1 0 ⊗ y ⊖ cell l 2 0 ⊗ z) ⊘ cell l 0 0) y z

@@ -5,22 +5,22 @@ use Rattle.vectors.specs.Words.{hypotOf, Vec3, OptionVec3, OptionF64}
 abbrev pub vec : Float → Float → Float → Vec3
 vec x y z = record { x = x; y = y; z = z }
 
-abbrev pub at : List Float → ℕ → Float  -- of a slice of doubles: s[i], and the vector that begins there
+abbrev pub at : List Float → ℕ → Float  -- s[i]
 at s i = getD s i nan
 
-abbrev pub vec3At : List Float → ℕ → Vec3
+abbrev pub vec3At : List Float → ℕ → Vec3  -- the vector that begins at s[i]
 vec3At s i = vec (at s i) (at s (i + 1)) (at s (i + 2))
 
-abbrev pub zeroVec : Vec3  -- Vec3::ZERO, X, Y, Z
+abbrev pub zeroVec : Vec3  -- Vec3::ZERO
 zeroVec = vec (ratio 0 1) (ratio 0 1) (ratio 0 1)
 
-abbrev pub axisX : Vec3
+abbrev pub axisX : Vec3  -- Vec3::X
 axisX = vec (ratio 1 1) (ratio 0 1) (ratio 0 1)
 
-abbrev pub axisY : Vec3
+abbrev pub axisY : Vec3  -- Vec3::Y
 axisY = vec (ratio 0 1) (ratio 1 1) (ratio 0 1)
 
-abbrev pub axisZ : Vec3
+abbrev pub axisZ : Vec3  -- Vec3::Z
 axisZ = vec (ratio 0 1) (ratio 0 1) (ratio 1 1)
 
 abbrev pub dotOf : Vec3 → Vec3 → Float

@@ -291,7 +291,7 @@ fn symmetric(n: &[[f64; 3]; 3]) -> bool
     !uneven(n[2][1], n[1][2])
 }
 
-// The products of the places before `column` of two rows of the factor, summed from +0.
+// The products of the entries before `column` of two rows of the factor, summed from +0.
 fn correction(lower: &[[f64; 3]; 3], row: usize, column: usize) -> f64
     requires { ⌜ (row < 3) × (column < 3) ⌝ }
     ensures { λ r. ⌜ r ≡ correctionOf (now (lower .entry)) row column ⌝ }
@@ -312,8 +312,8 @@ fn above_zero(x: f64) -> bool
     false
 }
 
-// One place of the factor, after those before it. False for a pivot that is not finite and above 0.
-fn place(n: &[[f64; 3]; 3], lower: &mut [[f64; 3]; 3], row: usize, column: usize) -> bool
+// One entry of the factor, after those before it. False for a pivot that is not finite and above 0.
+fn enter(n: &[[f64; 3]; 3], lower: &mut [[f64; 3]; 3], row: usize, column: usize) -> bool
     requires { ⌜ (row < 3) × (column < 3) ⌝ }
     ensures { λ r. ⌜ ranOf r (now (lower .exit)) ≡ entryOf (now (n .entry)) row column (now (lower .entry)) ⌝ }
 {
@@ -334,7 +334,7 @@ fn factor_row(n: &[[f64; 3]; 3], lower: &mut [[f64; 3]; 3], row: usize) -> bool
     ensures { λ r. ⌜ ranOf r (now (lower .exit)) ≡ factorRowOf (now (n .entry)) row (now (lower .entry)) ⌝ }
 {
     for column in 0..row + 1 {
-        if !place(n, lower, row, column) {
+        if !enter(n, lower, row, column) {
             return false;
         }
     }

@@ -11,7 +11,7 @@ use lib.Ieee.{Float, add, sub, mul, div, neg, lt, le, eq, round, ofBits}
 use Rattle.arith.specs.Real.{F, ratio, isFinite, absOf}
 use Rattle.arith.specs.Root.{rootIn, root, roundRoot, sqrt}
 use Rattle.arith.specs.Hypot.{scaledRoot, hypotOf}
-use Rattle.arith.specs.Angle.{factorial, horner, sineSum, cosineSum, halfTurn, doubled, turnOf, sinCosOf}
+use Rattle.arith.specs.Angle.{factorial, horner, sineSum, cosineSum, sumsAt, doubled, halvedOf, sinCosOf}
 use Rattle.arith.specs.Flow.{_>>=_, turns, loop, tab, every}
 use Rattle.arith.specs.Run as Run
 use Rattle.vectors.specs.declared.quaternion.Quat.{Quat}
@@ -76,7 +76,7 @@ unfolding startBodies writeRows massResponse prepareMasses startOf moveBodies ro
     isNormalizedOf rotateVectorOf toMat3Of deltaOf integrateOf
     matProductOf correctionOf entryOf factorRowOf factorOf factorSpdOf Matrix.factorSolveOf solveSpdOf inverseSpdOf
     normalizeBy checkedLengthOf
-    factorial horner sineSum cosineSum halfTurn doubled turnOf sinCosOf
+    factorial horner sineSum cosineSum sumsAt doubled halvedOf sinCosOf
     hypotOf scaledRoot sqrt roundRoot root rootIn
     _>>=_ turns loop tab every Run._>>=_ Run.failIf Run.leaveIf Run.upTo isFinite absOf ofBits add sub mul div neg lt le eq round
 ended plan scratch = concluded (plan .bodies) scratch (runFor (plan .bodies) (plan .joints) (length (plan .joints)) (plan .dt))

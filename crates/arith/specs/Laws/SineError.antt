@@ -25,7 +25,7 @@ use Rattle.exact.specs.Check.{Fx, fv, fc, _+f_, _-f_, _*f_, run, exact, Bd, bd,
 use Rattle.exact.specs.Given.{given}
 use Rattle.exact.specs.Relative.{Near, tiny}
 use Rattle.arith.specs.Real.{_⊗_ as _·_, ratio}
-use Rattle.arith.specs.Angle.{factorial, horner, part, negPart, sineSum, cosineSum, halfTurn, doubled, turnOf, sinCosOf}
+use Rattle.arith.specs.Angle.{factorial, horner, part, negPart, sineSum, cosineSum, sumsAt, doubled, halvedOf, sinCosOf}
 use Rattle.arith.specs.ExactSums.{factorial-pos, sineSum41, cosineSum42}
 use Rattle.arith.specs.Laws.Magnitude.{lt-no}
 use Rattle.arith.specs.Laws.ExactSums.{sineR, cosineR, sine-poly, cosine-poly}
@@ -229,8 +229,8 @@ X-xm x k a b = go (min-or xmax (mag (bx k)))
 abbrev Turned : ℚ → ℕ → ℕ → SineCosine → Type 0
 Turned h k i t = Rel (t .s) (S h k i) (db k i .0) × Rel (t .c) (C h k i) (db k i .1)
 
-start : (h : ℚ) (x : Float) (k : ℕ) → k ≤ 3 → Abs (X h k) xmax → Rel x (X h k) (bx k) → Turned h k 0 (halfTurn x)
-unfolding S C X db chk β₀ free halfTurn
+start : (h : ℚ) (x : Float) (k : ℕ) → k ≤ 3 → Abs (X h k) xmax → Rel x (X h k) (bx k) → Turned h k 0 (sumsAt x)
+unfolding S C X db chk β₀ free sumsAt
 start h x k l m r =
     let g : Good (x ∷ []) (X h k ∷ []) (β₀ k) = ((r .0, X-xm (X h k) k m (r .1), r .2), tt) in
     let o = db-ok k l 0 (lit≤ tt) in (
@@ -251,7 +251,7 @@ again h t k i l m a =
       sound (t .s ∷ t .c ∷ []) σ β g (stepC (fv 0)) (known σ (stepC (fv 0)) tt) (and-r (ok (db k (suc i) .0)) (ok (db k (suc i) .1)) o),
     )
 
--- ---- `turnOf`: it stops at K halvings in all, and doubles as often as it halved
+-- ---- `halvedOf`: it stops at K halvings in all, and doubles as often as it halved
 record Stops (h : ℚ) (k : ℕ) (t : SineCosine) : Type 0 where
   K : ℕ
   i : ℕ
@@ -260,7 +260,7 @@ record Stops (h : ℚ) (k : ℕ) (t : SineCosine) : Type 0 where
   angle : Abs (X h K) xmax
   turned : Turned h K i t
 
-stops-here : (h : ℚ) (x : Float) (k : ℕ) → k ≤ 3 → Abs (X h k) xmax → Rel x (X h k) (bx k) → Stops h k (halfTurn x)
+stops-here : (h : ℚ) (x : Float) (k : ℕ) → k ≤ 3 → Abs (X h k) xmax → Rel x (X h k) (bx k) → Stops h k (sumsAt x)
 stops-here h x k l m r = record { K = k; i = 0; sum = zero-add k; few = l; angle = m; turned = start h x k l m r }
 
 stops-later : (h : ℚ) (t : SineCosine) (k : ℕ) → Stops h (suc k) t → Stops h k (doubled t)
@@ -273,17 +273,17 @@ stops-later h t k s = record {
   turned = again h t (s .K) (s .i) (s .few) (omega (arith, s .sum, s .few)) (s .turned);
 }
 
-stops : (h : ℚ) → 0≤ h → 0≤ (qn 4 -q h) → (j k : ℕ) → j + k ≡ 3 → (x : Float) → Rel x (X h k) (bx k) → Stops h k (turnOf j x)
-unfolding turnOf
+stops : (h : ℚ) → 0≤ h → 0≤ (qn 4 -q h) → (j k : ℕ) → j + k ≡ 3 → (x : Float) → Rel x (X h k) (bx k) → Stops h k (halvedOf j x)
+unfolding halvedOf
 stops h a b zero k e x r = stops-here h x k (omega arith) (subst (λ n. Abs (X h n) xmax) (sym e ∙ zero-add k) (X-third h a b)) r
 stops h a b (suc j) k e x r = go (le x (ratio 1 2)) refl (stops h a b j (suc k) (omega arith) (x · ratio 1 2) (x-step h x k (omega arith) r))
   where
     m : k ≤ 3
     m = omega arith
 
-    go : (b : Bool) → le x (ratio 1 2) ≡ b → Stops h (suc k) (turnOf j (x · ratio 1 2)) → Stops h k (cond b (halfTurn x) (doubled (turnOf j (x · ratio 1 2))))
+    go : (b : Bool) → le x (ratio 1 2) ≡ b → Stops h (suc k) (halvedOf j (x · ratio 1 2)) → Stops h k (cond b (sumsAt x) (doubled (halvedOf j (x · ratio 1 2))))
     go true t s = stops-here h x k m (X-tested h x k m a r t) r
-    go false t s = stops-later h (turnOf j (x · ratio 1 2)) k s
+    go false t s = stops-later h (halvedOf j (x · ratio 1 2)) k s
 
 -- ---- the polynomials against the exact sums
 grow : ℕ → ℕ → ℕ
@@ -337,10 +337,10 @@ near-of a b h =
 add-none : (i k : ℕ) → i + 0 ≡ k → i ≡ k
 add-none i k e = omega arith
 
-pub turn-near : (h : Float) → T (finite h) → qn 0 ≤q val h → val h ≤q qn 4 → SinesNear (val h) (turnOf 3 h)
+pub turn-near : (h : Float) → T (finite h) → qn 0 ≤q val h → val h ≤q qn 4 → SinesNear (val h) (halvedOf 3 h)
 unfolding S C
 turn-near h f a b =
-    let x = val h in let t = turnOf 3 h in let b' = ≤q-sub x (qn 4) b in
+    let x = val h in let t = halvedOf 3 h in let b' = ≤q-sub x (qn 4) b in
     let st = stops x a b' 3 0 refl h (x-start h f a b') in let k = st .K in
     let N = 2 ^ (256 - 41) in
     let r = subst (λ i. Turned x k i t) (add-none (st .i) k (st .sum)) (st .turned) in
@@ -378,15 +378,15 @@ accepted-finite (inf true) p q = absurd (true≢false p)
 accepted-finite (inf false) p q = absurd (true≢false (sym q))
 accepted-finite (fin s m e) p q = tt
 
-pub sin-cos-accepts : (h : Float) → T (finite h) → qn 0 ≤q val h → val h ≤q qn 4 → sinCosOf h ≡ Sines.Value (turnOf 3 h)
+pub sin-cos-accepts : (h : Float) → T (finite h) → qn 0 ≤q val h → val h ≤q qn 4 → sinCosOf h ≡ Sines.Value (halvedOf 3 h)
 unfolding sinCosOf
 sin-cos-accepts h f a b =
     let p : lt h (ratio 0 1) ≡ false = lt-val h (ratio 0 1) f (small-finite 0 (inl refl))
     ∙ ap not (is-true (leq (val (ratio 0 1)) (val h)) (subst (λ z. z ≤q val h) (sym zero-val) a)) in
     let q : le h (ratio 4 1) ≡ true = le-val h (ratio 4 1) f (small-finite 4 (inr refl))
     ∙ is-true (leq (val h) (val (ratio 4 1))) (subst (λ z. val h ≤q z) (sym four-val) b) in
-    ap (λ c. cond c Sines.Refused (cond (le h (ratio 4 1)) (Sines.Value (turnOf 3 h)) Sines.Refused)) p
-    ∙ ap (λ c. cond c (Sines.Value (turnOf 3 h)) Sines.Refused) q
+    ap (λ c. cond c Sines.Refused (cond (le h (ratio 4 1)) (Sines.Value (halvedOf 3 h)) Sines.Refused)) p
+    ∙ ap (λ c. cond c (Sines.Value (halvedOf 3 h)) Sines.Refused) q
 
 no-value : (t : SineCosine) → Sines.Refused ≡ Sines.Value t → ⊥
 no-value t e = let z : _≡_ {A = ℕ} 0 1 = cc in omega arith
@@ -395,14 +395,14 @@ pub record Accepted (h : Float) (t : SineCosine) : Type 0 where
   pub is-finite : T (finite h)
   pub low : qn 0 ≤q val h
   pub high : val h ≤q qn 4
-  pub is : turnOf 3 h ≡ t
+  pub is : halvedOf 3 h ≡ t
 
 pub sin-cos-accepted : (h : Float) (t : SineCosine) → sinCosOf h ≡ Sines.Value t → Accepted h t
 unfolding sinCosOf
 sin-cos-accepted h t e = go (lt h (ratio 0 1)) (le h (ratio 4 1)) refl refl e
   where
     go : (a b : Bool) → lt h (ratio 0 1) ≡ a → le h (ratio 4 1) ≡ b
-        → cond a Sines.Refused (cond b (Sines.Value (turnOf 3 h)) Sines.Refused) ≡ Sines.Value t → Accepted h t
+        → cond a Sines.Refused (cond b (Sines.Value (halvedOf 3 h)) Sines.Refused) ≡ Sines.Value t → Accepted h t
     go true b p q e = absurd (no-value t e)
     go false false p q e = absurd (no-value t e)
     go false true p q e =

@@ -10,7 +10,7 @@ use Rattle.arith.proofs.angle.halved.Reads as halved
 use Rattle.arith.proofs.angle.halved.Kinds as halved-kinds
 use Rattle.arith.proofs.angle.+halved.Lts-halved as halved-lts
 use Rattle.arith.proofs.angle.doubled.Reads as doubled-reads
-use Rattle.arith.proofs.angle.half_turn.Reads as half-turn-reads
+use Rattle.arith.proofs.angle.sums_at.Reads as sums-at-reads
 use Rattle.arith.proofs.angle.+halved.{statement}
 use Rattle.arith.proofs.angle.+halved.Tie.{close}
 
@@ -25,19 +25,19 @@ halved-below t = and 0 halved-kinds.ps (falls 0 halved-kinds.ps _<_ μ-halved t)
 
 -- the contracts of what it calls, its own at a smaller measure
 abbrev calls : ℕ → halved-lts.Claims
-calls t = (half-turn-reads.Asked, half-turn-reads.Learnt, halved-below t, halved.Post, doubled-reads.Asked, doubled-reads.Learnt)
+calls t = (sums-at-reads.Asked, sums-at-reads.Learnt, halved-below t, halved.Post, doubled-reads.Asked, doubled-reads.Learnt)
 
-half-turn-requires : (t : ℕ) → halved-lts.Need-half-turn-requires (calls t) (halved-at t) halved.Post
-half-turn-requires t c κs = search needs
+sums-at-requires : (t : ℕ) → halved-lts.Need-sums-at-requires (calls t) (halved-at t) halved.Post
+sums-at-requires t c κs = search needs
 
 returns : (t : ℕ) → halved-lts.Need-returns (calls t) (halved-at t) halved.Post
-returns t c = c .half-turn .ensures ∙ turn-none _ (c .before .if1 .taken)
+returns t c = c .sums-at .ensures ∙ turn-none _ (c .before .if1 .taken)
 
-half-turn-requires-2 : (t : ℕ) → halved-lts.Need-half-turn-requires-2 (calls t) (halved-at t) halved.Post
-half-turn-requires-2 t c κs = search needs
+sums-at-requires-2 : (t : ℕ) → halved-lts.Need-sums-at-requires-2 (calls t) (halved-at t) halved.Post
+sums-at-requires-2 t c κs = search needs
 
 returns-2 : (t : ℕ) → halved-lts.Need-returns-2 (calls t) (halved-at t) halved.Post
-returns-2 t c = c .half-turn2 .ensures ∙ turn-small _ _ (c .before .before .if1 .left) (c .before .if2 .taken)
+returns-2 t c = c .sums-at2 .ensures ∙ turn-small _ _ (c .before .before .if1 .left) (c .before .if2 .taken)
 
 sub-halved : (t : ℕ) → halved-lts.Need-sub-halved (calls t) (halved-at t) halved.Post
 sub-halved t c = omega arith
@@ -55,9 +55,9 @@ pub +halved-spec : {M : Type 1} → statement M
 +halved-spec = close μ-halved λ t. halved-lts.spec (calls t)
     (halved-at t)
     halved.Post
-    (half-turn-requires t)
+    (sums-at-requires t)
     (returns t)
-    (half-turn-requires-2 t)
+    (sums-at-requires-2 t)
     (returns-2 t)
     (sub-halved t)
     (halved-requires t)

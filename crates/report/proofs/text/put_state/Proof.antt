@@ -1,6 +1,6 @@
 -- `put_state`: after k turns k doubles are written.
 use native.Mathlib.Omega.{arith}
-use Rattle.report.proofs.Texts.{numbers-none, numbers-room, numbers-puts, numbers-end, same-length as kept}
+use Rattle.report.proofs.Texts.{numbers-none, numbers-room, fields-puts, numbers-end, same-length as kept}
 use Prim.Native.Nat.{_-_, _≤_}
 use Rattle.report.specs.Text.{Puts, fieldsOf}
 use Rattle.report.proofs.text.put_state.Statement.{statement}
@@ -16,5 +16,5 @@ pub put-state-spec : {M : Type 1} → statement M
 put-state-spec =
     tie.close (tie.spec
     Inv-loop μ-loop (λ c. (omega arith, search numbers-none)) (λ c. omega arith) (λ c. omega arith) (λ c. omega arith)
-    (λ c κs. search numbers-room) (λ c. omega arith) (λ c. omega arith) (λ c. (omega arith, search numbers-puts)) (λ c. search kept)
+    (λ c κs. search numbers-room) (λ c. omega arith) (λ c. omega arith) (λ c. (omega arith, search fields-puts)) (λ c. search kept)
     (λ c. search numbers-end))

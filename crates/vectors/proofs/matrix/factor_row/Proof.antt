@@ -1,4 +1,4 @@
--- `vectors::matrix::factor_row` meets its contract. The loop's invariant: the factor so far is the definition's after `column` places.
+-- `vectors::matrix::factor_row` meets its contract. The loop's invariant: the factor so far is the definition's after `column` entries.
 use mathlib.Core.Path.{_≡_}
 use Prim.Native.Nat.{_+_, _-_, _≤_}
 use native.Mathlib.Omega.{arith}
