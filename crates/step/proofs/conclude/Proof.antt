@@ -7,29 +7,21 @@ use Rattle.step.proofs.conclude.Statement.{statement}
 use Rattle.step.proofs.conclude.Tie as tie
 
 returns : tie.Need-returns
-returns c =
-    let at-if1 = c .before .before .before .before in let at-in-ground = at-if1 .before in let at-enum-told = at-in-ground .before in
-    let at-entry = at-enum-told .before .before .before .before in
-    λ nonlinear linear scratch. conclude-accepts _ _ _
-    (at-in-ground .in-ground .ensures) (at-enum-told .enum-told .given .1) nonlinear linear scratch (at-if1 .if1 .taken) (at-entry .pre .1)
-    (at-entry .pre .0) (c .before .before .write-states .ensures)
+returns c = search conclude-accepts
 
 returns-2 : tie.Need-returns-2
-returns-2 c =
-    let at-entry = c .before .before .before .before .before .before in
-    λ nonlinear linear scratch. conclude-grounds _ (now (at-entry .args .work)) _
-    (c .before .in-ground .ensures) (c .before .before .enum-told .given .1) nonlinear linear scratch (c .if1 .left)
+returns-2 c = search conclude-grounds
 
 returns-3 : tie.Need-returns-3
 returns-3 c =
     let at-entry = c .before .before .before .before in
-    λ nonlinear linear scratch. conclude-fails _ scratch (statesAt (now (at-entry .args .work)) _)
+    λ nonlinear linear scratch. conclude-fails _ scratch _
     (c .enum-told2 .given .1) nonlinear linear
 
 returns-4 : tie.Need-returns-4
 returns-4 c =
     let at-entry = c .before .before .before .before in
-    λ nonlinear linear scratch. conclude-fails _ scratch (statesAt (now (at-entry .args .work)) _)
+    λ nonlinear linear scratch. conclude-fails _ scratch _
     (c .enum-told3 .given .1) nonlinear linear
 
 pub conclude-spec : {M : Type 1} → statement M

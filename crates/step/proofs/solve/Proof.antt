@@ -13,9 +13,7 @@ use Rattle.step.proofs.solve.Statement.{statement}
 use Rattle.step.proofs.solve.Tie as tie
 
 returns : tie.Need-returns
-returns c =
-    answered-refused _ _ _ _
-    _ (c .before .before .refusal .ensures) (c .before .accepted .ensures) (c .if1 .taken)
+returns c = search answered-refused
 
 slice-relend-prefix-solve-in : tie.Need-slice-relend-prefix-solve-in
 slice-relend-prefix-solve-in c =

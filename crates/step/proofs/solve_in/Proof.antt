@@ -13,7 +13,7 @@ returns c =
     let at-conclude = c .before .before .before .before .before .before in let at-run = at-conclude .before .before .before .before .before in
     let at-entry = at-run .before .before .before .before .before in
     solved-in _
-    (runFor (now (at-entry .args .bodies)) _ _ _) (at-run .run .result) _
+    _ (at-run .run .result) _
     (at-run .run .ensures) (at-conclude .conclude .ensures)
     (all-zero (at-run .run .ensures .kept .size ∙ at-entry .pre .0) (c .before .before .clear .ensures))
 

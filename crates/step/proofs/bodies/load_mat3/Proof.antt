@@ -6,10 +6,7 @@ use Rattle.step.proofs.bodies.load_mat3.Statement.{statement}
 use Rattle.step.proofs.bodies.load_mat3.Tie as tie
 
 returns : tie.Need-returns
-returns c =
-    let at-load3 = c .before .before .before in let at-entry = at-load3 .before .before in
-    mat-loaded (now (at-entry .args .s)) (at-entry .args .i) (at-load3 .load3 .ensures) (c .before .before .load32 .ensures)
-    (c .before .load33 .ensures) (c .from-cols .ensures)
+returns c = search mat-loaded
 
 pub load-mat3-spec : {M : Type 1} → statement M
 load-mat3-spec =

@@ -7,11 +7,7 @@ use Rattle.step.proofs.bodies.load_record.Statement.{statement}
 use Rattle.step.proofs.bodies.load_record.Tie as tie
 
 returns : tie.Need-returns
-returns c =
-    let at-load33 = c .before .before .before in let at-load32 = at-load33 .before in let at-load4 = at-load32 .before in
-    let at-load3 = at-load4 .before in let at-entry = at-load3 .before .before in
-    record-loaded (now (at-entry .args .bodies)) (26 * at-entry .args .k) (at-load3 .load3 .ensures) (at-load4 .load4 .ensures)
-    (at-load32 .load32 .ensures) (at-load33 .load33 .ensures) (c .before .load34 .ensures) (c .load-mat3 .ensures)
+returns c = search record-loaded
 
 pub load-record-spec : {M : Type 1} → statement M
 load-record-spec =

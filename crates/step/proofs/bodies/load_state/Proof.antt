@@ -6,10 +6,7 @@ use Rattle.step.proofs.bodies.load_state.Statement.{statement}
 use Rattle.step.proofs.bodies.load_state.Tie as tie
 
 returns : tie.Need-returns
-returns c =
-    let at-load3 = c .before .before .before in let at-entry = at-load3 .before .before in
-    state-loaded (now (at-entry .args .s)) (at-entry .args .i) (at-load3 .load3 .ensures) (c .before .before .load4 .ensures)
-    (c .before .load32 .ensures) (c .load33 .ensures)
+returns c = search state-loaded
 
 pub load-state-spec : {M : Type 1} → statement M
 load-state-spec =

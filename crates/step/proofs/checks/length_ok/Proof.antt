@@ -7,7 +7,7 @@ use Rattle.step.proofs.checks.length_ok.Statement.{statement}
 use Rattle.step.proofs.checks.length_ok.Tie as tie
 
 returns : tie.Need-returns
-returns c = also (ap (λ (z : Float). Ieee.le z (c .before .args .length)) shortest-is) (c .if1 .taken) (ap (Ieee.le (c .before .args .length)) ground-is)
+returns c = also (ap (λ (z : Float). Ieee.le z (c .before .args .length)) shortest-is) (c .if1 .taken) (ap (Ieee.le _) ground-is)
 
 returns-2 : tie.Need-returns-2
 returns-2 c = fails _ (ap (λ (z : Float). Ieee.le z (c .before .args .length)) shortest-is) (c .if1 .left)

@@ -7,10 +7,10 @@ use Rattle.step.proofs.checks.mass_in_range.Statement.{statement}
 use Rattle.step.proofs.checks.mass_in_range.Tie as tie
 
 returns : tie.Need-returns
-returns c = also (ap (λ (z : Float). Ieee.le z (c .before .args .mass)) lightest-is) (c .if1 .taken) (ap (Ieee.le (c .before .args .mass)) heaviest-is)
+returns c = also (ap (λ (z : Float). Ieee.le z (c .before .args .mass)) lightest-is) (c .if1 .taken) (ap (Ieee.le _) heaviest-is)
 
 returns-2 : tie.Need-returns-2
-returns-2 c = fails _ (ap (λ (z : Float). Ieee.le z (c .before .args .mass)) lightest-is) (c .if1 .left)
+returns-2 c = search (fails, lightest-is)
 
 pub mass-in-range-spec : {M : Type 1} → statement M
 mass-in-range-spec = tie.close (tie.spec returns returns-2)

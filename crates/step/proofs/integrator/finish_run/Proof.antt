@@ -14,7 +14,7 @@ returns : tie.Need-returns
 returns c =
     let at-prepare-masses = c .before .before .before .before .before in let at-entry = at-prepare-masses .before .before .before .before in
     ended-is (λ x. statesAt x (at-entry .args .t .bodies)) (c .new .ensures)
-    (not-weighed (jobFor _ _) (recordsOf (now (at-entry .args .bodies))) (now (at-entry .args .ia)) (now (at-entry .args .ib))
+    (not-weighed (jobFor _ _) _ (now (at-entry .args .ia)) (now (at-entry .args .ib))
     (at-entry .args .t) (at-entry .pre .0 .ready .most) (at-entry .pre .0 .ready .bodies) (at-prepare-masses .prepare-masses .result)
     (at-prepare-masses .prepare-masses .ensures) (c .before .before .done .ensures) (c .before .if1 .taken))
 
@@ -26,7 +26,7 @@ returns-2 c =
     let at-stage-loop = c .before .before .before .before .before in let at-if1 = at-stage-loop .before .before in let at-done = at-if1 .before in
     let at-prepare-masses = at-done .before .before .before in let at-entry = at-prepare-masses .before .before .before .before in
     ended-is (λ x. statesAt x (at-entry .args .t .bodies)) (c .new2 .ensures)
-    (not-rested (jobFor _ _) (recordsOf (now (at-entry .args .bodies))) (now (at-entry .args .ia)) (now (at-entry .args .ib))
+    (not-rested (jobFor _ _) _ (now (at-entry .args .ia)) (now (at-entry .args .ib))
     (at-entry .args .t) (at-entry .pre .0 .ready .most) (at-entry .pre .0 .ready .bodies) (at-prepare-masses .prepare-masses .result)
     (at-prepare-masses .prepare-masses .ensures) (at-done .done .ensures) (at-if1 .if1 .left) (at-stage-loop .stage-loop .result)
     (at-stage-loop .stage-loop .ensures) (c .before .before .done2 .ensures) (c .before .if2 .taken))
@@ -37,7 +37,7 @@ returns-3 c =
     let at-stage-loop = at-done2 .before .before .before in let at-if1 = at-stage-loop .before .before in let at-done = at-if1 .before in
     let at-prepare-masses = at-done .before .before .before in let at-entry = at-prepare-masses .before .before .before .before in
     ended-is (λ x. statesAt x (at-entry .args .t .bodies)) (c .new3 .ensures)
-    (all-finished (jobFor _ _) (recordsOf (now (at-entry .args .bodies))) (now (at-entry .args .ia)) (now (at-entry .args .ib))
+    (all-finished (jobFor _ _) _ (now (at-entry .args .ia)) (now (at-entry .args .ib))
     (at-entry .args .t) (at-entry .pre .0 .ready .most) (at-entry .pre .0 .ready .bodies) (at-prepare-masses .prepare-masses .result)
     (at-prepare-masses .prepare-masses .ensures) (at-done .done .ensures) (at-if1 .if1 .left) (at-stage-loop .stage-loop .result)
     (at-stage-loop .stage-loop .ensures) (at-done2 .done2 .ensures) (at-if2 .if2 .left) (at-make-states .make-states .result)

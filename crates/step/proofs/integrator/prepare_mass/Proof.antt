@@ -6,9 +6,7 @@ use Rattle.step.proofs.integrator.prepare_mass.Statement.{statement}
 use Rattle.step.proofs.integrator.prepare_mass.Tie as tie
 
 returns : tie.Need-returns
-returns c =
-    let at-mass-response = c .before .before in let at-entry = at-mass-response .before .before in
-    weigh-over _ (at-entry .args .k) _ (at-mass-response .mass-response .result) (at-mass-response .mass-response .ensures) (c .if1 .taken) _
+returns c = search weigh-over
 
 returns-2 : tie.Need-returns-2
 returns-2 c =

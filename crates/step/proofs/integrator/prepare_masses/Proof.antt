@@ -37,9 +37,7 @@ loop-again c =
     )
 
 returns-2 : tie.Need-returns-2 Inv-loop μ-loop
-returns-2 c =
-    let at-entry = c .before .before .before in
-    weigh-ends (at-entry .args .moved) _ _ _ _ (c .before .loop .inv .2) (omega arith) (c .loop-test .left) (at-entry .pre .1)
+returns-2 c = search weigh-ends
 
 pub prepare-masses-spec : {M : Type 1} → statement M
 prepare-masses-spec =

@@ -93,7 +93,7 @@ loop-again c =
       (λ body-count q. spread-less (at-fill .fill .ensures) (at-loop .loop .inv .4 body-count q) (q .a-there _ (at-test .loop-test .taken))),
       (λ body-count q. spread-less (at-fill2 .fill2 .ensures) (at-loop .loop .inv .5 body-count q) (q .b-there _ (at-test .loop-test .taken))),
       before-more (at-entry .args .t3) (at-loop .loop .k) _ (at-loop .loop .inv .6) (at-row-count .row-count .ensures),
-      sides-more (at-entry .args .t3) (at-loop .loop .k) _ (at-loop .loop .inv .7) (at-loop .loop .inv .6) (at-row-count .row-count .ensures)
+      sides-more _ (at-loop .loop .k) _ (at-loop .loop .inv .7) (at-loop .loop .inv .6) (at-row-count .row-count .ensures)
           (at-fill .fill .ensures) (at-fill2 .fill2 .ensures),
     )
 

@@ -21,9 +21,9 @@ returns c =
     let at-start = c .before .before .before .before .before in let at-row-bodies = at-start .before .before .before .before in
     let at-entry = at-row-bodies .before .before .before .before .before in
     left-is (λ x. statesAt x (bodyCount (now (at-entry .args .bodies)))) (c .run-ended .ensures)
-    (not-started (jobOf (now (at-entry .args .bodies)) _ _ _)
-    (recordsOf (now (at-entry .args .bodies))) (at-row-bodies .row-bodies .ensures .1)
-    (record { place = START-ROWS; rows = at-row-bodies .row-bodies .result; bodies = bodyCount (now (at-entry .args .bodies)) })
+    (not-started _
+    _ (at-row-bodies .row-bodies .ensures .1)
+    _
     (at-start .start .result)
     (started-as (at-row-bodies .row-bodies .ensures .1) _ (at-start .start .result) (at-row-bodies .row-bodies .ensures .2)
     (at-start .start .ensures _ _ (at-row-bodies .row-bodies .ensures .1))) (c .before .before .done .ensures) (c .before .if1 .taken))
@@ -49,9 +49,9 @@ returns-2 c =
     let at-stage-loop = c .before .before .before .before in let at-clear = at-stage-loop .before .before .before .before .before .before in
     let at-if1 = at-clear .before .before in let at-done = at-if1 .before in let at-start = at-done .before .before .before in
     let at-row-bodies = at-start .before .before .before .before in let at-entry = at-row-bodies .before .before .before .before .before in
-    not-met (jobOf (now (at-entry .args .bodies)) _ _ _)
-    (recordsOf (now (at-entry .args .bodies))) (at-row-bodies .row-bodies .ensures .1)
-    (record { place = START-ROWS; rows = at-row-bodies .row-bodies .result; bodies = bodyCount (now (at-entry .args .bodies)) })
+    not-met _
+    _ (at-row-bodies .row-bodies .ensures .1)
+    _
     (at-start .start .result)
     (started-as (at-row-bodies .row-bodies .ensures .1) _ (at-start .start .result) (at-row-bodies .row-bodies .ensures .2)
     (at-start .start .ensures _ _ (at-row-bodies .row-bodies .ensures .1))) (at-done .done .ensures) (at-if1 .if1 .left)
@@ -98,9 +98,9 @@ returns-3 c =
     let at-start = at-done .before .before .before in let at-row-bodies = at-start .before .before .before .before in
     let at-entry = at-row-bodies .before .before .before .before .before in
     left-is (λ x. statesAt x (bodyCount (now (at-entry .args .bodies)))) (c .run-ended2 .ensures)
-    (all-run (jobOf (now (at-entry .args .bodies)) _ _ _)
-    (recordsOf (now (at-entry .args .bodies))) (at-row-bodies .row-bodies .ensures .1)
-    (record { place = START-ROWS; rows = at-row-bodies .row-bodies .result; bodies = bodyCount (now (at-entry .args .bodies)) })
+    (all-run _
+    _ (at-row-bodies .row-bodies .ensures .1)
+    _
     (at-start .start .result)
     (started-as (at-row-bodies .row-bodies .ensures .1) _ (at-start .start .result) (at-row-bodies .row-bodies .ensures .2)
     (at-start .start .ensures _ _ (at-row-bodies .row-bodies .ensures .1))) (at-done .done .ensures) (at-if1 .if1 .left)

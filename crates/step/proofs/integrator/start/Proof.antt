@@ -12,10 +12,7 @@ use Rattle.step.proofs.integrator.start.Statement.{statement}
 use Rattle.step.proofs.integrator.start.Tie as tie
 
 returns : tie.Need-returns
-returns c =
-    let at-start-bodies = c .before .before .before .before in let at-entry = at-start-bodies .before .before .before .before in
-    λ ia ib S. no-body (jobFor _ _) (now (at-entry .args .bodies)) (at-entry .pre .1 .small) _ _
-    (at-start-bodies .start-bodies .result) (c .before .done .ensures) (c .if1 .taken) (at-start-bodies .start-bodies .ensures) _
+returns c = search no-body
 
 write-rows-requires : tie.Need-write-rows-requires
 write-rows-requires c κs =
@@ -36,7 +33,7 @@ returns-3 c =
     let at-prepare-masses = c .before .before in let at-if2 = at-prepare-masses .before .before in let at-done2 = at-if2 .before in
     let at-write-rows = at-done2 .before .before .before in let at-if1 = at-write-rows .before .before in let at-done = at-if1 .before in
     let at-start-bodies = at-done .before .before .before in let at-entry = at-start-bodies .before .before .before .before in
-    λ ia ib S. all-begun (jobFor (at-entry .args .joints) (at-entry .args .task)) (now (at-entry .args .bodies)) (at-entry .pre .1 .small) _ _
+    λ ia ib S. all-begun _ (now (at-entry .args .bodies)) (at-entry .pre .1 .small) _ _
     (went _ (at-start-bodies .start-bodies .result) (at-done .done .ensures) (at-start-bodies .start-bodies .ensures) (at-if1 .if1 .left)) _ ia ib
     (omega (arith, before-most (at-entry .args .joints) (at-entry .args .task .count), at-entry .pre .1 .few))
     (went _ (at-write-rows .write-rows .result) (at-done2 .done2 .ensures)

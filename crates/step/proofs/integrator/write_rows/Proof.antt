@@ -27,7 +27,7 @@ loop-holds c = (
   omega arith,
   refl,
   before-none (c .before .args .t2),
-  λ body-count J ia ib S. wrote-none (c .before .args .t2) (c .before .args .count) (c .before .args .moved) (c .before .args .place) _ body-count J ia ib S,
+  λ body-count J ia ib S. wrote-none _ _ (c .before .args .moved) _ _ body-count J ia ib S,
 )
 
 load-moved-requires : tie.Need-load-moved-requires Inv-loop μ-loop

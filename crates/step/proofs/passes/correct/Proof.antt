@@ -11,7 +11,7 @@ use Rattle.step.proofs.passes.correct.Tie as tie
 returns : tie.Need-returns
 returns c =
     let at-linear-solve = c .before .before .before .before .before in let at-entry = at-linear-solve .before .before .before in
-    unsolved (makeAt (at-entry .args .stage) (now (at-entry .args .ia)) (now (at-entry .args .ib)) (at-entry .args .t) (now (at-entry .args .s)))
+    unsolved _
     (at-linear-solve .linear-solve .result) _ (does-more (solve-inside (at-entry .args .stage)) (at-linear-solve .linear-solve .ensures .0))
     (c .before .before .done .ensures) _ _ (c .before .if1 .taken) (c .pass-after .ensures)
 
@@ -22,7 +22,7 @@ returns-2 : tie.Need-returns-2
 returns-2 c =
     let at-use-solution = c .before .before .before in let at-if1 = at-use-solution .before .before in let at-done = at-if1 .before in
     let at-linear-solve = at-done .before .before .before in let at-entry = at-linear-solve .before .before .before in
-    made (makeAt (at-entry .args .stage) (now (at-entry .args .ia)) (now (at-entry .args .ib)) (at-entry .args .t) (now (at-entry .args .s)))
+    made _
     (at-linear-solve .linear-solve .result) _ (does-more (solve-inside (at-entry .args .stage)) (at-linear-solve .linear-solve .ensures .0))
     (at-done .done .ensures) _ (at-if1 .if1 .left) _ (at-use-solution .use-solution .result) (does-is (at-use-solution .use-solution .ensures)
     (same-make (at-entry .args .stage) (at-entry .pre) (at-linear-solve .linear-solve .ensures .0 .kept) _)) (c .pass-after2 .ensures)

@@ -35,11 +35,7 @@ add-linear c =
     )
 
 returns : tie.Need-returns Inv-loop μ-loop
-returns c =
-    let at-pass = c .before .before in let at-stage-pass = at-pass .before .before .before .before .before in
-    let at-test = at-stage-pass .before .before in let at-loop = at-test .before in let at-entry = at-loop .before .before in
-    loop-over (at-entry .args .stage) (jobFor _ _) _ _ (at-entry .pre .0) (at-entry .pre .1) (at-loop .loop .inv .3)
-    (at-stage-pass .stage-pass .result) (at-stage-pass .stage-pass .ensures) (at-test .loop-test .taken) (at-pass .pass .given .1) (c .run-ended .ensures)
+returns c = search loop-over
 
 loop-again : tie.Need-loop-again Inv-loop μ-loop
 loop-again c =
@@ -53,14 +49,14 @@ loop-again c =
         pass-few (at-entry .args .stage) (jobFor _ _) (now (at-entry .args .ia)) (now (at-entry .args .ib)) (at-loop .loop .s) (at-entry .args .t)
             (at-entry .pre .0 .ready .most) _ (at-stage-pass .stage-pass .ensures .is),
       ),
-      looped-again (at-entry .args .stage) (jobFor _ _) _ _ (at-entry .pre .0) (at-entry .pre .1) (at-loop .loop .inv .3)
+      looped-again _ (jobFor _ _) _ _ (at-entry .pre .0) (at-entry .pre .1) (at-loop .loop .inv .3)
           (at-stage-pass .stage-pass .result) (at-stage-pass .stage-pass .ensures) (at-test .loop-test .taken) (c .enum-told .given .1),
     )
 
 returns-2 : tie.Need-returns-2 Inv-loop μ-loop
 returns-2 c =
     let at-loop = c .before .before in let at-entry = at-loop .before .before in
-    loop-spent (at-entry .args .stage) (jobFor _ _) _ _ _ _ _ (at-loop .loop .inv .3) (omega (arith, at-loop .loop .inv .0, c .before .loop-test .left))
+    loop-spent _ (jobFor _ _) _ _ _ _ _ (at-loop .loop .inv .3) (omega (arith, at-loop .loop .inv .0, c .before .loop-test .left))
     (c .run-ended2 .ensures)
 
 pub stage-loop-spec : {M : Type 1} → statement M

@@ -17,23 +17,18 @@ abbrev μ-loop : tie.MeasureT-loop
 μ-loop s n k₀ k = n - k
 
 returns : tie.Need-returns Inv-loop μ-loop
-returns c =
-    let at-test = c .before .before .before in let at-entry = at-test .before .before .before in
-    compatible-fails (now (at-entry .args .s)) _ (at-test .loop-test .taken)
-    (small-is (now (at-entry .args .s)) _ (at-test .loop-test .taken) (c .before .abs .ensures) tenth-12 (c .if1 .left))
+returns c = search (compatible-fails, small-is, tenth-12)
 
 loop-again : tie.Need-loop-again Inv-loop μ-loop
 loop-again c =
     let at-test = c .before .before .before in let at-loop = at-test .before in let at-entry = at-loop .before .before in (
       omega arith,
-      every-more (small (now (at-entry .args .s)) _) (at-loop .loop .inv .1)
+      every-more _ (at-loop .loop .inv .1)
           (small-is (now (at-entry .args .s)) _ (at-test .loop-test .taken) (c .before .abs .ensures) tenth-12 (c .if1 .taken)),
     )
 
 returns-2 : tie.Need-returns-2 Inv-loop μ-loop
-returns-2 c =
-    let at-entry = c .before .before .before in
-    compatible-ends (now (at-entry .args .s)) _ (c .before .loop .inv .0) (c .loop-test .left) (c .before .loop .inv .1)
+returns-2 c = search compatible-ends
 
 pub compatible-spec : {M : Type 1} → statement M
 compatible-spec =

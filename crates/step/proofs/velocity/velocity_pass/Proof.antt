@@ -28,13 +28,7 @@ correct-requires : tie.Need-correct-requires
 correct-requires c κs = record { ready = search needs; long = search needs }
 
 returns-3 : tie.Need-returns-3
-returns-3 c joints =
-    let at-if2 = c .before .before .before .before in let at-compatible = at-if2 .before in let at-if1 = at-compatible .before .before in
-    let at-done = at-if1 .before in let at-velocity-rhs = at-done .before .before .before in
-    let at-entry = at-velocity-rhs .before .before .before in
-    kicked-on (jobFor joints _) _ (at-entry .pre .ready) (at-velocity-rhs .velocity-rhs .result)
-    (at-velocity-rhs .velocity-rhs .ensures) (at-done .done .ensures) (at-if1 .if1 .left) (at-compatible .compatible .ensures) (at-if2 .if2 .left)
-    (c .before .before .correct .ensures)
+returns-3 c joints = search kicked-on
 
 pub velocity-pass-spec : {M : Type 1} → statement M
 velocity-pass-spec =
