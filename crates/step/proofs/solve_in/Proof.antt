@@ -2,8 +2,6 @@
 use borrow.Author.Needs.{needs}
 use native.Mathlib.Omega.{arith}
 use mathlib.Core.Path.{_∙_}
-use denote.Ref.{now}
-use Rattle.step.specs.Step.{runFor}
 use Rattle.step.proofs.FinishLaws.{all-zero, solved-in}
 use Rattle.step.proofs.solve_in.Statement.{statement}
 use Rattle.step.proofs.solve_in.Tie as tie

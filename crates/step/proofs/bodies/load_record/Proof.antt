@@ -1,13 +1,8 @@
 -- `load_record` is `recordAt`: each field by the contract of its load.
 use Rattle.step.proofs.BodyLaws.{record-loaded}
-use Prim.Native.Nat.{_*_}
-use denote.Ref.{now}
 use borrow.Author.Needs.{needs}
 use Rattle.step.proofs.bodies.load_record.Statement.{statement}
 use Rattle.step.proofs.bodies.load_record.Tie as tie
-
-returns : tie.Need-returns
-returns c = search record-loaded
 
 pub load-record-spec : {M : Type 1} → statement M
 load-record-spec =
@@ -15,4 +10,4 @@ load-record-spec =
     (λ c. search needs) (λ c κs. search needs) (λ c. search needs) (λ c κs. search needs) (λ c. search needs)
     (λ c κs. search needs) (λ c. search needs) (λ c κs. search needs) (λ c. search needs) (λ c. search needs)
     (λ c. search needs) (λ c. search needs) (λ c κs. search needs) (λ c. search needs) (λ c κs. search needs)
-    returns)
+    (λ c. search record-loaded))

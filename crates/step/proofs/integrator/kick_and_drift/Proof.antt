@@ -4,12 +4,6 @@ use borrow.Author.Needs.{needs}
 use Rattle.step.proofs.integrator.kick_and_drift.Statement.{statement}
 use Rattle.step.proofs.integrator.kick_and_drift.Tie as tie
 
-returns : tie.Need-returns
-returns c = search kick-fails
-
-returns-2 : tie.Need-returns-2
-returns-2 c = search kick-drifts
-
 pub kick-and-drift-spec : {M : Type 1} → statement M
 kick-and-drift-spec =
-    tie.close (tie.spec (λ c κs. search needs) (λ c κs. search needs) returns (λ c κs. search needs) returns-2)
+    tie.close (tie.spec (λ c κs. search needs) (λ c κs. search needs) (λ c. search kick-fails) (λ c κs. search needs) (λ c. search kick-drifts))

@@ -6,8 +6,7 @@ use Prim.Native.Nat.{_≤_}
 use denote.Ref.{now}
 use Rattle.solves.specs.declared.Table.{Table}
 use Rattle.solves.specs.View.{START-ROWS}
-use Rattle.step.specs.Records.{bodyCount, recordsOf}
-use Rattle.step.specs.View.{statesAt}
+use Rattle.step.specs.Records.{bodyCount}
 use Rattle.step.specs.Step.{jobOf}
 use Rattle.step.proofs.StepLaws.{rows-of}
 use Rattle.step.proofs.CountLaws.{loop-few, finish-few}
@@ -19,8 +18,7 @@ use Rattle.step.proofs.integrator.run.Tie as tie
 returns : tie.Need-returns
 returns c =
     let at-start = c .before .before .before .before .before in let at-row-bodies = at-start .before .before .before .before in
-    let at-entry = at-row-bodies .before .before .before .before .before in
-    left-is (λ x. statesAt x (bodyCount (now (at-entry .args .bodies)))) (c .run-ended .ensures)
+    left-is _ (c .run-ended .ensures)
     (not-started _
     _ (at-row-bodies .row-bodies .ensures .1)
     _
@@ -97,7 +95,7 @@ returns-3 c =
     let at-if1 = at-clear .before .before in let at-done = at-if1 .before in
     let at-start = at-done .before .before .before in let at-row-bodies = at-start .before .before .before .before in
     let at-entry = at-row-bodies .before .before .before .before .before in
-    left-is (λ x. statesAt x (bodyCount (now (at-entry .args .bodies)))) (c .run-ended2 .ensures)
+    left-is _ (c .run-ended2 .ensures)
     (all-run _
     _ (at-row-bodies .row-bodies .ensures .1)
     _

@@ -4,7 +4,6 @@ use native.Mathlib.Omega.{arith}
 use mathlib.Core.Path.{_≡_, refl, _∙_}
 use Prim.Native.Nat.{_*_, _≤_, _-_}
 use lib.ListN.{length}
-use denote.Ref.{now}
 use Rattle.step.specs.RunView.{jobFor}
 use Rattle.step.proofs.CountLaws.{LIMIT, pass-few}
 use Rattle.step.proofs.PassLaws.{Looping, loop-none, loop-spent, loop-again as looped-again, loop-over}
@@ -30,12 +29,8 @@ add-linear c =
       at-loop .loop .inv .2,
       at-test .loop-test .taken,
       at-entry .pre .2,
-      pass-few (at-entry .args .stage) (jobFor _ _) (now (at-entry .args .ia)) (now (at-entry .args .ib)) (at-loop .loop .s) (at-entry .args .t)
-          (at-entry .pre .0 .ready .most) _ (at-stage-pass .stage-pass .ensures .is),
+      pass-few (at-entry .args .stage) (jobFor _ _) (at-entry .pre .0) (at-loop .loop .s) _ (at-stage-pass .stage-pass .ensures .is),
     )
-
-returns : tie.Need-returns Inv-loop μ-loop
-returns c = search loop-over
 
 loop-again : tie.Need-loop-again Inv-loop μ-loop
 loop-again c =
@@ -46,8 +41,7 @@ loop-again c =
       omega (
         arith,
         at-loop .loop .inv .2,
-        pass-few (at-entry .args .stage) (jobFor _ _) (now (at-entry .args .ia)) (now (at-entry .args .ib)) (at-loop .loop .s) (at-entry .args .t)
-            (at-entry .pre .0 .ready .most) _ (at-stage-pass .stage-pass .ensures .is),
+        pass-few (at-entry .args .stage) (jobFor _ _) (at-entry .pre .0) (at-loop .loop .s) _ (at-stage-pass .stage-pass .ensures .is),
       ),
       looped-again _ (jobFor _ _) _ _ (at-entry .pre .0) (at-entry .pre .1) (at-loop .loop .inv .3)
           (at-stage-pass .stage-pass .result) (at-stage-pass .stage-pass .ensures) (at-test .loop-test .taken) (c .enum-told .given .1),
@@ -62,6 +56,7 @@ returns-2 c =
 pub stage-loop-spec : {M : Type 1} → statement M
 stage-loop-spec =
     tie.close (tie.spec
-    Inv-loop μ-loop (λ c. (omega arith, refl, omega arith, loop-none _ _ _ _ _ _ _)) stage-pass-requires add-linear (λ c. search needs)
-    (λ c. omega arith) (λ c κs. omega arith) (λ c. omega arith) returns (λ c. search needs) (λ c. omega arith)
+    Inv-loop μ-loop (λ c. (omega arith, refl, omega arith, loop-none _ _ _ _ _ _ _)) stage-pass-requires add-linear
+    (λ c. search needs)
+    (λ c. omega arith) (λ c κs. omega arith) (λ c. omega arith) (λ c. search loop-over) (λ c. search needs) (λ c. omega arith)
     (λ c. omega arith) loop-again (λ c κs. omega arith) (λ c. omega arith) returns-2)
