@@ -20,16 +20,14 @@ slice-aggregate-solve-in : tie.Need-slice-aggregate-solve-in
 slice-aggregate-solve-in c =
     let at-accepted = c .before .before .before in let at-refusal = at-accepted .before in
     let at-entry = at-refusal .before .before .before .before in
-    sym
-    (take-long SCRATCH (at-entry .args .scratch .now)
+    sym (take-long SCRATCH (at-entry .args .scratch .now)
     (run-unrefused (at-refusal .refusal .ensures) (at-accepted .accepted .ensures) (c .before .before .if1 .left) .room))
 
 solve-in-requires : tie.Need-solve-in-requires
 solve-in-requires c κs =
     let at-if1 = c .before .before in let at-accepted = at-if1 .before in let at-refusal = at-accepted .before in
     let at-entry = at-refusal .before .before .before .before in
-    let ready =
-    run-unrefused (at-refusal .refusal .ensures) (at-accepted .accepted .ensures) (at-if1 .if1 .left) in
+    let ready = run-unrefused (at-refusal .refusal .ensures) (at-accepted .accepted .ensures) (at-if1 .if1 .left) in
     (take-long SCRATCH (at-entry .args .scratch .now) (ready .room), ready .whole, unrefused-joined ready)
 
 returns-2 : tie.Need-returns-2

@@ -40,8 +40,7 @@ returns-3 c =
     (went _ (at-transpose .transpose .result) (at-done .done .ensures) (at-transpose .transpose .ensures .0) (at-if1 .if1 .left)) _
     (went _ (at-move-bodies .move-bodies .result) (at-done2 .done2 .ensures) (at-move-bodies .move-bodies .ensures) (at-if2 .if2 .left))
     (at-entry .pre .1 .rows-are) (at-write-rows .write-rows .result)
-    (at-write-rows .write-rows .ensures _ (at-entry .pre .1 .joined) _ _
-    (at-entry .pre .1 .sides))
+    (at-write-rows .write-rows .ensures _ (at-entry .pre .1 .joined) _ _ (at-entry .pre .1 .sides))
 
 pub candidate-spec : {M : Type 1} → statement M
 candidate-spec =

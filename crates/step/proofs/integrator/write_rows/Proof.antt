@@ -101,13 +101,10 @@ loop-again c =
           (at-write-equality-rows .write-equality-rows .ensures) (c .before .m .given .1),
     )
 
-returns-3 : tie.Need-returns-3 Inv-loop μ-loop
-returns-3 c = λ body-count J ia ib S. search (wrote-ends, c .before .loop .inv .4)
-
 pub write-rows-spec : {M : Type 1} → statement M
 write-rows-spec =
     tie.close (tie.spec
     Inv-loop μ-loop loop-holds (λ c. omega arith) (λ c. omega arith) load-moved-requires load-moved-requires-2
     (λ c. omega arith) (λ c. omega arith) (λ c κs. omega arith) (λ c. search needs) add-n (λ c. search needs)
     (λ c. omega arith) returns (λ c. search needs) (λ c. omega arith) returns-2 add-k (λ c. omega arith)
-    loop-again (λ c. omega arith) returns-3)
+    loop-again (λ c. omega arith) (λ c body-count J ia ib S. search (wrote-ends, c .before .loop .inv .4)))

@@ -15,13 +15,9 @@ Inv-loop s n k₀ k = (k ≤ n) × (true ≡ every k (small s n))
 abbrev μ-loop : tie.MeasureT-loop
 μ-loop s n k₀ k = n - k
 
-loop-again : tie.Need-loop-again Inv-loop μ-loop
-loop-again c = (omega arith, search (every-more, small-is, tenth-12))
-
 pub compatible-spec : {M : Type 1} → statement M
 compatible-spec =
     tie.close (tie.spec
     Inv-loop μ-loop (λ c. (omega arith, every-none _)) (λ c. omega arith) (λ c. omega arith)
     (λ c. omega arith) (λ c κs. omega arith) (λ c. search (compatible-fails, small-is, tenth-12)) (λ c. omega arith)
-    (λ c. omega arith) loop-again
-    (λ c. search compatible-ends))
+    (λ c. omega arith) (λ c. (omega arith, search (every-more, small-is, tenth-12))) (λ c. search compatible-ends))
