@@ -16,6 +16,10 @@ use Rattle.step.specs.Step.{Stepped, stepped, runFor, cleared, concluded
 use Rattle.step.specs.Answered.{Answered}
 use Rattle.step.specs.MeetLaws.{answered}
 
+pub run-unrefused : {bodies : List Float} {joints : List Joint} {count room : ℕ} {dt : Float} {o : Outcome} {b : Bool}
+    → o ≡ refusalOf bodies joints count dt room → b ≡ isAccepted o → not b ≡ false → Unrefused bodies joints count dt room
+run-unrefused e f h = accepted _ _ _ _ _ (sym e ∙ is-accepted f h)
+
 module _ (bodies : List Float) (joints : List Joint) (count : ℕ) (dt : Float) (scratch : List Float) {o : Outcome} {b : Bool}
     (e : o ≡ refusalOf bodies joints count dt (length scratch)) (f : b ≡ isAccepted o) where
   abbrev left-alone : Outcome → Stepped
@@ -29,9 +33,6 @@ module _ (bodies : List Float) (joints : List Joint) (count : ℕ) (dt : Float) 
       → s ≡ solveOf bodies joints count dt scratch
   unfolding solveOf
   solve-run h q = q ∙ cond-yes _ _ (sym (ap isAccepted e) ∙ sym f ∙ not-false b h)
-
-  pub run-unrefused : not b ≡ false → Unrefused bodies joints count dt (length scratch)
-  run-unrefused h = accepted bodies joints count dt (length scratch) (sym e ∙ is-accepted f h)
 
   pub answered-refused : not b ≡ true → Answered bodies bodies joints count dt scratch scratch (record { outcome = o; nonlinear = 0; linear = 0 })
   answered-refused h = answered bodies bodies joints count dt scratch scratch (record { outcome = o; nonlinear = 0; linear = 0 }) (solve-refused h)

@@ -16,10 +16,11 @@ use Rattle.rows.specs.Fault.{Fault, nonConvergent}
 use Rattle.rows.specs.Region.{tab-length}
 use Rattle.solves.specs.declared.Table.{Table}
 use Rattle.solves.specs.Region.{Does}
+use Rattle.solves.specs.Lent.{Slice}
 use Rattle.solves.specs.View.{ROWS-MOST, ROWS, rowOn, rowsOn}
 use Rattle.step.specs.declared.passes.Stage.{Stage}
 use Rattle.step.specs.declared.passes.Stage.the-variants as Stages
-use Rattle.step.specs.RunView.{startedAt, foundAt, Sides, Given, Gained, passAt}
+use Rattle.step.specs.RunView.{Ours, startedAt, foundAt, Sides, Given, Gained, passAt}
 use Rattle.solves.specs.System.{System, rowsIn}
 use Rattle.solves.specs.Search.{leastMost}
 use Rattle.solves.specs.LimitLaws.{linear-most}
@@ -67,12 +68,12 @@ module _ (ia ib : List ℕ) (s : List Float) (table : Table) (few : table .rows 
   rows-few place = omega (arith, tab-length (table .rows) (rowOn ia ib s place))
 
 -- of a pass
-pub pass-few : (stage : Stage) (job : Job) (ia ib : List ℕ) (s : List Float) (table : Table) → table .rows ≤ ROWS-MOST → (v : Given stage)
-    {x : Turn (Turn (Given stage) (Gained stage)) Fault} {m l : ℕ} → ran x m l ≡ passAt stage job ia ib table s v → l ≤ LIMIT
-pass-few Stages.Nonlinear job ia ib s table few v e =
-    omega (arith, counted-most e (nonlinear-most job _ v), rows-few ia ib s table few (table .place))
-pass-few Stages.Velocity job ia ib s table few v e =
-    omega (arith, counted-most e (velocity-most job _ v), rows-few ia ib s table few (table .place))
+pub pass-few : (stage : Stage) (job : Job) {S : Slice Float} {IA IB : Slice ℕ} {table : Table} → Ours S IA IB table → (s : List Float) (v : Given stage)
+    {x : Turn (Turn (Given stage) (Gained stage)) Fault} {m l : ℕ} → ran x m l ≡ passAt stage job (IA .now) (IB .now) table s v → l ≤ LIMIT
+pass-few Stages.Nonlinear job {IA = IA} {IB} {table} pre s v e =
+    omega (arith, counted-most e (nonlinear-most job _ v), rows-few (IA .now) (IB .now) s table (pre .ready .most) (table .place))
+pass-few Stages.Velocity job {IA = IA} {IB} {table} pre s v e =
+    omega (arith, counted-most e (velocity-most job _ v), rows-few (IA .now) (IB .now) s table (pre .ready .most) (table .place))
 
 -- of the rows of a run
 module _ {joints : List Joint} {count : ℕ} {ia ib : List ℕ} (sides : Sides joints count ia ib) (table : Table) (few : table .rows ≤ ROWS-MOST)

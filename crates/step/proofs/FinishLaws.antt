@@ -24,6 +24,7 @@ use Rattle.rows.specs.declared.End.the-variants as Ends
 use Rattle.solves.specs.declared.Ended.{Ended}
 use Rattle.solves.specs.declared.Table.{Table}
 use Rattle.solves.specs.Layout.{MASS-TABLE, ROW-TABLE}
+use Rattle.solves.specs.Lent.{Slice}
 use Rattle.solves.specs.Region.{Filled, Does}
 use Rattle.solves.specs.System.{Counting}
 use Rattle.solves.specs.Answer.{ranAs, isDone, endedAs}
@@ -41,16 +42,16 @@ use Rattle.step.specs.ViewLaws.{kept-candidates}
 use Rattle.step.specs.BackLaws.{handed-back}
 use Rattle.step.specs.Bodies.{Job, Started, startOf, prepareMasses, statesOf, stateIn}
 use Rattle.step.specs.Step.{nonlinearPass, nonlinearLoop, velocityPass, velocityLoop, finishOf, runOf, Stepped, stepped, grounded, cleared, concluded}
-use Rattle.step.specs.RunView.{impulsesAt, startedAt, foundAt, Sides, candidateTable, Trying, Correcting, leftAs}
+use Rattle.step.specs.RunView.{Ours, impulsesAt, startedAt, foundAt, Sides, candidateTable, Trying, Correcting, leftAs}
 use Rattle.step.proofs.PassLaws.{failed-as}
 use Rattle.step.proofs.NonlinearLaws.{from-none}
 
 -- ---- finish_run
-module _ (job : Job) (bodies : List RigidBody) (ia ib : List ℕ) (t : Table) (l : t .rows ≤ 96) (g : t .bodies ≤ 16) {s s₁ : List Float} (r₁ : End)
+module _ (job : Job) (bodies : List RigidBody) {S : Slice Float} {IA IB : Slice ℕ} {t : Table} (pre : Ours S IA IB t) {s s₁ : List Float} (r₁ : End)
     (d₁ : Does (Out MASSES MASS-TABLE) s s₁ (ranAs r₁ (massesAt s₁ MASSES (t .bodies))) (prepareMasses (candidatesAt s (t .bodies))))
     {b : Bool} (eb : b ≡ isDone r₁) where
   abbrev Finishes : List Float → Counting (List BodyState) → Type 0
-  Finishes u x = Does (Out MASSES (USED - MASSES)) s u x (finishOf job bodies (foundAt ia ib s t))
+  Finishes u x = Does (Out MASSES (USED - MASSES)) s u x (finishOf job bodies (foundAt (IA .now) (IB .now) s t))
 
   pub not-weighed : not b ≡ true → Finishes s₁ (ran (ranAs r₁ (statesAt s₁ (t .bodies))) 0 0)
   unfolding finishOf
@@ -61,18 +62,19 @@ module _ (job : Job) (bodies : List RigidBody) (ia ib : List ℕ) (t : Table) (l
 
   module _ (h : not b ≡ false) {s₂ : List Float} (r₂ : Ran)
       (d₂ : Does Correcting s₁ s₂ (ran (ranAs (r₂ .end) (candidatesAt s₂ (t .bodies))) 0 (r₂ .linear))
-      (upTo 3 nonConvergent (velocityPass job (systemOn ia ib s₁ (candidateTable t))) (candidatesAt s₁ (t .bodies))))
+      (upTo 3 nonConvergent (velocityPass job (systemOn (IA .now) (IB .now) s₁ (candidateTable t))) (candidatesAt s₁ (t .bodies))))
       {c : Bool} (ec : c ≡ isDone (r₂ .end)) where
     weighed : go (massesAt s₁ MASSES (t .bodies)) ≡ prepareMasses (candidatesAt s (t .bodies))
     weighed = sym (ran-done (massesAt s₁ MASSES (t .bodies)) r₁ (sym eb ∙ not-no b h)) ∙ d₁ .is
 
     abbrev loop : Counting (List MomentumBody)
-    loop = velocityLoop job (record { rows = rowsOn ia ib s ROWS (t .rows); masses = massesAt s₁ MASSES (t .bodies) }) (candidatesAt s (t .bodies))
+    loop = velocityLoop job (record { rows = rowsOn (IA .now) (IB .now) s ROWS (t .rows); masses = massesAt s₁ MASSES (t .bodies) })
+        (candidatesAt s (t .bodies))
 
     loop-is : ran (ranAs (r₂ .end) (candidatesAt s₂ (t .bodies))) 0 (r₂ .linear) ≡ loop
     unfolding velocityLoop
     loop-is = d₂ .is ∙ λ j. velocityLoop job
-        (record { rows = kept-rows (d₁ .kept) ia ib ROWS (t .rows) (λ i a b. omega arith) j; masses = massesAt s₁ MASSES (t .bodies) })
+        (record { rows = kept-rows (d₁ .kept) (IA .now) (IB .now) ROWS (t .rows) (λ i a b. omega arith) j; masses = massesAt s₁ MASSES (t .bodies) })
         (kept-candidates (d₁ .kept) (t .bodies) (λ i a b. omega arith) (λ i a b. omega arith) j)
 
     kept₂ : Kept (Out MASSES (USED - MASSES)) s s₂
@@ -97,7 +99,7 @@ module _ (job : Job) (bodies : List RigidBody) (ia ib : List ℕ) (t : Table) (l
       is = run-is refl (let z : r₂ .linear ≡ r₂ .linear + 0 = omega arith in z)
           ∙ ap (λ (t : Result (List BodyState)). after 0 (r₂ .linear) (try t)) (d₃ .is)
           ∙ then-go (λ candidate. try (statesOf bodies candidate)) rested
-          ∙ try-go (λ masses. velocityLoop job (record { rows = rowsOn ia ib s ROWS (t .rows); masses = masses }) (candidatesAt s (t .bodies))
+          ∙ try-go (λ masses. velocityLoop job (record { rows = rowsOn (IA .now) (IB .now) s ROWS (t .rows); masses = masses }) (candidatesAt s (t .bodies))
           >>= λ candidate. try (statesOf bodies candidate)) weighed;
     }
       where

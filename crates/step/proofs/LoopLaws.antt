@@ -18,6 +18,7 @@ use Rattle.solves.specs.declared.Table.{Table}
 use Rattle.solves.specs.declared.places.Generalized.{Generalized}
 use Rattle.solves.specs.declared.places.MassResponse.{MassResponse}
 use Rattle.solves.specs.Layout.{ROW-TABLE, MASS-TABLE}
+use Rattle.solves.specs.Lent.{Slice}
 use Rattle.solves.specs.Region.{Does}
 use Rattle.solves.specs.RegionLaws.{kept-vec}
 use Rattle.solves.specs.Solver.{transpose}
@@ -30,7 +31,7 @@ use Rattle.step.specs.Records.{recordAt, recordsOf, bodyCount}
 use Rattle.step.specs.Bodies.{Job, startBodies, writeRows, prepareMasses, Started, startOf, Found, moveBodies, candidateOf}
 use Rattle.step.specs.View.{startBodyAt, startBodiesAt, candidatesAt}
 use Rattle.step.specs.ViewLaws.{kept-starts, kept-candidates}
-use Rattle.step.specs.RunView.{impulsesAt, startedAt, foundAt, Trying}
+use Rattle.step.specs.RunView.{Ours, impulsesAt, startedAt, foundAt, Trying}
 
 -- what a call left goes into a record, or its fault goes on
 ran-then : {A B : Type 0} (r : End) (x : A) (f : A → B) → ranAs r (f x) ≡ (ranAs r x >>= λ y. go (f y))
@@ -110,9 +111,9 @@ module _ (job : Job) (bodies : List Float) (g : bodyCount bodies ≤ 16) (s s₁
         }
 
 -- ---- candidate
-module _ (job : Job) (ia ib : List ℕ) (table : Table) (l : table .rows ≤ 96) (g : table .bodies ≤ 16) (s s₁ : List Float) where
+module _ (job : Job) {S : Slice Float} {IA IB : Slice ℕ} {table : Table} (pre : Ours S IA IB table) (s s₁ : List Float) where
   abbrev Tried : List Float → Result Found → Type 0
-  Tried t x = (Does Trying s t x (candidateOf job (startedAt ia ib s table) (impulsesAt s table))) × (impulsesAt t table ≡ impulsesAt s table)
+  Tried t x = (Does Trying s t x (candidateOf job (startedAt (IA .now) (IB .now) s table) (impulsesAt s table))) × (impulsesAt t table ≡ impulsesAt s table)
 
   abbrev onMoved : List MomentumBody → Result Found
   onMoved candidate = writeRows (job .joints) (job .count) candidate >>= λ rows. go (record { candidate = candidate; rows = rows })
@@ -121,13 +122,15 @@ module _ (job : Job) (ia ib : List ℕ) (table : Table) (l : table .rows ≤ 96)
   onShares shares = moveBodies (job .dt) (startBodiesAt s (table .bodies)) shares >>= onMoved
 
   abbrev Pushed : Result (List Generalized) → Type 0
-  Pushed x = Does Shares s s₁ x (transpose (rowsOn ia ib s (table .place) (table .rows)) (impulsesAt s table) (table .bodies))
+  Pushed x = Does Shares s s₁ x (transpose (rowsOn (IA .now) (IB .now) s (table .place) (table .rows)) (impulsesAt s table) (table .bodies))
 
   -- `length start` is the number of bodies
   counted : {x : Result (List Generalized)} → Pushed x
-      → Does Shares s s₁ x (transpose (rowsOn ia ib s (table .place) (table .rows)) (impulsesAt s table) (length (startBodiesAt s (table .bodies))))
+      → Does Shares s s₁ x
+      (transpose (rowsOn (IA .now) (IB .now) s (table .place) (table .rows)) (impulsesAt s table) (length (startBodiesAt s (table .bodies))))
   counted d =
-      does-is d (ap (transpose (rowsOn ia ib s (table .place) (table .rows)) (impulsesAt s table)) (sym (tab-length (table .bodies) (startBodyAt s))))
+      does-is d (ap (transpose (rowsOn (IA .now) (IB .now) s (table .place) (table .rows)) (impulsesAt s table))
+      (sym (tab-length (table .bodies) (startBodyAt s))))
 
   pub not-pushed : (r : End) {b : Bool} → b ≡ isDone r → not b ≡ true → Pushed (ranAs r (sharesIn s₁ (table .bodies))) → (y : Found)
       → Tried s₁ (ranAs r y)
@@ -161,8 +164,9 @@ module _ (job : Job) (ia ib : List ℕ) (table : Table) (l : table .rows ≤ 96)
     )
 
     pub all-tried : Moved (go (candidatesAt s₂ (table .bodies))) → {n : ℕ} → table .rows ≡ n → {s₃ : List Float} (r : End)
-        → Does (Out ROWS ROW-TABLE) s₂ s₃ (ranAs r (rowsOn ia ib s₃ ROWS n)) (writeRows (job .joints) (job .count) (candidatesAt s₂ (table .bodies)))
-        → Tried s₃ (ranAs r (foundAt ia ib s₃ table))
+        → Does (Out ROWS ROW-TABLE) s₂ s₃ (ranAs r (rowsOn (IA .now) (IB .now) s₃ ROWS n))
+        (writeRows (job .joints) (job .count) (candidatesAt s₂ (table .bodies)))
+        → Tried s₃ (ranAs r (foundAt (IA .now) (IB .now) s₃ table))
     unfolding candidateOf
     all-tried d₂ {n} en {s₃} r d₃ = (
       does-then onShares (λ i x. omega (arith, x .1)) {T = λ i. (Out CANDIDATE STATES i) × (Out ROWS ROW-TABLE i)} (λ i x. (x .2, x .0)) (counted d₁)
@@ -176,16 +180,16 @@ module _ (job : Job) (ia ib : List ℕ) (table : Table) (l : table .rows ≤ 96)
         found : List EqualityRow → Found
         found rows = record { candidate = candidatesAt s₂ (table .bodies); rows = rows }
 
-        there : foundAt ia ib s₃ table ≡ found (rowsOn ia ib s₃ ROWS n)
+        there : foundAt (IA .now) (IB .now) s₃ table ≡ found (rowsOn (IA .now) (IB .now) s₃ ROWS n)
         there = λ j. record {
           candidate = kept-candidates (d₃ .kept) (table .bodies) (λ i a b. omega arith) (λ i a b. omega arith) j;
-          rows = rowsOn ia ib s₃ ROWS (en j);
+          rows = rowsOn (IA .now) (IB .now) s₃ ROWS (en j);
         }
 
-        last : Does (Out ROWS ROW-TABLE) s₂ s₃ (ranAs r (foundAt ia ib s₃ table)) (onMoved (candidatesAt s₂ (table .bodies)))
+        last : Does (Out ROWS ROW-TABLE) s₂ s₃ (ranAs r (foundAt (IA .now) (IB .now) s₃ table)) (onMoved (candidatesAt s₂ (table .bodies)))
         last = record {
           kept = d₃ .kept;
           is =
-              ap (ranAs r) there ∙ ran-then r (rowsOn ia ib s₃ ROWS n) found ∙ ap (λ (x : Result (List EqualityRow)). x >>= λ rows. go (found rows))
-              (d₃ .is);
+              ap (ranAs r) there ∙ ran-then r (rowsOn (IA .now) (IB .now) s₃ ROWS n) found
+              ∙ ap (λ (x : Result (List EqualityRow)). x >>= λ rows. go (found rows)) (d₃ .is);
         }

@@ -43,23 +43,26 @@ module _ (job : Job) {S : Slice Float} {IA IB : Slice ℕ} {table : Table} (pre 
   unfolding nonlinearPass
   not-found h = begun (pass-fails (λ (f : Found). rowsMet (f .rows)) (λ f. f) _ _ r (d .0) eb _ h)
 
-  module _ (h : not b ≡ false) {c : Bool} (ec : c ≡ rowsMet (rowsOn (IA .now) (IB .now) s₁ ROWS (table .rows))) where
+  module _ (h : not b ≡ false) {c : Bool} (ec : (ia ib : List ℕ) → c ≡ rowsMet (rowsOn ia ib s₁ ROWS (table .rows))) where
     pub found-met : c ≡ true → Turns s₁ (ran (go (stop (foundAt (IA .now) (IB .now) s₁ table))) 1 0)
     unfolding nonlinearPass
-    found-met k = begun (pass-met (λ (f : Found). rowsMet (f .rows)) (λ f. f) _ _ r (d .0) eb h ec k)
+    found-met k = begun (pass-met (λ (f : Found). rowsMet (f .rows)) (λ f. f) _ _ r (d .0) eb h (ec (IA .now) (IB .now)) k)
 
     pub found-unmet : c ≡ false → {s₂ : List Float}
-        → Does (Beside RHS) s₁ s₂ (vecAt s₂ RHS (table .rows)) (rhsOf (job .dt) (rowsOn (IA .now) (IB .now) s₁ ROWS (table .rows)))
+        → ((ia ib : List ℕ) → Does (Beside RHS) s₁ s₂ (vecAt s₂ RHS (table .rows)) (rhsOf (job .dt) (rowsOn ia ib s₁ ROWS (table .rows))))
         → {u : List Float} {t : Result (Turn (List Float) Found)} {n : ℕ} → Does Trying s₂ u (ran t 0 n)
         (correction (linearSolve (job .cyclic) (systemOn (IA .now) (IB .now) s₂ table) (vecAt s₂ RHS (table .rows))) (addImpulses (impulsesAt s₂ table)))
         → Turns u (ran t 1 n)
     unfolding nonlinearPass
-    found-unmet k {s₂} d₁ e = begun (pass-corrects (λ (f : Found). rowsMet (f .rows)) (λ f. f) _ _ r (d .0) eb h ec k (record {
+    found-unmet k {s₂} f e = begun (pass-corrects (λ (f : Found). rowsMet (f .rows)) (λ f. f) _ _ r (d .0) eb h (ec (IA .now) (IB .now)) k (record {
       kept = kept-then filled (e .kept) (λ i x. x);
       is = e .is ∙ λ j. correction (linearSolve (job .cyclic) (same j .system) (d₁ .is j))
           (addImpulses ((kept-vec (d₁ .kept) IMPULSES (table .rows) (λ i a b. omega (arith, pre .ready .most)) ∙ d .1) j));
     }))
       where
+        d₁ : Does (Beside RHS) s₁ s₂ (vecAt s₂ RHS (table .rows)) (rhsOf (job .dt) (rowsOn (IA .now) (IB .now) s₁ ROWS (table .rows)))
+        d₁ = f (IA .now) (IB .now)
+
         filled : Kept Trying s₁ s₂
         filled = kept-more (d₁ .kept) (λ i x. omega (arith, x .1))
 

@@ -28,7 +28,7 @@ use Rattle.solves.specs.Answer.{ranAs, passAs, isDone, endedAs}
 use Rattle.solves.specs.DoesLaws.{ran-done, fails, fails-over, went, failed}
 use Rattle.solves.specs.View.{Work}
 use Rattle.solves.specs.ViewLaws.{kept-rows, system-kept}
-use Rattle.arith.specs.FlowLaws.{not-yes, not-no}
+use Rattle.arith.specs.FlowLaws.{not-yes, not-no, cond-yes, cond-no}
 use Rattle.step.specs.declared.passes.Passed.{Passed}
 use Rattle.step.specs.declared.passes.Ran.{Ran}
 use Rattle.step.specs.declared.passes.Stage.{Stage}
@@ -103,18 +103,24 @@ module _ {X A B : Type 0} {P : ℕ → Type 0} {s s₁ : List Float} {R : Result
     pass-corrects k e = record { kept = kept-then (d .kept) (e .kept) (λ i x. x); is = e .is ∙ leave-no _ _ (sym ec ∙ k) ∙ try-go _ (went x r eb d h .is) }
 
 -- ---- an answer that was put together
+module _ (end : End) {linear : ℕ} {b : Bool} (e : b ≡ isDone end) {r : Passed} where
+  pub after-done : b ≡ true → r ≡ record { pass = Pass.Again; linear = linear } → r ≡ passedAfter end linear
+  after-done h q = q ∙ ap (λ (p : Pass). record { pass = p; linear = linear }) (cond-yes _ _ (sym e ∙ h))
+
+  pub after-fault : b ≡ false → r ≡ record { pass = Pass.Over end; linear = linear } → r ≡ passedAfter end linear
+  after-fault h q = q ∙ ap (λ (p : Pass). record { pass = p; linear = linear }) (cond-no _ _ (sym e ∙ h))
+
 module _ {A B : Type 0} {P : ℕ → Type 0} {s t : List Float} where
-  pub passed-is : (n : ℕ) (view : List Float → A) (found : List Float → B) {r q : Passed} {d : Counting (Turn A B)} → r ≡ q
-      → Does P s t (passedAs n q (view t) (found t)) d → Does P s t (passedAs n r (view t) (found t)) d
-  passed-is n view found e f = record { kept = f .kept; is = ap (λ (r : Passed). passedAs n r (view t) (found t)) e ∙ f .is }
+  pub passed-is : (n : ℕ) (x : A) (y : B) {r q : Passed} {d : Counting (Turn A B)} → r ≡ q → Does P s t (passedAs n q x y) d
+      → Does P s t (passedAs n r x y) d
+  passed-is n x y e f = record { kept = f .kept; is = ap (λ (r : Passed). passedAs n r x y) e ∙ f .is }
 
 module _ {A : Type 0} {P : ℕ → Type 0} {s t : List Float} where
-  pub ended-is : (found : List Float → A) {r q : Ended} {d : Counting A} → r ≡ q → Does P s t (endedAs q (found t)) d
-      → Does P s t (endedAs r (found t)) d
-  ended-is found e f = record { kept = f .kept; is = ap (λ (r : Ended). endedAs r (found t)) e ∙ f .is }
+  pub ended-is : (x : A) {r q : Ended} {d : Counting A} → r ≡ q → Does P s t (endedAs q x) d → Does P s t (endedAs r x) d
+  ended-is x e f = record { kept = f .kept; is = ap (λ (r : Ended). endedAs r x) e ∙ f .is }
 
-  pub left-is : (found : List Float → A) {r q : Ran} {d : Counting A} → r ≡ q → Does P s t (leftAs q (found t)) d → Does P s t (leftAs r (found t)) d
-  left-is found e f = record { kept = f .kept; is = ap (λ (r : Ran). leftAs r (found t)) e ∙ f .is }
+  pub left-is : (x : A) {r q : Ran} {d : Counting A} → r ≡ q → Does P s t (leftAs q x) d → Does P s t (leftAs r x) d
+  left-is x e f = record { kept = f .kept; is = ap (λ (r : Ran). leftAs r x) e ∙ f .is }
 
 -- ---- by the stage
 -- an answer of the stage that it is: of `stage_pass`, of `use_solution`

@@ -9,15 +9,20 @@ use lib.Seq.{getD-set-same, getD-set-other}
 use lib.Ieee.{Float}
 use Rattle.rows.specs.declared.body.MomentumBody.{MomentumBody}
 use Rattle.rows.specs.declared.geometry.Joint.{Joint}
+use Rattle.rows.specs.declared.geometry.Kind.{Kind}
 use Rattle.rows.specs.declared.geometry.Written.{Written}
 use Rattle.rows.specs.declared.geometry.Written.the-variants as Written
 use Rattle.rows.specs.Answer.{Writes}
 use Rattle.rows.specs.Region.{count-most}
+use Rattle.rows.specs.Count.{rowCount}
 use Rattle.solves.specs.View.{ROWS, Rows}
 use Rattle.step.specs.Layout.{USED}
 use Rattle.step.specs.Joined.{Joined, RowBodies, Spread}
 
 -- a joint has at most six rows
+pub kind-most : (kind : Kind) {m : ℕ} → m ≡ rowCount kind → m ≤ 6
+kind-most kind e = omega (arith, count-most kind)
+
 pub written-most : {joint : Joint} {a b : MomentumBody} {i : ℕ} {s t : List Float} {r : Written} → Writes joint a b i s t r → (n : ℕ)
     → r ≡ Written.Rows n → n ≤ 6
 written-most {joint} w n e = omega (arith, w .count n e, count-most (joint .kind))

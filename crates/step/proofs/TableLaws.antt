@@ -251,8 +251,10 @@ module _ (s : List Float) (n : ℕ) (ia ib : List ℕ) where
   abbrev pub rowTest : ℕ → Bool
   rowTest k = Ieee.le (absOf (rowIn (rowsOn ia ib s ROWS n) k .value)) (rowIn (rowsOn ia ib s ROWS n) k .tolerance)
 
-  pub row-test : (k : ℕ) {b : Bool} → k < n → Ieee.le (absOf (at s (ROWS + 14 * k + 12))) (at s (ROWS + 14 * k + 13)) ≡ b → rowTest k ≡ b
-  row-test k h e = ap (λ (r : EqualityRow). Ieee.le (absOf (r .value)) (r .tolerance)) (row-is k h) ∙ e
+  pub row-test : {k : ℕ} {b : Bool} {x : Float} → k < n → x ≡ absOf (at s (ROWS + 14 * k + 12)) → Ieee.le x (at s (ROWS + 14 * k + 13)) ≡ b → rowTest k ≡ b
+  row-test {k} h q e =
+      ap (λ (r : EqualityRow). Ieee.le (absOf (r .value)) (r .tolerance)) (row-is k h)
+      ∙ ap (λ (y : Float). Ieee.le y (at s (ROWS + 14 * k + 13))) (sym q) ∙ e
 
   pub met-fails : (k : ℕ) → k < n → rowTest k ≡ false → false ≡ rowsMet (rowsOn ia ib s ROWS n)
   unfolding rowsMet

@@ -1,39 +1,13 @@
 -- `conclude` is `concluded` for each end of the run: the states are written where all stand on the ground (FinishLaws).
 use borrow.Author.Needs.{needs}
-use denote.Ref.{now}
-use Rattle.step.specs.View.{statesAt}
 use Rattle.step.proofs.FinishLaws.{conclude-accepts, conclude-grounds, conclude-fails}
 use Rattle.step.proofs.conclude.Statement.{statement}
 use Rattle.step.proofs.conclude.Tie as tie
 
-returns : tie.Need-returns
-returns c =
-    let at-if1 = c .before .before .before .before in let at-in-ground = at-if1 .before in let at-enum-told = at-in-ground .before in
-    let at-entry = at-enum-told .before .before .before .before in
-    λ nonlinear linear scratch. conclude-accepts _ _ _
-    (at-in-ground .in-ground .ensures) (at-enum-told .enum-told .given .1) nonlinear linear scratch (at-if1 .if1 .taken) (at-entry .pre .1)
-    (at-entry .pre .0) (c .before .before .write-states .ensures)
-
-returns-2 : tie.Need-returns-2
-returns-2 c =
-    let at-entry = c .before .before .before .before .before .before in
-    λ nonlinear linear scratch. conclude-grounds _ (now (at-entry .args .work)) _
-    (c .before .in-ground .ensures) (c .before .before .enum-told .given .1) nonlinear linear scratch (c .if1 .left)
-
-returns-3 : tie.Need-returns-3
-returns-3 c =
-    let at-entry = c .before .before .before .before in
-    λ nonlinear linear scratch. conclude-fails _ scratch (statesAt (now (at-entry .args .work)) _)
-    (c .enum-told2 .given .1) nonlinear linear
-
-returns-4 : tie.Need-returns-4
-returns-4 c =
-    let at-entry = c .before .before .before .before in
-    λ nonlinear linear scratch. conclude-fails _ scratch (statesAt (now (at-entry .args .work)) _)
-    (c .enum-told3 .given .1) nonlinear linear
-
 pub conclude-spec : {M : Type 1} → statement M
 conclude-spec =
     tie.close (tie.spec
-    (λ c. search needs) (λ c κs. search needs) (λ c κs. search needs) (λ c. search needs) returns
-    (λ c. search needs) (λ c. search needs) returns-2 returns-3 returns-4)
+    (λ c. search needs) (λ c κs. search needs) (λ c κs. search needs) (λ c. search needs) (λ c. search conclude-accepts)
+    (λ c. search needs) (λ c. search needs) (λ c. search conclude-grounds)
+    (λ c nonlinear linear scratch. conclude-fails _ _ _ (c .enum-told2 .given .1) _ _)
+    (λ c nonlinear linear scratch. conclude-fails _ _ _ (c .enum-told3 .given .1) _ _))

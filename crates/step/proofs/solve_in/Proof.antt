@@ -2,8 +2,6 @@
 use borrow.Author.Needs.{needs}
 use native.Mathlib.Omega.{arith}
 use mathlib.Core.Path.{_∙_}
-use denote.Ref.{now}
-use Rattle.step.specs.Step.{runFor}
 use Rattle.step.proofs.FinishLaws.{all-zero, solved-in}
 use Rattle.step.proofs.solve_in.Statement.{statement}
 use Rattle.step.proofs.solve_in.Tie as tie
@@ -13,7 +11,7 @@ returns c =
     let at-conclude = c .before .before .before .before .before .before in let at-run = at-conclude .before .before .before .before .before in
     let at-entry = at-run .before .before .before .before .before in
     solved-in _
-    (runFor (now (at-entry .args .bodies)) _ _ _) (at-run .run .result) _
+    _ (at-run .run .result) _
     (at-run .run .ensures) (at-conclude .conclude .ensures)
     (all-zero (at-run .run .ensures .kept .size ∙ at-entry .pre .0) (c .before .before .clear .ensures))
 

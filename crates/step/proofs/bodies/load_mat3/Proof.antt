@@ -1,18 +1,11 @@
 -- `load_mat3` is `matAt`: three loaded columns, put together by `from_cols`.
 use Rattle.step.proofs.BodyLaws.{mat-loaded}
-use denote.Ref.{now}
 use borrow.Author.Needs.{needs}
 use Rattle.step.proofs.bodies.load_mat3.Statement.{statement}
 use Rattle.step.proofs.bodies.load_mat3.Tie as tie
-
-returns : tie.Need-returns
-returns c =
-    let at-load3 = c .before .before .before in let at-entry = at-load3 .before .before in
-    mat-loaded (now (at-entry .args .s)) (at-entry .args .i) (at-load3 .load3 .ensures) (c .before .before .load32 .ensures)
-    (c .before .load33 .ensures) (c .from-cols .ensures)
 
 pub load-mat3-spec : {M : Type 1} → statement M
 load-mat3-spec =
     tie.close (tie.spec
     (λ c κs. search needs) (λ c. search needs) (λ c κs. search needs) (λ c. search needs)
-    (λ c κs. search needs) (λ c κs. search needs) returns)
+    (λ c κs. search needs) (λ c κs. search needs) (λ c. search mat-loaded))

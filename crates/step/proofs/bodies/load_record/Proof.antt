@@ -1,17 +1,8 @@
 -- `load_record` is `recordAt`: each field by the contract of its load.
 use Rattle.step.proofs.BodyLaws.{record-loaded}
-use Prim.Native.Nat.{_*_}
-use denote.Ref.{now}
 use borrow.Author.Needs.{needs}
 use Rattle.step.proofs.bodies.load_record.Statement.{statement}
 use Rattle.step.proofs.bodies.load_record.Tie as tie
-
-returns : tie.Need-returns
-returns c =
-    let at-load33 = c .before .before .before in let at-load32 = at-load33 .before in let at-load4 = at-load32 .before in
-    let at-load3 = at-load4 .before in let at-entry = at-load3 .before .before in
-    record-loaded (now (at-entry .args .bodies)) (26 * at-entry .args .k) (at-load3 .load3 .ensures) (at-load4 .load4 .ensures)
-    (at-load32 .load32 .ensures) (at-load33 .load33 .ensures) (c .before .load34 .ensures) (c .load-mat3 .ensures)
 
 pub load-record-spec : {M : Type 1} → statement M
 load-record-spec =
@@ -19,4 +10,4 @@ load-record-spec =
     (λ c. search needs) (λ c κs. search needs) (λ c. search needs) (λ c κs. search needs) (λ c. search needs)
     (λ c κs. search needs) (λ c. search needs) (λ c κs. search needs) (λ c. search needs) (λ c. search needs)
     (λ c. search needs) (λ c. search needs) (λ c κs. search needs) (λ c. search needs) (λ c κs. search needs)
-    returns)
+    (λ c. search record-loaded))

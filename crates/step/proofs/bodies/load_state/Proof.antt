@@ -1,18 +1,11 @@
 -- `load_state` is `stateAt`: each field by the contract of its load.
 use Rattle.step.proofs.BodyLaws.{state-loaded}
-use denote.Ref.{now}
 use borrow.Author.Needs.{needs}
 use Rattle.step.proofs.bodies.load_state.Statement.{statement}
 use Rattle.step.proofs.bodies.load_state.Tie as tie
-
-returns : tie.Need-returns
-returns c =
-    let at-load3 = c .before .before .before in let at-entry = at-load3 .before .before in
-    state-loaded (now (at-entry .args .s)) (at-entry .args .i) (at-load3 .load3 .ensures) (c .before .before .load4 .ensures)
-    (c .before .load32 .ensures) (c .load33 .ensures)
 
 pub load-state-spec : {M : Type 1} → statement M
 load-state-spec =
     tie.close (tie.spec
     (λ c κs. search needs) (λ c. search needs) (λ c κs. search needs) (λ c. search needs)
-    (λ c κs. search needs) (λ c. search needs) (λ c κs. search needs) returns)
+    (λ c κs. search needs) (λ c. search needs) (λ c κs. search needs) (λ c. search state-loaded))

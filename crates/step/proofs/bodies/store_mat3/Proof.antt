@@ -17,10 +17,11 @@ returns c =
     let at-new = at-store3 .before in
     let at-columns = at-new .before .before .before .before .before in
     let at-entry = at-columns .before .before in
-    let x : at-new .new .result ≡ columnOf (at-entry .args .m) 0 = at-new .new .ensures ∙ simp (at-columns .to-columns .ensures) in
-    let y : at-new2 .new2 .result ≡ columnOf (at-entry .args .m) 1 = at-new2 .new2 .ensures ∙ simp (at-columns .to-columns .ensures) in
-    let z : at-new3 .new3 .result ≡ columnOf (at-entry .args .m) 2 = at-new3 .new3 .ensures ∙ simp (at-columns .to-columns .ensures) in
-    stored-mat _ (at-entry .args .m) (at-store3 .store3 .ensures) (at-store32 .store32 .ensures) (c .before .before .store33 .ensures) x y z
+    let m = at-entry .args .m in
+    let x : at-new .new .result ≡ columnOf m 0 = at-new .new .ensures ∙ simp (at-columns .to-columns .ensures) in
+    let y : at-new2 .new2 .result ≡ columnOf m 1 = at-new2 .new2 .ensures ∙ simp (at-columns .to-columns .ensures) in
+    let z : at-new3 .new3 .result ≡ columnOf m 2 = at-new3 .new3 .ensures ∙ simp (at-columns .to-columns .ensures) in
+    stored-mat _ m (at-store3 .store3 .ensures) (at-store32 .store32 .ensures) (c .before .before .store33 .ensures) x y z
 
 pub store-mat3-spec : {M : Type 1} → statement M
 store-mat3-spec =

@@ -22,7 +22,7 @@ abbrev μ-loop : tie.MeasureT-loop
 loop-again : tie.Need-loop-again Inv-loop μ-loop
 loop-again c =
     let at-entry = c .before .before .before in
-    (omega arith, simp length-set (omega arith), rhs-more (at-entry .args .dt) _ _ _ (c .before .before .loop .inv .2) (omega arith) (omega arith))
+    (omega arith, simp length-set (omega arith), rhs-more _ _ _ _ (c .before .before .loop .inv .2) (omega arith) (omega arith))
 
 returns : tie.Need-returns Inv-loop μ-loop
 returns c =

@@ -4,18 +4,6 @@ use borrow.Author.Needs.{needs}
 use Rattle.step.proofs.integrator.kick_and_drift.Statement.{statement}
 use Rattle.step.proofs.integrator.kick_and_drift.Tie as tie
 
-returns : tie.Need-returns
-returns c =
-    let at-kick = c .before .before in let at-entry = at-kick .before in
-    kick-fails _ _ (record { linear = at-entry .args .linear; angular = at-entry .args .angular })
-    (at-kick .kick .ensures) (c .before .done .ensures) (c .if1 .taken)
-
-returns-2 : tie.Need-returns-2
-returns-2 c =
-    let at-done = c .before .before in let at-kick = at-done .before in let at-entry = at-kick .before in
-    kick-drifts _ _ (record { linear = at-entry .args .linear; angular = at-entry .args .angular })
-    (at-kick .kick .ensures) (at-done .done .ensures) (c .before .if1 .left) (c .drift .ensures)
-
 pub kick-and-drift-spec : {M : Type 1} → statement M
 kick-and-drift-spec =
-    tie.close (tie.spec (λ c κs. search needs) (λ c κs. search needs) returns (λ c κs. search needs) returns-2)
+    tie.close (tie.spec (λ c κs. search needs) (λ c κs. search needs) (λ c. search kick-fails) (λ c κs. search needs) (λ c. search kick-drifts))

@@ -58,17 +58,11 @@ loop-again c =
           (c .before .before .store-state .ensures),
     )
 
-returns-2 : tie.Need-returns-2 Inv-loop μ-loop
-returns-2 c =
-    let at-entry = c .before .before .before .before in
-    state-ends (now (at-entry .args .bodies)) _ _ _ _ (c .before .loop .inv .2) (omega arith) (c .loop-test .left)
-    (at-entry .pre .2)
-
 pub make-states-spec : {M : Type 1} → statement M
 make-states-spec =
     tie.close (tie.spec
-    Inv-loop μ-loop (λ c. (omega arith, refl, state-none (now (c .before .before .args .bodies)) (c .before .before .args .body-count) _))
+    Inv-loop μ-loop (λ c. (omega arith, refl, search state-none))
     (λ c κs. omega arith) (λ c. omega arith)
     (λ c κs. omega arith) (λ c κs. omega arith) (λ c. search needs) mul-store-state add-store-state
     store-state-requires (λ c. search needs) (λ c. omega arith) returns add-k (λ c. omega arith) loop-again
-    (λ c. omega arith) returns-2)
+    (λ c. omega arith) (λ c. search state-ends))

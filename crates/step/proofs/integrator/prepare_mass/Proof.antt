@@ -5,11 +5,6 @@ use borrow.Author.Needs.{needs}
 use Rattle.step.proofs.integrator.prepare_mass.Statement.{statement}
 use Rattle.step.proofs.integrator.prepare_mass.Tie as tie
 
-returns : tie.Need-returns
-returns c =
-    let at-mass-response = c .before .before in let at-entry = at-mass-response .before .before in
-    weigh-over _ (at-entry .args .k) _ (at-mass-response .mass-response .result) (at-mass-response .mass-response .ensures) (c .if1 .taken) _
-
 returns-2 : tie.Need-returns-2
 returns-2 c =
     let at-column3 = c .before .before .before .before in let at-column2 = at-column3 .before in let at-column = at-column2 .before in
@@ -20,5 +15,5 @@ returns-2 c =
 pub prepare-mass-spec : {M : Type 1} → statement M
 prepare-mass-spec =
     tie.close (tie.spec
-    (λ c κs. search needs) returns (λ c κs. search needs) (λ c κs. search needs) (λ c κs. search needs)
+    (λ c κs. search needs) (λ c. search weigh-over) (λ c κs. search needs) (λ c κs. search needs) (λ c κs. search needs)
     (λ c κs. omega arith) (λ c. search needs) returns-2)

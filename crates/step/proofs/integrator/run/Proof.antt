@@ -6,9 +6,7 @@ use Prim.Native.Nat.{_≤_}
 use denote.Ref.{now}
 use Rattle.solves.specs.declared.Table.{Table}
 use Rattle.solves.specs.View.{START-ROWS}
-use Rattle.step.specs.Records.{bodyCount, recordsOf}
-use Rattle.step.specs.View.{statesAt}
-use Rattle.step.specs.Step.{jobOf}
+use Rattle.step.specs.Records.{bodyCount}
 use Rattle.step.proofs.StepLaws.{rows-of}
 use Rattle.step.proofs.CountLaws.{loop-few, finish-few}
 use Rattle.step.proofs.PassLaws.{left-is}
@@ -19,12 +17,7 @@ use Rattle.step.proofs.integrator.run.Tie as tie
 returns : tie.Need-returns
 returns c =
     let at-start = c .before .before .before .before .before in let at-row-bodies = at-start .before .before .before .before in
-    let at-entry = at-row-bodies .before .before .before .before .before in
-    left-is (λ x. statesAt x (bodyCount (now (at-entry .args .bodies)))) (c .run-ended .ensures)
-    (not-started (jobOf (now (at-entry .args .bodies)) _ _ _)
-    (recordsOf (now (at-entry .args .bodies))) (at-row-bodies .row-bodies .ensures .1)
-    (record { place = START-ROWS; rows = at-row-bodies .row-bodies .result; bodies = bodyCount (now (at-entry .args .bodies)) })
-    (at-start .start .result)
+    left-is _ (c .run-ended .ensures) (not-started _ _ (at-row-bodies .row-bodies .ensures .1) _ (at-start .start .result)
     (started-as (at-row-bodies .row-bodies .ensures .1) _ (at-start .start .result) (at-row-bodies .row-bodies .ensures .2)
     (at-start .start .ensures _ _ (at-row-bodies .row-bodies .ensures .1))) (c .before .before .done .ensures) (c .before .if1 .taken))
 
@@ -49,10 +42,7 @@ returns-2 c =
     let at-stage-loop = c .before .before .before .before in let at-clear = at-stage-loop .before .before .before .before .before .before in
     let at-if1 = at-clear .before .before in let at-done = at-if1 .before in let at-start = at-done .before .before .before in
     let at-row-bodies = at-start .before .before .before .before in let at-entry = at-row-bodies .before .before .before .before .before in
-    not-met (jobOf (now (at-entry .args .bodies)) _ _ _)
-    (recordsOf (now (at-entry .args .bodies))) (at-row-bodies .row-bodies .ensures .1)
-    (record { place = START-ROWS; rows = at-row-bodies .row-bodies .result; bodies = bodyCount (now (at-entry .args .bodies)) })
-    (at-start .start .result)
+    not-met _ _ (at-row-bodies .row-bodies .ensures .1) _ (at-start .start .result)
     (started-as (at-row-bodies .row-bodies .ensures .1) _ (at-start .start .result) (at-row-bodies .row-bodies .ensures .2)
     (at-start .start .ensures _ _ (at-row-bodies .row-bodies .ensures .1))) (at-done .done .ensures) (at-if1 .if1 .left)
     (omega arith) (omega (arith, at-row-bodies .row-bodies .ensures .0 .most, at-entry .pre .1 .few)) (at-entry .pre .1 .small) (at-clear .clear .ensures)
@@ -77,8 +67,8 @@ add-run-ended c =
     let few : at-row-bodies .row-bodies .result ≤ 96 = omega (arith, at-row-bodies .row-bodies .ensures .0 .most, at-entry .pre .1 .few) in
     omega (
       arith,
-      loop-few (at-row-bodies .row-bodies .ensures .1) table few (jobOf (now (at-entry .args .bodies)) _ _ _) _ (at-stage-loop .stage-loop .ensures),
-      finish-few (at-row-bodies .row-bodies .ensures .1) table few (jobOf (now (at-entry .args .bodies)) _ _ _) _ (at-finish-run .finish-run .ensures),
+      loop-few (at-row-bodies .row-bodies .ensures .1) table few _ _ (at-stage-loop .stage-loop .ensures),
+      finish-few (at-row-bodies .row-bodies .ensures .1) table few _ _ (at-finish-run .finish-run .ensures),
     )
 
 same-length-3 : tie.Need-same-length-3
@@ -97,11 +87,7 @@ returns-3 c =
     let at-if1 = at-clear .before .before in let at-done = at-if1 .before in
     let at-start = at-done .before .before .before in let at-row-bodies = at-start .before .before .before .before in
     let at-entry = at-row-bodies .before .before .before .before .before in
-    left-is (λ x. statesAt x (bodyCount (now (at-entry .args .bodies)))) (c .run-ended2 .ensures)
-    (all-run (jobOf (now (at-entry .args .bodies)) _ _ _)
-    (recordsOf (now (at-entry .args .bodies))) (at-row-bodies .row-bodies .ensures .1)
-    (record { place = START-ROWS; rows = at-row-bodies .row-bodies .result; bodies = bodyCount (now (at-entry .args .bodies)) })
-    (at-start .start .result)
+    left-is _ (c .run-ended2 .ensures) (all-run _ _ (at-row-bodies .row-bodies .ensures .1) _ (at-start .start .result)
     (started-as (at-row-bodies .row-bodies .ensures .1) _ (at-start .start .result) (at-row-bodies .row-bodies .ensures .2)
     (at-start .start .ensures _ _ (at-row-bodies .row-bodies .ensures .1))) (at-done .done .ensures) (at-if1 .if1 .left)
     (omega arith) (omega (arith, at-row-bodies .row-bodies .ensures .0 .most, at-entry .pre .1 .few)) (at-entry .pre .1 .small) (at-clear .clear .ensures)

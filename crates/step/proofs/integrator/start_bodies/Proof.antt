@@ -40,16 +40,10 @@ loop-again c =
           (c .before .before .store-start .ensures),
     )
 
-returns-2 : tie.Need-returns-2 Inv-loop μ-loop
-returns-2 c =
-    let at-entry = c .before .before .before .before in
-    begin-ends (now (at-entry .args .bodies)) _ _ _ _ (c .before .loop .inv .2) (omega arith) (c .loop-test .left)
-    (at-entry .pre .2)
-
 pub start-bodies-spec : {M : Type 1} → statement M
 start-bodies-spec =
     tie.close (tie.spec
-    Inv-loop μ-loop (λ c. (omega arith, refl, begin-none (now (c .before .before .args .bodies)) (c .before .before .args .body-count) _))
+    Inv-loop μ-loop (λ c. (omega arith, refl, search begin-none))
     (λ c κs. omega arith) (λ c κs. omega arith)
     (λ c κs. omega arith) (λ c κs. search needs) (λ c. omega arith) returns (λ c κs. omega arith)
-    (λ c. omega arith) (λ c. omega arith) loop-again (λ c. omega arith) returns-2)
+    (λ c. omega arith) (λ c. omega arith) loop-again (λ c. omega arith) (λ c. search begin-ends))

@@ -26,8 +26,8 @@ loop-holds c = (
   omega arith,
   omega arith,
   refl,
-  before-none (c .before .args .t2),
-  λ body-count J ia ib S. wrote-none (c .before .args .t2) (c .before .args .count) (c .before .args .moved) (c .before .args .place) _ body-count J ia ib S,
+  search before-none,
+  search wrote-none,
 )
 
 load-moved-requires : tie.Need-load-moved-requires Inv-loop μ-loop
@@ -94,19 +94,12 @@ loop-again c =
         written-most (at-write-equality-rows .write-equality-rows .ensures) _ (c .before .m .given .1),
       ),
       omega arith,
-      wrote-rows (at-entry .args .t2) (at-loop .loop .k) _ (at-loop .loop .inv .3) (at-write-equality-rows .write-equality-rows .ensures) _
-          (c .before .m .given .1),
+      search wrote-rows,
       λ body-count J ia ib S. wrote-again _ _ (at-entry .args .moved) _ _ body-count J ia ib S
           (at-loop .loop .k) _ _ (at-loop .loop .inv .4 body-count J ia ib S) (at-test .loop-test .taken) (omega arith) (at-entry .pre .1)
           (at-loop .loop .inv .3) (at-load-moved .load-moved .ensures) (at-load-moved2 .load-moved2 .ensures) _
           (at-write-equality-rows .write-equality-rows .ensures) (c .before .m .given .1),
     )
-
-returns-3 : tie.Need-returns-3 Inv-loop μ-loop
-returns-3 c =
-    let at-entry = c .before .before .before in
-    λ body-count J ia ib S. wrote-ends _ _ (at-entry .args .moved) _ _ body-count J ia ib S
-    (c .before .loop .k) _ _ (c .before .loop .inv .4 body-count J ia ib S) (c .before .loop .inv .3) (omega arith) (c .loop-test .left)
 
 pub write-rows-spec : {M : Type 1} → statement M
 write-rows-spec =
@@ -114,4 +107,4 @@ write-rows-spec =
     Inv-loop μ-loop loop-holds (λ c. omega arith) (λ c. omega arith) load-moved-requires load-moved-requires-2
     (λ c. omega arith) (λ c. omega arith) (λ c κs. omega arith) (λ c. search needs) add-n (λ c. search needs)
     (λ c. omega arith) returns (λ c. search needs) (λ c. omega arith) returns-2 add-k (λ c. omega arith)
-    loop-again (λ c. omega arith) returns-3)
+    loop-again (λ c. omega arith) (λ c body-count J ia ib S. search (wrote-ends, c .before .loop .inv .4)))

@@ -4,7 +4,6 @@ use native.Mathlib.Omega.{arith}
 use mathlib.Core.Path.{_≡_, refl, _∙_}
 use Prim.Native.Nat.{_*_, _≤_, _-_}
 use lib.ListN.{length}
-use denote.Ref.{now}
 use Rattle.step.specs.RunView.{jobFor}
 use Rattle.step.proofs.CountLaws.{LIMIT, pass-few}
 use Rattle.step.proofs.PassLaws.{Looping, loop-none, loop-spent, loop-again as looped-again, loop-over}
@@ -24,48 +23,29 @@ stage-pass-requires c κs = (record { ready = search needs; long = search needs 
 add-linear : tie.Need-add-linear Inv-loop μ-loop
 add-linear c =
     let at-stage-pass = c .before .before .before in let at-test = at-stage-pass .before .before in let at-loop = at-test .before in
-    let at-entry = at-loop .before .before in
-    omega (
-      arith,
-      at-loop .loop .inv .2,
-      at-test .loop-test .taken,
-      at-entry .pre .2,
-      pass-few (at-entry .args .stage) (jobFor _ _) (now (at-entry .args .ia)) (now (at-entry .args .ib)) (at-loop .loop .s) (at-entry .args .t)
-          (at-entry .pre .0 .ready .most) _ (at-stage-pass .stage-pass .ensures .is),
-    )
-
-returns : tie.Need-returns Inv-loop μ-loop
-returns c =
-    let at-pass = c .before .before in let at-stage-pass = at-pass .before .before .before .before .before in
-    let at-test = at-stage-pass .before .before in let at-loop = at-test .before in let at-entry = at-loop .before .before in
-    loop-over (at-entry .args .stage) (jobFor _ _) _ _ (at-entry .pre .0) (at-entry .pre .1) (at-loop .loop .inv .3)
-    (at-stage-pass .stage-pass .result) (at-stage-pass .stage-pass .ensures) (at-test .loop-test .taken) (at-pass .pass .given .1) (c .run-ended .ensures)
+    let at-entry = at-loop .before .before in let few : at-stage-pass .stage-pass .result .linear ≤ LIMIT = search pass-few in
+    omega (arith, at-loop .loop .inv .2, at-test .loop-test .taken, at-entry .pre .2, few)
 
 loop-again : tie.Need-loop-again Inv-loop μ-loop
 loop-again c =
     let at-stage-pass = c .before .before .before .before .before in let at-test = at-stage-pass .before .before in
-    let at-loop = at-test .before in let at-entry = at-loop .before .before in (
+    let at-loop = at-test .before in let at-entry = at-loop .before .before in
+    let few : at-stage-pass .stage-pass .result .linear ≤ LIMIT = search pass-few in (
       omega (arith, at-test .loop-test .taken),
       at-stage-pass .stage-pass .ensures .kept .size ∙ at-loop .loop .inv .1,
-      omega (
-        arith,
-        at-loop .loop .inv .2,
-        pass-few (at-entry .args .stage) (jobFor _ _) (now (at-entry .args .ia)) (now (at-entry .args .ib)) (at-loop .loop .s) (at-entry .args .t)
-            (at-entry .pre .0 .ready .most) _ (at-stage-pass .stage-pass .ensures .is),
-      ),
-      looped-again (at-entry .args .stage) (jobFor _ _) _ _ (at-entry .pre .0) (at-entry .pre .1) (at-loop .loop .inv .3)
-          (at-stage-pass .stage-pass .result) (at-stage-pass .stage-pass .ensures) (at-test .loop-test .taken) (c .enum-told .given .1),
+      omega (arith, at-loop .loop .inv .2, few),
+      search looped-again,
     )
 
 returns-2 : tie.Need-returns-2 Inv-loop μ-loop
 returns-2 c =
     let at-loop = c .before .before in let at-entry = at-loop .before .before in
-    loop-spent (at-entry .args .stage) (jobFor _ _) _ _ _ _ _ (at-loop .loop .inv .3) (omega (arith, at-loop .loop .inv .0, c .before .loop-test .left))
+    loop-spent _ (jobFor _ _) _ _ _ _ _ (at-loop .loop .inv .3) (omega (arith, at-loop .loop .inv .0, c .before .loop-test .left))
     (c .run-ended2 .ensures)
 
 pub stage-loop-spec : {M : Type 1} → statement M
 stage-loop-spec =
     tie.close (tie.spec
-    Inv-loop μ-loop (λ c. (omega arith, refl, omega arith, loop-none _ _ _ _ _ _ _)) stage-pass-requires add-linear (λ c. search needs)
-    (λ c. omega arith) (λ c κs. omega arith) (λ c. omega arith) returns (λ c. search needs) (λ c. omega arith)
+    Inv-loop μ-loop (λ c. (omega arith, refl, omega arith, loop-none _ _ _ _ _ _ _)) stage-pass-requires add-linear
+    (λ c. search needs) (λ c. omega arith) (λ c κs. omega arith) (λ c. omega arith) (λ c. search loop-over) (λ c. search needs) (λ c. omega arith)
     (λ c. omega arith) loop-again (λ c κs. omega arith) (λ c. omega arith) returns-2)

@@ -1,44 +1,17 @@
 -- `velocity_pass` is `velocityPass`: the rates, their test, and where it fails the correction (VelocityLaws).
 use borrow.Author.Needs.{needs}
 use native.Mathlib.Omega.{arith}
-use Rattle.step.specs.View.{candidatesAt}
 use Rattle.step.proofs.PassLaws.{passed-is}
 use Rattle.step.proofs.VelocityLaws.{rates-fail, at-rest, kicked-on}
-use Rattle.step.specs.RunView.{jobFor}
 use Rattle.step.proofs.velocity.velocity_pass.Statement.{statement}
 use Rattle.step.proofs.velocity.velocity_pass.Tie as tie
-
-returns : tie.Need-returns
-returns c joints =
-    let at-velocity-rhs = c .before .before .before .before .before in let at-entry = at-velocity-rhs .before .before .before in
-    passed-is 0 (λ x. candidatesAt x (at-entry .args .t .bodies)) (λ x. candidatesAt x (at-entry .args .t .bodies)) (c .pass-ended .ensures)
-    (rates-fail (jobFor joints _) _ (at-entry .pre .ready) (at-velocity-rhs .velocity-rhs .result)
-    (at-velocity-rhs .velocity-rhs .ensures) (c .before .before .done .ensures) (c .before .if1 .taken))
-
-returns-2 : tie.Need-returns-2
-returns-2 c joints =
-    let at-if1 = c .before .before .before .before in let at-done = at-if1 .before in let at-velocity-rhs = at-done .before .before .before in
-    let at-entry = at-velocity-rhs .before .before .before in
-    passed-is 0 (λ x. candidatesAt x (at-entry .args .t .bodies)) (λ x. candidatesAt x (at-entry .args .t .bodies)) (c .pass-ended2 .ensures)
-    (at-rest (jobFor joints _) _ (at-entry .pre .ready) (at-velocity-rhs .velocity-rhs .result)
-    (at-velocity-rhs .velocity-rhs .ensures) (at-done .done .ensures) (at-if1 .if1 .left) (c .before .before .compatible .ensures)
-    (c .before .if2 .taken))
 
 correct-requires : tie.Need-correct-requires
 correct-requires c κs = record { ready = search needs; long = search needs }
 
-returns-3 : tie.Need-returns-3
-returns-3 c joints =
-    let at-if2 = c .before .before .before .before in let at-compatible = at-if2 .before in let at-if1 = at-compatible .before .before in
-    let at-done = at-if1 .before in let at-velocity-rhs = at-done .before .before .before in
-    let at-entry = at-velocity-rhs .before .before .before in
-    kicked-on (jobFor joints _) _ (at-entry .pre .ready) (at-velocity-rhs .velocity-rhs .result)
-    (at-velocity-rhs .velocity-rhs .ensures) (at-done .done .ensures) (at-if1 .if1 .left) (at-compatible .compatible .ensures) (at-if2 .if2 .left)
-    (c .before .before .correct .ensures)
-
 pub velocity-pass-spec : {M : Type 1} → statement M
 velocity-pass-spec =
     tie.close (tie.spec
-    (λ c κs. search needs) (λ c κs. search needs) (λ c κs. search needs) (λ c. omega arith) returns
-    (λ c κs. search needs) (λ c κs. search needs) (λ c. omega arith) returns-2 correct-requires
-    (λ c. omega arith) returns-3)
+    (λ c κs. search needs) (λ c κs. search needs) (λ c κs. search needs) (λ c. omega arith)
+    (λ c joints. search (passed-is, rates-fail)) (λ c κs. search needs) (λ c κs. search needs) (λ c. omega arith)
+    (λ c joints. search (passed-is, at-rest)) correct-requires (λ c. omega arith) (λ c joints. search kicked-on))
