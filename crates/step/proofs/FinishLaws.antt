@@ -33,6 +33,7 @@ use Rattle.solves.specs.View.{START-ROWS, ROWS, MASSES, rowsOn, massesAt, syste
 use Rattle.solves.specs.ViewLaws.{kept-rows}
 use Rattle.step.specs.declared.Outcome.{Outcome}
 use Rattle.step.specs.declared.Outcome.the-variants as Outcomes
+use Rattle.step.specs.declared.passes.Looped.{Looped}
 use Rattle.step.specs.declared.passes.Ran.{Ran}
 use Rattle.step.specs.Layout.{IMPULSES, CANDIDATE, STATES, SCRATCH, USED}
 use Rattle.step.specs.Records.{bodyCount}
@@ -42,7 +43,7 @@ use Rattle.step.specs.ViewLaws.{kept-candidates}
 use Rattle.step.specs.BackLaws.{handed-back}
 use Rattle.step.specs.Bodies.{Job, Started, startOf, prepareMasses, statesOf, stateIn}
 use Rattle.step.specs.Step.{nonlinearPass, nonlinearLoop, velocityPass, velocityLoop, finishOf, runOf, Stepped, stepped, grounded, cleared, concluded}
-use Rattle.step.specs.RunView.{Ours, impulsesAt, startedAt, foundAt, Sides, candidateTable, Trying, Correcting, leftAs}
+use Rattle.step.specs.RunView.{Ours, impulsesAt, startedAt, foundAt, Sides, candidateTable, Trying, Correcting, leftAs, loopedAs}
 use Rattle.step.proofs.PassLaws.{failed-as}
 use Rattle.step.proofs.NonlinearLaws.{from-none}
 
@@ -60,7 +61,7 @@ module _ (job : Job) (bodies : List RigidBody) {S : Slice Float} {IA IB : Slice 
     is = failed-as (massesAt s₁ MASSES (t .bodies)) (statesAt s₁ (t .bodies)) r₁ eb h (d₁ .is) _;
   }
 
-  module _ (h : not b ≡ false) {s₂ : List Float} (r₂ : Ran)
+  module _ (h : not b ≡ false) {s₂ : List Float} (r₂ : Looped)
       (d₂ : Does Correcting s₁ s₂ (ran (ranAs (r₂ .end) (candidatesAt s₂ (t .bodies))) 0 (r₂ .linear))
       (upTo 3 nonConvergent (velocityPass job (systemOn (IA .now) (IB .now) s₁ (candidateTable t))) (candidatesAt s₁ (t .bodies))))
       {c : Bool} (ec : c ≡ isDone (r₂ .end)) where
@@ -130,9 +131,9 @@ module _ (job : Job) (bodies : List RigidBody) {joints : List Joint} {count : �
   not-started h = record { kept = d₁ .kept; is = failed-as (startedAt ia ib s₁ t) (statesAt s₁ (t .bodies)) r₁ eb h (d₁ .is) _ }
 
   module _ (h : not b ≡ false) (apart : t .place + ROW-TABLE ≤ ROWS) (l : t .rows ≤ 96) (g : t .bodies ≤ 16) {s₂' s₂ : List Float}
-      (f : Filled IMPULSES (t .rows) (λ _. ratio 0 1) s₁ s₂') (r₂ : Ran) (d₂' : Does Trying s₂' s₂ (leftAs r₂ (foundAt ia ib s₂ t))
+      (f : Filled IMPULSES (t .rows) (λ _. ratio 0 1) s₁ s₂') (r₂ : Looped) (d₂' : Does Trying s₂' s₂ (loopedAs r₂ (foundAt ia ib s₂ t))
       (upTo 32 nonConvergent (nonlinearPass job (startedAt ia ib s₂' t)) (impulsesAt s₂' t))) {c : Bool} (ec : c ≡ isDone (r₂ .end)) where
-    d₂ : Does Trying s₁ s₂ (leftAs r₂ (foundAt ia ib s₂ t)) (nonlinearLoop job (startedAt ia ib s₁ t))
+    d₂ : Does Trying s₁ s₂ (loopedAs r₂ (foundAt ia ib s₂ t)) (nonlinearLoop job (startedAt ia ib s₁ t))
     d₂ = from-none job ia ib t apart l g f d₂'
 
     started : go (startedAt ia ib s₁ t) ≡ startOf job bodies
@@ -142,9 +143,9 @@ module _ (job : Job) (bodies : List RigidBody) {joints : List Joint} {count : �
     kept-run = kept-then (d₁ .kept) (d₂ .kept) (λ i x. (omega arith, omega arith, omega arith))
 
     abbrev counts : {A : Type 0} → Result A → Counting A
-    counts x = ran x (r₂ .nonlinear) (r₂ .linear)
+    counts x = ran x (r₂ .passes) (r₂ .linear)
 
-    pub not-met : not c ≡ true → Runs s₂ (leftAs r₂ (statesAt s₂ (t .bodies)))
+    pub not-met : not c ≡ true → Runs s₂ (loopedAs r₂ (statesAt s₂ (t .bodies)))
     unfolding runOf
     not-met k = record {
       kept = kept-run;
@@ -155,12 +156,12 @@ module _ (job : Job) (bodies : List RigidBody) {joints : List Joint} {count : �
 
     pub all-run : not c ≡ false → {s₃ : List Float} (r₃ : Ended)
         → Does (Out MASSES (USED - MASSES)) s₂ s₃ (endedAs r₃ (statesAt s₃ (t .bodies))) (finishOf job bodies (foundAt ia ib s₂ t))
-        → Runs s₃ (ran (ranAs (r₃ .end) (statesAt s₃ (t .bodies))) (r₂ .nonlinear) (r₂ .linear + r₃ .linear))
+        → Runs s₃ (ran (ranAs (r₃ .end) (statesAt s₃ (t .bodies))) (r₂ .passes) (r₂ .linear + r₃ .linear))
     unfolding runOf
     all-run k r₃ d₃ = record {
       kept = kept-then kept-run (d₃ .kept) (λ i x. omega arith);
-      is = run-is (let z : r₂ .nonlinear ≡ r₂ .nonlinear + 0 = omega arith in z) refl
-          ∙ ap (after (r₂ .nonlinear) (r₂ .linear)) (d₃ .is)
+      is = run-is (let z : r₂ .passes ≡ r₂ .passes + 0 = omega arith in z) refl
+          ∙ ap (after (r₂ .passes) (r₂ .linear)) (d₃ .is)
           ∙ then-go (finishOf job bodies) (ap counts (sym (ran-done (foundAt ia ib s₂ t) (r₂ .end) (sym ec ∙ not-no c k))) ∙ d₂ .is)
           ∙ try-go (λ start. nonlinearLoop job start >>= finishOf job bodies) started;
     }

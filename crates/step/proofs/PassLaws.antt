@@ -30,6 +30,7 @@ use Rattle.solves.specs.View.{Work}
 use Rattle.solves.specs.ViewLaws.{kept-rows, system-kept}
 use Rattle.arith.specs.FlowLaws.{not-yes, not-no, cond-yes, cond-no}
 use Rattle.step.specs.declared.passes.Passed.{Passed}
+use Rattle.step.specs.declared.passes.Looped.{Looped}
 use Rattle.step.specs.declared.passes.Ran.{Ran}
 use Rattle.step.specs.declared.passes.Stage.{Stage}
 use Rattle.step.specs.declared.passes.Stage.the-variants as Stages
@@ -180,7 +181,7 @@ module _ (stage : Stage) (job : Job) (ia ib : List ℕ) (table : Table) (most : 
     reached = subst (λ (n : ℕ). Reaches 0 s₀ n 0) (none-begun stage) (reached-none most nonConvergent (passAt stage job ia ib table s₀) _);
   }
 
-  pub loop-spent : {s : List Float} {k l : ℕ} → Looping s k l → most ≡ k → {r : Ran} → r ≡ record { end = Ends.NonConvergent; nonlinear = most; linear = l }
+  pub loop-spent : {s : List Float} {k l : ℕ} → Looping s k l → most ≡ k → {r : Looped} → r ≡ record { end = Ends.NonConvergent; passes = most; linear = l }
       → Loops stage ia ib table s₀ s job most r
   loop-spent {s} inv e f = subst (Loops stage ia ib table s₀ s job most) (sym f) (record {
     kept = inv .kept;
@@ -207,7 +208,7 @@ module _ (stage : Stage) (job : Job) (joints : List Joint) (count : ℕ) {S : Sl
         (reached-again most nonConvergent _ _ (inv .reached) h (case e));
   }
 
-  pub loop-over : {end : End} → r .pass ≡ Pass.Over end → {a : Ran} → a ≡ record { end = end; nonlinear = k + 1; linear = l + r .linear }
+  pub loop-over : {end : End} → r .pass ≡ Pass.Over end → {a : Looped} → a ≡ record { end = end; passes = k + 1; linear = l + r .linear }
       → Loops stage (IA .now) (IB .now) table s₀ t job most a
   loop-over {end} e f = subst (Loops stage (IA .now) (IB .now) table s₀ t job most) (sym f) (record {
     kept = keeps;

@@ -28,6 +28,7 @@ use Rattle.step.specs.declared.integrator.MassAnswer.{MassAnswer}
 use Rattle.step.specs.declared.passes.Task.{Task}
 use Rattle.step.specs.declared.velocity.Motion.{Motion}
 use Rattle.step.specs.declared.passes.Passed.{Passed}
+use Rattle.step.specs.declared.passes.Looped.{Looped}
 use Rattle.step.specs.declared.passes.Ran.{Ran}
 use Rattle.step.specs.declared.passes.Stage.{Stage}
 use Rattle.step.specs.declared.passes.Stage.the-variants as Stages
@@ -166,6 +167,9 @@ passedAs n r a b = ran (passAs (r .pass) a b) n (r .linear)
 abbrev pub passedAfter : End → ℕ → Passed
 passedAfter end linear = record { pass = cond (isDone end) Passes.Again (Passes.Over end); linear = linear }
 
--- a loop or a run that left x
+-- a loop of the nonlinear stage, or a run, that left x
+abbrev pub loopedAs : {A : Type 0} → Looped → A → Counting A
+loopedAs r x = ran (ranAs (r .end) x) (r .passes) (r .linear)
+
 abbrev pub leftAs : {A : Type 0} → Ran → A → Counting A
 leftAs r x = ran (ranAs (r .end) x) (r .nonlinear) (r .linear)

@@ -21,7 +21,7 @@ use Rattle.solves.specs.Layout.{ROW-TABLE}
 use Rattle.step.specs.Joined.{Joined}
 use Rattle.step.specs.declared.passes.Task.{Task}
 use Rattle.step.specs.declared.passes.Passed.{Passed}
-use Rattle.step.specs.declared.passes.Ran.{Ran}
+use Rattle.step.specs.declared.passes.Looped.{Looped}
 use Rattle.step.specs.declared.passes.Stage.{Stage}
 use Rattle.step.specs.Layout.{USED}
 use Rattle.step.specs.Records.{bodyCount, recordsOf}
@@ -57,8 +57,8 @@ module _ (stage : Stage) (ia ib : List ℕ) (t : Table) (s u : List Float) where
   Passes job r = Does (Outside stage) s u (passedAs (nonlinearOf stage 1) r (givenAt stage u t) (gainedAt stage ia ib u t))
       (passAt stage job ia ib t s (givenAt stage s t))
 
-  abbrev pub Loops : Job → ℕ → Ran → Type 0
-  Loops job most r = Does (Outside stage) s u (ran (ranAs (r .end) (gainedAt stage ia ib u t)) (nonlinearOf stage (r .nonlinear)) (r .linear))
+  abbrev pub Loops : Job → ℕ → Looped → Type 0
+  Loops job most r = Does (Outside stage) s u (ran (ranAs (r .end) (gainedAt stage ia ib u t)) (nonlinearOf stage (r .passes)) (r .linear))
       (upTo most nonConvergent (passAt stage job ia ib t s) (givenAt stage s t))
 
 module _ (s : Lent Float) (ia ib : Lent ℕ) (t : Table) where

@@ -366,6 +366,7 @@ fn finish_run(
         rows: t.rows,
         bodies: t.bodies,
     };
+    // tested before each of at most 3 corrections; a third one is never accepted
     let corrected = stage_loop(s, ia, ib, candidate_table, joints, task, Stage::Velocity, 3);
     let end = corrected.end;
     if !done(end) {
@@ -420,9 +421,9 @@ pub(crate) fn run(bodies: &[f64], joints: [Joint; 16], count: usize, dt: f64, s:
     let met = stage_loop(s, &ia, &ib, t, joints, task, Stage::Nonlinear, 32);
     let end = met.end;
     if !done(end) {
-        return met;
+        return run_ended(end, met.passes, met.linear);
     }
     let last = finish_run(s, &ia, &ib, t, bodies, joints, task);
     let end = last.end;
-    run_ended(end, met.nonlinear, met.linear + last.linear)
+    run_ended(end, met.passes, met.linear + last.linear)
 }

@@ -1,5 +1,5 @@
-// What a run is about; how a pass of its two stages ends, and how a loop or the run: with the passes that were counted; and what is one
-// for both stages: the second half of a pass, and the loop.
+// What a run is about (`Task`), how a pass, a loop and the run end, and what both stages share: the second half of a pass (`correct`)
+// and the loop (`stage_loop`). The passes, which call `correct` and are called by the loop, are in integrator.rt and velocity.rt.
 use crate::integrator::add_impulses;
 use crate::integrator::nonlinear_pass;
 use crate::velocity::apply;
@@ -37,7 +37,14 @@ pub(crate) struct Passed {
     pub linear: usize,
 }
 
-// The end of the run, with both counts; or of a loop, whose own passes are `nonlinear` here, also where the run does not count them.
+// The end of a loop, with the passes that it began and the linear passes of their solves.
+pub(crate) struct Looped {
+    pub end: End,
+    pub passes: usize,
+    pub linear: usize,
+}
+
+// The end of the run, with both counts.
 pub(crate) struct Ran {
     pub end: End,
     pub nonlinear: usize,
@@ -66,6 +73,16 @@ pub(crate) fn run_ended(end: End, nonlinear: usize, linear: usize) -> Ran
     Ran {
         end,
         nonlinear,
+        linear,
+    }
+}
+
+fn loop_ended(end: End, passes: usize, linear: usize) -> Looped
+    ensures { λ r. ⌜ r ≡ record { end = end; passes = passes; linear = linear } ⌝ }
+{
+    Looped {
+        end,
+        passes,
         linear,
     }
 }
@@ -102,6 +119,7 @@ pub(crate) fn correct(
     pass_after(used, solved.linear)
 }
 
+// One pass of a stage; the velocity stage reads no joint.
 fn stage_pass(
     s: &mut [f64],
     ia: &PerRow,
@@ -120,7 +138,7 @@ fn stage_pass(
     }
 }
 
-// At most so many passes, each counted when begun.
+// At most so many passes, each counted when begun. Of at most 32 the counts cannot wrap.
 pub(crate) fn stage_loop(
     s: &mut [f64],
     ia: &PerRow,
@@ -130,7 +148,7 @@ pub(crate) fn stage_loop(
     task: Task,
     stage: Stage,
     most: usize,
-) -> Ran
+) -> Looped
     requires { ⌜ (Ours s ia ib t) × (Besides stage joints (task .count) ia ib t) × (most ≤ 32) ⌝ }
     ensures { λ r. ⌜ Loops stage (came ia) (came ib) t (came s) (left s) (jobFor joints task) most r ⌝ }
 {
@@ -140,8 +158,8 @@ pub(crate) fn stage_loop(
         linear += passed.linear;
         let pass = passed.pass;
         if let Pass::Over(end) = pass {
-            return run_ended(end, k + 1, linear);
+            return loop_ended(end, k + 1, linear);
         }
     }
-    run_ended(End::NonConvergent, most, linear)
+    loop_ended(End::NonConvergent, most, linear)
 }

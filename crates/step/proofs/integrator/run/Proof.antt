@@ -39,14 +39,14 @@ stage-loop-requires c κs =
 
 returns-2 : tie.Need-returns-2
 returns-2 c =
-    let at-stage-loop = c .before .before .before .before in let at-clear = at-stage-loop .before .before .before .before .before .before in
+    let at-stage-loop = c .before .before .before .before .before in let at-clear = at-stage-loop .before .before .before .before .before .before in
     let at-if1 = at-clear .before .before in let at-done = at-if1 .before in let at-start = at-done .before .before .before in
     let at-row-bodies = at-start .before .before .before .before in let at-entry = at-row-bodies .before .before .before .before .before in
-    not-met _ _ (at-row-bodies .row-bodies .ensures .1) _ (at-start .start .result)
+    left-is _ (c .run-ended2 .ensures) (not-met _ _ (at-row-bodies .row-bodies .ensures .1) _ (at-start .start .result)
     (started-as (at-row-bodies .row-bodies .ensures .1) _ (at-start .start .result) (at-row-bodies .row-bodies .ensures .2)
     (at-start .start .ensures _ _ (at-row-bodies .row-bodies .ensures .1))) (at-done .done .ensures) (at-if1 .if1 .left)
     (omega arith) (omega (arith, at-row-bodies .row-bodies .ensures .0 .most, at-entry .pre .1 .few)) (at-entry .pre .1 .small) (at-clear .clear .ensures)
-    (at-stage-loop .stage-loop .result) (at-stage-loop .stage-loop .ensures) (c .before .done2 .ensures) (c .if2 .taken)
+    (at-stage-loop .stage-loop .result) (at-stage-loop .stage-loop .ensures) (c .before .before .done2 .ensures) (c .before .if2 .taken))
 
 finish-run-requires : tie.Need-finish-run-requires
 finish-run-requires c κs =
@@ -87,7 +87,7 @@ returns-3 c =
     let at-if1 = at-clear .before .before in let at-done = at-if1 .before in
     let at-start = at-done .before .before .before in let at-row-bodies = at-start .before .before .before .before in
     let at-entry = at-row-bodies .before .before .before .before .before in
-    left-is _ (c .run-ended2 .ensures) (all-run _ _ (at-row-bodies .row-bodies .ensures .1) _ (at-start .start .result)
+    left-is _ (c .run-ended3 .ensures) (all-run _ _ (at-row-bodies .row-bodies .ensures .1) _ (at-start .start .result)
     (started-as (at-row-bodies .row-bodies .ensures .1) _ (at-start .start .result) (at-row-bodies .row-bodies .ensures .2)
     (at-start .start .ensures _ _ (at-row-bodies .row-bodies .ensures .1))) (at-done .done .ensures) (at-if1 .if1 .left)
     (omega arith) (omega (arith, at-row-bodies .row-bodies .ensures .0 .most, at-entry .pre .1 .few)) (at-entry .pre .1 .small) (at-clear .clear .ensures)
@@ -99,5 +99,5 @@ run-spec =
     tie.close (tie.spec
     (λ c. search needs) (λ c. search needs) (λ c κs. search needs) (λ c κs. search needs)
     (λ c κs. search needs) (λ c κs. search needs) (λ c. omega arith) returns clear-requires stage-loop-requires
-    (λ c κs. search needs) (λ c. omega arith) returns-2 finish-run-requires add-run-ended
+    (λ c κs. search needs) (λ c κs. search needs) (λ c. omega arith) returns-2 finish-run-requires add-run-ended
     (λ c κs. search needs) same-length-3 returns-3)

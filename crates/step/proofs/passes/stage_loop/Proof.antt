@@ -41,7 +41,7 @@ returns-2 : tie.Need-returns-2 Inv-loop μ-loop
 returns-2 c =
     let at-loop = c .before .before in let at-entry = at-loop .before .before in
     loop-spent _ (jobFor _ _) _ _ _ _ _ (at-loop .loop .inv .3) (omega (arith, at-loop .loop .inv .0, c .before .loop-test .left))
-    (c .run-ended2 .ensures)
+    (c .loop-ended2 .ensures)
 
 pub stage-loop-spec : {M : Type 1} → statement M
 stage-loop-spec =
