@@ -56,13 +56,13 @@ fn answer(fd: i32, file: &mut [u8]) -> Round {
     Round::Unwritten
 }
 
-// Nothing says that the file ends, so the loop counts its turns down.
+// Nothing says that the file ends, so the loop counts its rounds down.
 fn replay(fd: i32) -> Round {
-    let mut turns = u64::MAX;
-    while turns > 0 {
+    let mut rounds = u64::MAX;
+    while rounds > 0 {
         match next(fd) {
             Round::Answered => {
-                turns -= 1;
+                rounds -= 1;
             }
             end => {
                 return end;

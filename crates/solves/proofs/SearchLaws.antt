@@ -47,10 +47,6 @@ pub tenth-14 : F 0x3d06_849b_86a1_2b9b ≡ ratio 1 (10 ^ 14)
 unfolding ofBits round
 tenth-14 = refl
 
-pub tenth-12 : F 0x3d71_9799_812d_ea11 ≡ ratio 1 (10 ^ 12)
-unfolding ofBits round
-tenth-12 = refl
-
 -- an end that the code makes
 pub new-ended : {A : Type 0} {r : Ended} {e : End} {k : ℕ} {P : ℕ → Type 0} {s t : List Float} (x : A) {d : Counting A}
     → r ≡ endedWith e k → Does P s t (endedAs (endedWith e k) x) d → Does P s t (endedAs r x) d

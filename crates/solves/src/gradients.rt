@@ -180,6 +180,7 @@ fn settle(s: &mut [f64], ia: &PerRow, ib: &PerRow, t: Table, tolerance: f64, rho
     Next::Rho(next)
 }
 
+// A pass, tested by the recurrence's residual first.
 pub(crate) fn gradient_pass(
     s: &mut [f64],
     ia: &PerRow,
@@ -202,6 +203,7 @@ pub(crate) fn gradient_pass(
     settle(s, ia, ib, t, tolerance, rho)
 }
 
+// The diagonal-scaled conjugate gradients.
 pub(crate) fn gradients(s: &mut [f64], ia: &PerRow, ib: &PerRow, t: Table) -> Ended
     requires { ⌜ Ready s ia ib t ⌝ }
     ensures { λ r. ⌜ Solves s ia ib t r (λ system. gradientsOf system (rhsOn s t) (solutionOn s t) (residualOn s t)) ⌝ }

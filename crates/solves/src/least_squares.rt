@@ -26,6 +26,7 @@ ghost use Rattle.solves.specs.Lent.{came, left};
 ghost use Rattle.solves.specs.Region.{Does};
 ghost use Rattle.solves.specs.View.{systemIn, rhsOn, solutionOn, residualOn, searchOn, Ready, Passing};
 
+// A pass of conjugate gradients on the normal equations, tested first.
 pub(crate) fn least_pass(
     s: &mut [f64],
     ia: &PerRow,

@@ -169,10 +169,6 @@ module _ {s₀ : List Float} {ia ib : List ℕ} {place n body-count : ℕ} (pre 
       a b
 
 -- compatible
-pub tenth-12 : F 0x3d71_9799_812d_ea11 ≡ ratio 1 (10 ^ 12)
-unfolding ofBits round
-tenth-12 = refl
-
 module _ (s : List Float) (n : ℕ) where
   abbrev pub small : ℕ → Bool
   small k = Ieee.le (absOf (at (vecAt s RHS n) k)) (ratio 1 (10 ^ 12))

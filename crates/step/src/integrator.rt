@@ -304,6 +304,7 @@ fn candidate(
     write_rows(s, joints, task.count, ROWS, true)
 }
 
+// The candidates, and where their rows are not met the impulses for the next pass.
 pub(crate) fn nonlinear_pass(
     s: &mut [f64],
     ia: &PerRow,

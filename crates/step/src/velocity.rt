@@ -1,4 +1,4 @@
-// The velocity passes of `solve` in solver.rs: tested before each of at most 3 corrections; a third one is never accepted.
+// The velocity passes of `solve` in solver.rs, each tested before it is corrected.
 use crate::bodies::load_candidate;
 use crate::bodies::store_candidate;
 use crate::passes::Passed;
@@ -167,6 +167,7 @@ pub(crate) fn apply(s: &mut [f64], ia: &PerRow, ib: &PerRow, t: Table) -> End
     kick_candidates(s, t.bodies)
 }
 
+// The rates of the rows, and where they are not near 0 a correction of the candidates' velocities.
 pub(crate) fn velocity_pass(s: &mut [f64], ia: &PerRow, ib: &PerRow, t: Table, task: Task) -> Passed
     requires { ⌜ Ours s ia ib t ⌝ }
     ensures { λ r. ⌜ ((joints : List Joint) → Passes Velocity (came ia) (came ib) t (came s) (left s) (jobFor joints task) r) ⌝ }

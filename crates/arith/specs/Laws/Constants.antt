@@ -32,3 +32,7 @@ two-is = refl
 pub four-is : F 0x4010_0000_0000_0000 ≡ ratio 4 1
 unfolding ofBits round
 four-is = refl
+
+pub tenth-12 : F 0x3d71_9799_812d_ea11 ≡ ratio 1 (10 ^ 12)
+unfolding ofBits round
+tenth-12 = refl

@@ -1,6 +1,6 @@
 -- Laws of `lib.Ieee`'s `round` and `mul`, at any format: a value that the format holds is told by its sign and its fraction
--- (`value-unique`) and is its own rounding (`round-self`); the sign goes through (`round-neg`, `mul-neg`); a product of fractions
--- (`mul-values`).
+-- (`value-unique`) and is its own rounding (`round-self`); the sign goes through (`round-neg`), so that a sum with a
+-- negated factor is a difference (`add-neg-mul`); a product of fractions (`mul-values`).
 use mathlib.Core.Path.{_≡_, refl, sym, ap, _∙_, subst}
 use mathlib.Core.Bool.{Bool, true, false, not, _&&_, cond}
 use Prim.Native.Nat.{ℕ, zero, suc, _+_, _-_, _*_, _/_, _%_, _^_, _≤_, _<_, compare}

@@ -1,14 +1,14 @@
--- `replay` is safe and ends: the measure is the number of turns that are left. Nothing has to hold from turn to turn.
+-- `replay` is safe and ends: the measure is the number of rounds that are left. Nothing has to hold from round to round.
 use native.Mathlib.Omega.{arith}
 use borrow.Author.Needs.{needs}
 use Rattle.replay.proofs.replay.Statement.{statement}
 use Rattle.replay.proofs.replay.Tie as tie
 
 abbrev Inv-loop : tie.InvT-loop
-Inv-loop fd turns₀ turns = Unit {0}
+Inv-loop fd rounds₀ rounds = Unit {0}
 
 abbrev μ-loop : tie.MeasureT-loop
-μ-loop fd turns₀ turns = turns
+μ-loop fd rounds₀ rounds = rounds
 
 pub replay-spec : {M : Type 1} → statement M
 replay-spec =

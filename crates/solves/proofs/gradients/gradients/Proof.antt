@@ -8,7 +8,8 @@ use Rattle.solves.specs.DoesLaws.{sum-there, sum-over, does-as}
 use Rattle.solves.specs.Answer.{preparedAs}
 use Rattle.solves.proofs.GradientLaws.{gradients-refused, gradients-intolerant, gradients-whole}
 use Rattle.solves.proofs.OperatorLaws.{rows-kept}
-use Rattle.solves.proofs.SearchLaws.{tenth-12, new-ended}
+use Rattle.arith.specs.Laws.Constants.{tenth-12}
+use Rattle.solves.proofs.SearchLaws.{new-ended}
 use Rattle.solves.proofs.gradients.gradients.Statement.{statement}
 use Rattle.solves.proofs.gradients.gradients.Tie as tie
 

@@ -8,7 +8,8 @@ use Rattle.solves.specs.Region.{vecAt}
 use Rattle.solves.specs.View.{SOLUTION}
 use Rattle.solves.specs.DoesLaws.{ran-fails, sum-there, sum-over, went, failed, fails}
 use Rattle.solves.proofs.OperatorLaws.{along-kept}
-use Rattle.solves.proofs.SearchLaws.{tenth-12, new-ended}
+use Rattle.arith.specs.Laws.Constants.{tenth-12}
+use Rattle.solves.proofs.SearchLaws.{new-ended}
 use Rattle.solves.proofs.SolveLaws.{along-refused, along-intolerant, along-whole}
 use Rattle.solves.proofs.path.path_along.Statement.{statement}
 use Rattle.solves.proofs.path.path_along.Tie as tie

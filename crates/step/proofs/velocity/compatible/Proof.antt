@@ -5,7 +5,8 @@ use Prim.Native.Nat.{_≤_, _-_}
 use mathlib.Core.Bool.{true}
 use Rattle.arith.specs.Flow.{every}
 use Rattle.arith.specs.FlowLaws.{every-none, every-more}
-use Rattle.step.proofs.VelocityLaws.{tenth-12, small, small-is, compatible-fails, compatible-ends}
+use Rattle.arith.specs.Laws.Constants.{tenth-12}
+use Rattle.step.proofs.VelocityLaws.{small, small-is, compatible-fails, compatible-ends}
 use Rattle.step.proofs.velocity.compatible.Statement.{statement}
 use Rattle.step.proofs.velocity.compatible.Tie as tie
 
