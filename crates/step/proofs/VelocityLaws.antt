@@ -6,8 +6,8 @@ use mathlib.Core.List.{List}
 use native.Mathlib.Omega.{arith}
 use lib.ListN.{length, set}
 use lib.Ieee as Ieee
-use lib.Ieee.{Float, ofBits, round}
-use Rattle.arith.specs.Real.{F, ratio, isFinite, absOf, _⊕_}
+use lib.Ieee.{Float}
+use Rattle.arith.specs.Real.{ratio, isFinite, absOf, _⊕_}
 use Rattle.arith.specs.Flow.{Turn, go, stop, _>>=_, each, every}
 use Rattle.arith.specs.FlowLaws.{then-go, then-stop, every-fail, every-end}
 use Rattle.arith.specs.Run.{ran, leave}
