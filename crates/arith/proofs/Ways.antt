@@ -63,7 +63,8 @@ pub sines-low : (h : Float) → Ieee.lt h (F 0) ≡ true → Sines.Refused ≡ s
 unfolding ofBits round sinCosOf
 sines-low h p = cond-yes _ _ p
 
-pub sines-in : (h : Float) {t : SineCosine} → Ieee.lt h (F 0) ≡ false → Ieee.le h (F 0x4010_0000_0000_0000) ≡ true → t ≡ halvedOf 3 h → Sines.Value t ≡ sinCosOf h
+pub sines-in : (h : Float) {t : SineCosine} → Ieee.lt h (F 0) ≡ false → Ieee.le h (F 0x4010_0000_0000_0000) ≡ true → t ≡ halvedOf 3 h
+    → Sines.Value t ≡ sinCosOf h
 unfolding ofBits round sinCosOf
 sines-in h p q e = ap Sines.Value e ∙ cond-yes _ _ q ∙ cond-no _ _ p
 
