@@ -4,7 +4,7 @@
 use Rattle.arith.specs.Words.{ℕ, zero, suc, _+_, _-_, _*_, _/_, _^_, compare, false, cond, leb}
 use lib.Ieee.{Float, nan, inf, fin, Format, prec, low, up, down, size, units, nearest}
 
-unfoldable pub rootIn : ℕ → ℕ → ℕ  -- the root of an n of d digits to the base 4, digit by digit, each raised where the square still is at most n
+unfoldable pub rootIn : ℕ → ℕ → ℕ  -- the root of an n of at most d digits to the base 4, digit by digit, raised where the square is at most n
 rootIn zero n = 0
 rootIn (suc d) n = let r = 2 * rootIn d (n / 4) in cond (leb ((r + 1) * (r + 1)) n) (r + 1) r
 

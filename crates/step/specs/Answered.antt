@@ -8,7 +8,7 @@ use Rattle.step.specs.Step.{stepped, runFor, cleared, solveOf}
 abbrev pub Zeroed : List Float → List Float → Type 0  -- the first 6,144 doubles are +0, the others as they were
 Zeroed scratch left = (SCRATCH ≤ length scratch) × (left ≡ cleared scratch)
 
-abbrev pub AtEnds : (Joint → Place → Place → Type 0) → List Float → Joint → Type 0  -- what Says says of a joint where the records are that it joins
+abbrev pub AtEnds : (Joint → Place → Place → Type 0) → List Float → Joint → Type 0  -- what Says says of a joint and the places of its two records
 AtEnds Says bodies joint = Says joint (recordPlace (recordAt bodies (joint .«body_a»))) (recordPlace (recordAt bodies (joint .«body_b»)))
 
 pub record Answered (bodies after : List Float) (joints : List Joint) (count : ℕ) (dt : Float) (scratch left : List Float) (r : Report) : Type 0 where
