@@ -59,6 +59,10 @@ no-units b l d g B D h =
 
 pub rem-units : (f : Format) (x y : Float) (s t : Bool) (a b : ℕ) → 0 < b
     → HasValue x s a (2 ^ low f) → HasValue y t b (2 ^ low f) → rem f x y ≡ round f s (a % b) (2 ^ low f)
+rem-units f nan y s t a b B v w = elim v [ ]
+rem-units f (inf _) y s t a b B v w = elim v [ ]
+rem-units f (fin s' m e) nan s t a b B v w = elim w [ ]
+rem-units f (fin s' m e) (inf _) s t a b B v w = elim w [ ]
 rem-units f (fin s' m e) (fin t' zero g) s t a b B v w = absurd (no-units b (2 ^ low f) (down g) g B (down_pos g) w.1)
 rem-units f (fin s' m e) (fin t' (suc n) g) s t a b B v w =
     opened f s' t' m n e g

@@ -172,20 +172,20 @@ pub finite-no : (x : Float) {big : Float} → big ≡ inf false → Ieee.lt (neg
 finite-no x {big} e h = ap (λ (b : Bool). b && Ieee.lt x big) (sym h) ∙ ap (λ (b : Float). Ieee.lt (neg b) x && Ieee.lt x b) e ∙ finite-is x
 
 -- ---- hypot, by the tests on its arguments
-pub hypot-first : (x y : Float) {a : Bool} → a ≡ is_finite x → not a ≡ true → inf false ≡ hypot_of x y
+pub hypot-first : (x y : Float) {a : Bool} → a ≡ is_finite x → a ≡ false → inf false ≡ hypot_of x y
 unfolding hypot_of
 hypot-first x y e h =
     ap (λ (b : Bool). cond (b && is_finite y) (cond (Ieee.lt (abs_of x) (abs_of y)) (scaled_root (abs_of y) (abs_of x)) (scaled_root (abs_of x) (abs_of y)))
-    (inf false)) (sym (not_yes _ h) ∙ e)
+    (inf false)) (sym h ∙ e)
 
-pub hypot-second : (x y : Float) {a b : Bool} → a ≡ is_finite x → not a ≡ false → b ≡ is_finite y → not b ≡ true → inf false ≡ hypot_of x y
+pub hypot-second : (x y : Float) {a b : Bool} → a ≡ is_finite x → a ≡ true → b ≡ is_finite y → b ≡ false → inf false ≡ hypot_of x y
 unfolding hypot_of
-hypot-second x y e h f g = cond_no _ _ (ap (λ (b : Bool). b && is_finite y) (sym e ∙ not-no _ h) ∙ sym f ∙ not_yes _ g)
+hypot-second x y e h f g = cond_no _ _ (ap (λ (b : Bool). b && is_finite y) (sym e ∙ h) ∙ sym f ∙ g)
 
-module _ (x y : Float) {a b : Bool} {p q : Float} (e : a ≡ is_finite x) (h : not a ≡ false)
-    (f : b ≡ is_finite y) (g : not b ≡ false) (i : p ≡ abs_of x) (j : q ≡ abs_of y) where
+module _ (x y : Float) {a b : Bool} {p q : Float} (e : a ≡ is_finite x) (h : a ≡ true)
+    (f : b ≡ is_finite y) (g : b ≡ true) (i : p ≡ abs_of x) (j : q ≡ abs_of y) where
   both : is_finite x && is_finite y ≡ true
-  both = ap (λ (b : Bool). b && is_finite y) (sym e ∙ not-no _ h) ∙ sym f ∙ not-no _ g
+  both = ap (λ (b : Bool). b && is_finite y) (sym e ∙ h) ∙ sym f ∙ g
 
   pub hypot-less : {r : Float} → Ieee.lt p q ≡ true → r ≡ scaled_root q p → r ≡ hypot_of x y
   unfolding hypot_of
@@ -236,17 +236,17 @@ module _ (y x : Float) {a b v w : Float} (e : a ≡ abs_of y) (f : b ≡ abs_of 
   unfolding of_bits round angle_of
   angle-above t = around ∙ cond_no _ _ t
 
-pub atan-first : (y x : Float) {a : Bool} → a ≡ is_finite y → not a ≡ true → Angles.Refused ≡ atan2_of y x
+pub atan-first : (y x : Float) {a : Bool} → a ≡ is_finite y → a ≡ false → Angles.Refused ≡ atan2_of y x
 unfolding atan2_of
-atan-first y x e h = cond_no _ _ (ap (λ (b : Bool). b && is_finite x) (sym e ∙ not_yes _ h))
+atan-first y x e h = cond_no _ _ (ap (λ (b : Bool). b && is_finite x) (sym e ∙ h))
 
-pub atan-second : (y x : Float) {a b : Bool} → a ≡ is_finite y → not a ≡ false → b ≡ is_finite x → not b ≡ true → Angles.Refused ≡ atan2_of y x
+pub atan-second : (y x : Float) {a b : Bool} → a ≡ is_finite y → a ≡ true → b ≡ is_finite x → b ≡ false → Angles.Refused ≡ atan2_of y x
 unfolding atan2_of
-atan-second y x e h f g = cond_no _ _ (ap (λ (b : Bool). b && is_finite x) (sym e ∙ not-no _ h) ∙ sym f ∙ not_yes _ g)
+atan-second y x e h f g = cond_no _ _ (ap (λ (b : Bool). b && is_finite x) (sym e ∙ h) ∙ sym f ∙ g)
 
-module _ (y x : Float) {a b : Bool} (e : a ≡ is_finite y) (h : not a ≡ false) (f : b ≡ is_finite x) (g : not b ≡ false) where
+module _ (y x : Float) {a b : Bool} (e : a ≡ is_finite y) (h : a ≡ true) (f : b ≡ is_finite x) (g : b ≡ true) where
   finite : is_finite y && is_finite x ≡ true
-  finite = ap (λ (b : Bool). b && is_finite x) (sym e ∙ not-no _ h) ∙ sym f ∙ not-no _ g
+  finite = ap (λ (b : Bool). b && is_finite x) (sym e ∙ h) ∙ sym f ∙ g
 
   pub atan-zero : Ieee.eq x (F 0) ≡ true → Ieee.eq y (F 0) ≡ true → Angles.Value (F 0) ≡ atan2_of y x
   unfolding of_bits round atan2_of

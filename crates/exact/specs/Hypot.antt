@@ -21,7 +21,7 @@ h_f = record { p = 1; n = 0; d = 9007199254740992; dp = lit< tt }
 
 -- what correct rounding says of r = √x, for x in [1, 4)
 pub record Root (x r : Float) : Type 0 where
-  pub is-finite : T (finite r)
+  pub is_finite : T (finite r)
   pub not_neg : 0≤ (val r)
   pub low : (val r -q mk h_f) *q (val r -q mk h_f) ≤q val x
   pub high : val x ≤q (val r +q mk h_f) *q (val r +q mk h_f)
@@ -177,7 +177,7 @@ hypot-ok A N T₀ a b r fa fb pa nb l ha R =
     let h = mul binary64 a r in let S = scaled a b fa fb pa nb l in let q = S.quotient in
     let X = scaled-root x r S.x-top R in
     let o = and_r (bounds (offβ A) off_e N) (ok (chk (prodβ A) prod_e)) T₀ in
-    let P = sound (a ∷ r ∷ []) (val a ∷ val r ∷ []) (prodβ A) (given a A (fa, ha), (given r rmax (R.is-finite, X.r-abs), tt)) prod_e (tt, tt) o in
+    let P = sound (a ∷ r ∷ []) (val a ∷ val r ∷ []) (prodβ A) (given a A (fa, ha), (given r rmax (R.is_finite, X.r-abs), tt)) prod_e (tt, tt) o in
     let hs = own (val h) (val a *q val r) (mag (chk (prodβ A) prod_e)) (err (chk (prodβ A) prod_e)) P.1 P.2 in
     let e = square (val a) (val b) q (val x) (val r) (val h) S.back in (
       P.0,
@@ -202,6 +202,6 @@ hyp-intro A N t a b r p q fa fb pa nb l ha R e =
     let k = hypot-ok A N t a b r fa fb pa nb l ha R in
     record {
       fine = k.0;
-      not_neg = mul-nn a r fa R.is-finite (≤q-total (val a) (qn 0) pa) R.not_neg;
+      not_neg = mul-nn a r fa R.is_finite (≤q-total (val a) (qn 0) pa) R.not_neg;
       near = subst (λ z. Abs (val (mul binary64 a r) *q val (mul binary64 a r) -q z) N) e k.1;
     }

@@ -20,7 +20,7 @@ pub struct Plan {
     pub joint_count: usize,
 }
 
-#[derive(Drop)]
+#[derive(Clone, Copy)]
 pub enum ReadOutcome {
     Read,
     Mark,
@@ -97,7 +97,7 @@ pub fn empty() -> Plan
 
 // What was read of a file: the time step, and at which byte each body and each joint begins. The part from `at` on is still to
 // be read.
-#[derive(Drop)]
+#[derive(Clone, Copy)]
 struct Notes {
     at: usize,
     dt: f64,

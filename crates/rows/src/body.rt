@@ -41,7 +41,7 @@ pub enum StateAnswer {
     ArithmeticOverflow,
 }
 
-#[derive(Drop)]
+#[derive(Clone, Copy)]
 pub struct MomentumBody {
     pub center: Vec3,
     pub rotation: Quat,

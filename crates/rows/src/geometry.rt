@@ -36,13 +36,13 @@ const SPACE: usize = 84;
 const EPSILON: f64 = 2.220446049250313e-16;
 
 // A connector frame in a body's local coordinates.
-#[derive(Drop)]
+#[derive(Clone, Copy)]
 pub struct JointFrame {
     pub local_anchor: Vec3,
     pub local_rotation: Quat,
 }
 
-#[derive(Drop)]
+#[derive(Clone, Copy)]
 pub enum Kind {
     Ball,
     Hinge,
@@ -66,7 +66,7 @@ pub enum Linear {
 }
 
 // The numbers of a cone twist.
-#[derive(Drop)]
+#[derive(Clone, Copy)]
 pub struct Cone {
     pub swing_x: f64,
     pub swing_y: f64,
@@ -89,7 +89,7 @@ pub enum Motions {
     Frame(Linear, Turning),
 }
 
-#[derive(Drop)]
+#[derive(Clone, Copy)]
 pub struct Joint {
     pub body_a: usize,
     pub body_b: usize,
@@ -98,7 +98,7 @@ pub struct Joint {
     pub kind: Kind,
 }
 
-#[derive(Drop)]
+#[derive(Clone, Copy)]
 pub struct EqualityRow {
     pub a: usize,
     pub b: usize,
@@ -128,7 +128,7 @@ pub enum Written {
 }
 
 // Both anchors, what leads from a's to b's, the arms from the centres to them, and both frames.
-#[derive(Drop)]
+#[derive(Clone, Copy)]
 struct Ends {
     pub pa: Vec3,
     pub pb: Vec3,
@@ -154,7 +154,7 @@ struct Axes {
 }
 
 // The rotation of frame b seen from frame a, with w * w + z * z and its root.
-#[derive(Drop)]
+#[derive(Clone, Copy)]
 struct Relative {
     pub rotation: Quat,
     pub norm_squared: f64,

@@ -6,7 +6,7 @@ ghost use Rattle.std.specs.Prelude.{◌≡◌};
 ghost use Rattle.rows.specs.Answer.{is_done};
 
 // How a call of the solver ended, the Rust's `Result<(), CollisionError>`: as hoped, or with the error of that name.
-#[derive(Drop)]
+#[derive(Clone, Copy)]
 pub enum End {
     Done,
     NonConvergent,

@@ -47,7 +47,7 @@ pub struct Ended {
 pub type PerRow = [usize; 96];
 
 // Rows in the scratch: where they stand, how many, and on how many bodies.
-#[derive(Drop)]
+#[derive(Clone, Copy)]
 pub struct Table {
     pub place: usize,
     pub rows: usize,

@@ -333,7 +333,7 @@ pub(crate) fn path_order(ia: &PerRow, ib: &PerRow, n: usize) -> PathOrder
 }
 
 // Doubles of a sum: the place of the first, and how far on or back the next one lies.
-#[derive(Drop)]
+#[derive(Clone, Copy)]
 pub(crate) struct Line {
     pub first: usize,
     pub on: usize,

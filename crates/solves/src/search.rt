@@ -11,7 +11,7 @@ use crate::gradients::gradient_pass;
 use crate::least_squares::least_pass;
 use crate::{End, Ended, Next, PerRow, Table};
 
-#[derive(Drop)]
+#[derive(Clone, Copy)]
 pub(crate) enum Which {
     LeastSquares,
     Gradients,

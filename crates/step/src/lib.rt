@@ -28,7 +28,7 @@ use rows::geometry::{Joint, clear};
 use solves::End;
 
 // Accepted, or the refusal of SPECIFICATION §7, in its order.
-#[derive(Drop)]
+#[derive(Clone, Copy)]
 pub enum Outcome {
     Accepted,
     TimeStep,

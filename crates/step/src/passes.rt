@@ -13,14 +13,14 @@ use solves::solver::linear_solve;
 use solves::{End, Pass, PerRow, Table, done};
 
 // The nonlinear loop from the starting bodies, and the velocity loop over the candidates that it found.
-#[derive(Drop)]
+#[derive(Clone, Copy)]
 pub(crate) enum Stage {
     Nonlinear,
     Velocity,
 }
 
 // The definition's Job without its joints: how many there are, the time step, and whether there are at least as many as bodies.
-#[derive(Drop)]
+#[derive(Clone, Copy)]
 pub(crate) struct Task {
     pub count: usize,
     pub dt: f64,

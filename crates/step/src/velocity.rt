@@ -29,7 +29,7 @@ use vectors::vector::{OptionVec3, Vec3};
 const NO_BODY: usize = 16;
 
 // What a body adds to the rates of its rows: its velocity, and its angular velocity where that is finite.
-#[derive(Drop)]
+#[derive(Clone, Copy)]
 pub(crate) struct Motion {
     pub body: usize,
     pub linear: Vec3,

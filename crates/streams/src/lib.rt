@@ -7,7 +7,7 @@ ghost use Rattle.streams.specs.Receive.{got_of, bytes_in, is_failed, Reads, Rece
 use libc::STDERR_FILENO;
 
 // What one read met: it failed, the input had ended, or so many bytes came.
-#[derive(Drop)]
+#[derive(Clone, Copy)]
 pub enum Got {
     Failed,
     Ended,

@@ -64,26 +64,26 @@ module _ (n : Cells) (row column : ℕ) (l : Cells) {p : Float} (ep : p ≡ corr
 
 -- the answer taken apart
 module _ (r : Bool) {l : Cells} {x : Turn Cells Cells} (e : ran_of r l ≡ x) where
-  pub was-yes : not r ≡ false → go l ≡ x
-  was-yes h = sym (ap (λ (b : Bool). ran_of b l) (not-no r h)) ∙ e
+  pub was-yes : r ≡ true → go l ≡ x
+  was-yes h = sym (ap (λ (b : Bool). ran_of b l) h) ∙ e
 
-  pub was-no : not r ≡ true → stop l ≡ x
-  was-no h = sym (ap (λ (b : Bool). ran_of b l) (not_yes r h)) ∙ e
+  pub was-no : r ≡ false → stop l ≡ x
+  was-no h = sym (ap (λ (b : Bool). ran_of b l) h) ∙ e
 
 -- ---- factor_spd
 module _ (m : Mat3) {b : Bool} (eb : b ≡ finite_mat m) where
-  pub factor-wild : not b ≡ true → {r : Factored} → r ≡ unfactored NonFiniteInput → r ≡ factor_spd_of m
+  pub factor-wild : b ≡ false → {r : Factored} → r ≡ unfactored NonFiniteInput → r ≡ factor_spd_of m
   unfolding factor_spd_of
   factor-wild h er = cc
 
-  module _ (hb : not b ≡ false) {s : Float} (es : s ≡ mat_largest_of m) {o : Float} (eo : o ≡ ratio 0 1) where
+  module _ (hb : b ≡ true) {s : Float} (es : s ≡ mat_largest_of m) {o : Float} (eo : o ≡ ratio 0 1) where
     pub factor-zero : Ieee.eq s o ≡ true → {r : Factored} → r ≡ unfactored NotPositiveDefinite → r ≡ factor_spd_of m
     unfolding factor_spd_of
     factor-zero h er = cc
 
     module _ (hs : Ieee.eq s o ≡ false) {t n : Cells} (et : t ≡ transposed m.columns) (en : n ≡ divided t s) {y : Bool} (ey : y ≡ not (not_symmetric n)) where
       finite : not (finite_mat m) ≡ false
-      finite = sym (ap not eb) ∙ hb
+      finite = sym (ap not eb) ∙ ap not hb
 
       not-zero : Ieee.eq (mat_largest_of m) (ratio 0 1) ≡ false
       not-zero = sym (ap (λ (z : Float). Ieee.eq z o) es ∙ ap (Ieee.eq (mat_largest_of m)) eo) ∙ hs
@@ -94,17 +94,17 @@ module _ (m : Mat3) {b : Bool} (eb : b ≡ finite_mat m) where
       test-is : not y ≡ not_symmetric (divided (transposed m.columns) (mat_largest_of m))
       test-is = ap not ey ∙ not-not _ ∙ ap not_symmetric normalized-is
 
-      pub factor-uneven : not y ≡ true → {r : Factored} → r ≡ unfactored NotSymmetric → r ≡ factor_spd_of m
+      pub factor-uneven : y ≡ false → {r : Factored} → r ≡ unfactored NotSymmetric → r ≡ factor_spd_of m
       unfolding factor_spd_of
-      factor-uneven h er = er ∙ cond_yes _ _ (sym test-is ∙ h) ∙ cond_no _ _ not-zero ∙ cond_no _ _ finite
+      factor-uneven h er = er ∙ cond_yes _ _ (sym test-is ∙ ap not h) ∙ cond_no _ _ not-zero ∙ cond_no _ _ finite
 
-      module _ (hy : not y ≡ false) (f : Bool) (l : Cells) (ef : ran_of f l ≡ factor_of n zero_mat.columns) where
+      module _ (hy : y ≡ true) (f : Bool) (l : Cells) (ef : ran_of f l ≡ factor_of n zero_mat.columns) where
         whole : factored_with s (ran_of f l) ≡ factor_spd_of m
         unfolding factor_spd_of
         whole =
             ap (factored_with s) (ef ∙ ap (λ (n : Cells). factor_of n zero_mat.columns) normalized-is)
             ∙ ap (λ (s : Float). factored_with s (factor_of (divided (transposed m.columns) (mat_largest_of m)) zero_mat.columns)) es
-            ∙ cond_no _ _ (sym test-is ∙ hy)
+            ∙ cond_no _ _ (sym test-is ∙ ap not hy)
             ∙ cond_no _ _ not-zero
             ∙ cond_no _ _ finite
 
@@ -131,21 +131,21 @@ unfolding solve_spd_of
 by-factor m rhs eg ex = ex ∙ ap (λ (g : Factored). solved_by g rhs) eg
 
 module _ (m : Mat3) {x : Solved} (ex : x ≡ solve_spd_of m axis_x) {a : Bool} (ea : a ≡ done x.outcome) where
-  pub inverse-x : not a ≡ true → {r : Inverted} → r ≡ uninverted x.outcome → r ≡ inverse_spd_of m
+  pub inverse-x : a ≡ false → {r : Inverted} → r ≡ uninverted x.outcome → r ≡ inverse_spd_of m
   unfolding inverse_spd_of
   inverse-x h er = cc
 
-  module _ (ha : not a ≡ false) {y : Solved} (ey : y ≡ solve_spd_of m axis_y) {b : Bool} (eb : b ≡ done y.outcome) where
-    pub inverse-y : not b ≡ true → {r : Inverted} → r ≡ uninverted y.outcome → r ≡ inverse_spd_of m
+  module _ (ha : a ≡ true) {y : Solved} (ey : y ≡ solve_spd_of m axis_y) {b : Bool} (eb : b ≡ done y.outcome) where
+    pub inverse-y : b ≡ false → {r : Inverted} → r ≡ uninverted y.outcome → r ≡ inverse_spd_of m
     unfolding inverse_spd_of
     inverse-y h er = cc
 
-    module _ (hb : not b ≡ false) {z : Solved} (ez : z ≡ solve_spd_of m axis_z) {c : Bool} (ec : c ≡ done z.outcome) where
-      pub inverse-z : not c ≡ true → {r : Inverted} → r ≡ uninverted z.outcome → r ≡ inverse_spd_of m
+    module _ (hb : b ≡ true) {z : Solved} (ez : z ≡ solve_spd_of m axis_z) {c : Bool} (ec : c ≡ done z.outcome) where
+      pub inverse-z : c ≡ false → {r : Inverted} → r ≡ uninverted z.outcome → r ≡ inverse_spd_of m
       unfolding inverse_spd_of
       inverse-z h er = cc
 
-      module _ (hc : not c ≡ false) {i : Mat3} (ei : i ≡ from_cols x.solution y.solution z.solution) {d : Bool} (ed : d ≡ finite_mat i) where
+      module _ (hc : c ≡ true) {i : Mat3} (ei : i ≡ from_cols x.solution y.solution z.solution) {d : Bool} (ed : d ≡ finite_mat i) where
         pub inverse-done : d ≡ true → record { outcome = Done; inverse = i } ≡ inverse_spd_of m
         unfolding inverse_spd_of
         inverse-done h = cc
@@ -156,16 +156,16 @@ module _ (m : Mat3) {x : Solved} (ex : x ≡ solve_spd_of m axis_x) {a : Bool} (
 
 -- ---- solve
 module _ (factor : Cholesky3) (rhs : Vec3) {b : Bool} (eb : b ≡ finite_of rhs) where
-  pub solve-wild : not b ≡ true → {r : Solved} → r ≡ unsolved NonFiniteInput → r ≡ factor_solve_of factor rhs
+  pub solve-wild : b ≡ false → {r : Solved} → r ≡ unsolved NonFiniteInput → r ≡ factor_solve_of factor rhs
   unfolding factor_solve_of
   solve-wild h er = cc
 
-  module _ (hb : not b ≡ false) {n : Vec3} (en : n ≡ div_of rhs factor.scale) {f : Bool} (ef : f ≡ finite_of n) where
-    pub solve-large : not f ≡ true → {r : Solved} → r ≡ unsolved ResultOutOfRange → r ≡ factor_solve_of factor rhs
+  module _ (hb : b ≡ true) {n : Vec3} (en : n ≡ div_of rhs factor.scale) {f : Bool} (ef : f ≡ finite_of n) where
+    pub solve-large : f ≡ false → {r : Solved} → r ≡ unsolved ResultOutOfRange → r ≡ factor_solve_of factor rhs
     unfolding factor_solve_of
     solve-large h er = cc
 
-    module _ (hf : not f ≡ false) {l : Cells} (el : l ≡ transposed factor.lower.columns) {y x : Vec3}
+    module _ (hf : f ≡ true) {l : Cells} (el : l ≡ transposed factor.lower.columns) {y x : Vec3}
         (ey : y ≡ forward_of l n) (ex : x ≡ backward_of l y) {g : Bool} (eg : g ≡ finite_of x) where
       pub solve-done : g ≡ true → record { outcome = Done; solution = x } ≡ factor_solve_of factor rhs
       unfolding factor_solve_of

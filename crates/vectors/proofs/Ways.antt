@@ -74,25 +74,25 @@ module _ {A O : Type 0} (finite : A → Bool) (largest : A → Float) (div : A �
   abbrev answer : O
   answer = normalize_by finite largest div length none some v
 
-  pub normalize-wild : not b ≡ true → none ≡ answer
+  pub normalize-wild : b ≡ false → none ≡ answer
   unfolding normalize_by
   normalize-wild h = cc
 
-  module _ (hb : not b ≡ false) {s : Float} (es : s ≡ largest v) {o : Float} (eo : o ≡ ratio 0 1) where
+  module _ (hb : b ≡ true) {s : Float} (es : s ≡ largest v) {o : Float} (eo : o ≡ ratio 0 1) where
     pub normalize-zero : Ieee.eq s o ≡ true → none ≡ answer
     unfolding normalize_by
     normalize-zero h = cc
 
     module _ (hs : Ieee.eq s o ≡ false) {w : A} (ew : w ≡ div v s) {l : Float} (el : l ≡ length w) {f : Bool} (ef : f ≡ is_finite l) where
-      pub normalize-long : not f ≡ true → none ≡ answer
+      pub normalize-long : f ≡ false → none ≡ answer
       unfolding normalize_by
       normalize-long h = cc
 
-      pub normalize-flat : not f ≡ false → Ieee.eq l o ≡ true → none ≡ answer
+      pub normalize-flat : f ≡ true → Ieee.eq l o ≡ true → none ≡ answer
       unfolding normalize_by
       normalize-flat h g = cc
 
-      pub normalize-some : not f ≡ false → Ieee.eq l o ≡ false → {r : A} → r ≡ div w l → {x : O} → x ≡ some r → x ≡ answer
+      pub normalize-some : f ≡ true → Ieee.eq l o ≡ false → {r : A} → r ≡ div w l → {x : O} → x ≡ some r → x ≡ answer
       unfolding normalize_by
       normalize-some h g er ex = cc
 
@@ -115,11 +115,11 @@ module _ (q : Quat) (v : Vec3) {t : Vec3} (et : t ≡ turned_of q v) {f : Bool} 
   rotated-none h = cc
 
 module _ (q : Quat) (v : Vec3) {b : Bool} (eb : b ≡ finite_of v) where
-  pub rotate-wild : not b ≡ true → Vectors.None ≡ rotate_vector_of q v
+  pub rotate-wild : b ≡ false → Vectors.None ≡ rotate_vector_of q v
   unfolding rotate_vector_of
   rotate-wild h = cc
 
-  module _ (hb : not b ≡ false) {o : OptionQuat} (eo : o ≡ quat_try_normalize_of q) where
+  module _ (hb : b ≡ true) {o : OptionQuat} (eo : o ≡ quat_try_normalize_of q) where
     pub rotate-none : o ≡ None → Vectors.None ≡ rotate_vector_of q v
     unfolding rotate_vector_of
     rotate-none h = cc
@@ -148,16 +148,16 @@ module _ (q : Quat) {o : OptionQuat} (eo : o ≡ quat_try_normalize_of q) {m : M
 
 -- ---- the turn of a rotation vector
 module _ (r : Vec3) {b : Bool} (eb : b ≡ finite_of r) where
-  pub delta-wild : not b ≡ true → None ≡ delta_of r
+  pub delta-wild : b ≡ false → None ≡ delta_of r
   unfolding delta_of
   delta-wild h = cc
 
-  module _ (hb : not b ≡ false) {a : Float} (ea : a ≡ length_of r) {f : Bool} (ef : f ≡ is_finite a) where
-    pub delta-long : not f ≡ true → None ≡ delta_of r
+  module _ (hb : b ≡ true) {a : Float} (ea : a ≡ length_of r) {f : Bool} (ef : f ≡ is_finite a) where
+    pub delta-long : f ≡ false → None ≡ delta_of r
     unfolding delta_of
     delta-long h = cc
 
-    module _ (hf : not f ≡ false) {k : Float} (ek : k ≡ ratio 1 (10 ^ 8)) where
+    module _ (hf : f ≡ true) {k : Float} (ek : k ≡ ratio 1 (10 ^ 8)) where
       pub delta-small : Ieee.lt a k ≡ true → {t : Quat} → t ≡ small_turn r a → Some t ≡ delta_of r
       unfolding delta_of
       delta-small h e = cc
@@ -173,14 +173,14 @@ module _ (r : Vec3) {b : Bool} (eb : b ≡ finite_of r) where
 
 -- ---- the turn that an angular velocity makes in the time dt
 module _ (v : Vec3) (dt : Float) {b : Bool} (eb : b ≡ finite_of v) where
-  pub turn-wild : not b ≡ true → None ≡ delta_in v dt
+  pub turn-wild : b ≡ false → None ≡ delta_in v dt
   turn-wild h = cc
 
-  module _ (hb : not b ≡ false) {f : Bool} (ef : f ≡ is_finite dt) where
-    pub turn-endless : not f ≡ true → None ≡ delta_in v dt
+  module _ (hb : b ≡ true) {f : Bool} (ef : f ≡ is_finite dt) where
+    pub turn-endless : f ≡ false → None ≡ delta_in v dt
     turn-endless h = cc
 
-    pub turn-for : not f ≡ false → {s : Vec3} {r : OptionQuat} → s ≡ scale_of v dt → r ≡ delta_of s → r ≡ delta_in v dt
+    pub turn-for : f ≡ true → {s : Vec3} {r : OptionQuat} → s ≡ scale_of v dt → r ≡ delta_of s → r ≡ delta_in v dt
     turn-for h es er = cc
 
 -- ---- integrate_as_unit

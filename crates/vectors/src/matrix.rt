@@ -15,13 +15,13 @@ use arith::root::sqrt;
 // 32 times epsilon, which is 2^-47.
 const SYMMETRY_TOLERANCE: f64 = 7.105427357601002e-15;
 
-#[derive(Drop)]
+#[derive(Clone, Copy)]
 pub struct Mat3 {
     pub columns: [[f64; 3]; 3],
 }
 
 // How a factorization or a solve ends: `Done`, or the Rust's error.
-#[derive(Drop)]
+#[derive(Clone, Copy)]
 pub enum CholeskyOutcome {
     Done,
     NonFiniteInput,
@@ -31,14 +31,14 @@ pub enum CholeskyOutcome {
 }
 
 // The Cholesky factor of a matrix divided by its largest magnitude, `scale`. Above the diagonal it is 0.
-#[derive(Drop)]
+#[derive(Clone, Copy)]
 struct Cholesky3 {
     pub lower: Mat3,
     pub scale: f64,
 }
 
 // An enum holds no array, so the outcome stands beside the value, which is zero unless the outcome is `Done`.
-#[derive(Drop)]
+#[derive(Clone, Copy)]
 struct Factored {
     pub outcome: CholeskyOutcome,
     pub factor: Cholesky3,

@@ -15,7 +15,7 @@ use arith::root::hypot;
 // 2^-44: how far the squares of a rotation may sum from 1.
 const ROTATION_TOLERANCE: f64 = 5.684341886080802e-14;
 
-#[derive(Drop)]
+#[derive(Clone, Copy)]
 pub struct Quat {
     pub x: f64,
     pub y: f64,

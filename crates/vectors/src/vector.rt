@@ -6,14 +6,14 @@ ghost use Rattle.vectors.specs.Vector.{add_of, sub_of, scale_of, div_of, neg_of}
 use arith::number::{abs, is_finite, max};
 use arith::root::hypot;
 
-#[derive(Drop)]
+#[derive(Clone, Copy)]
 pub struct Vec3 {
     pub x: f64,
     pub y: f64,
     pub z: f64,
 }
 
-#[derive(Drop)]
+#[derive(Clone, Copy)]
 pub enum OptionVec3 {
     Some(Vec3),
     None,

@@ -186,7 +186,7 @@ module _ (a b : Float) (fa : T (fits binary64 a)) (ua : T (unsigned a)) (fb : T 
       let r = sqrt binary64 (radicand a b) in
       let Q = scaled-root (radicand a b) r S.x-top hypot-root in
       let n = mul-near a r ua r-unsigned t in
-      let h-nn = mul-nn a r (unsigned-finite a ua) hypot-root.is-finite (≤q-total (val a) (qn 0) pa) hypot-root.not_neg in
+      let h-nn = mul-nn a r (unsigned-finite a ua) hypot-root.is_finite (≤q-total (val a) (qn 0) pa) hypot-root.not_neg in
       let a-low = ≤q-sub (qn 2 *q least) (val a) a-least in (
         core-high (val a) (val b) S.quotient (val (radicand a b)) (val r) (val (mul binary64 a r)) least
             S.back a-low least-nn hypot-root.not_neg Q.r-high Q.r-near S.x-near h-nn n,

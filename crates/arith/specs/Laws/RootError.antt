@@ -122,7 +122,7 @@ root_ok x f p a b =
     let big : mk quarter ≤q r = quarter-out B L P (large-whole R.n R.q W R.near R.A L R.square
     (le_trans (lit≤ tt) R.q-low) (quarter-in R.A L P (subst (λ z. mk quarter ≤q z) v a))) in
     record {
-      is-finite = w.0;
+      is_finite = w.0;
       not_neg = subst 0≤ (sym w.1) (sg-nn B L P);
       low = subst₂ (λ r x. (r -q mk u) *q (r -q mk u) ≤q x) (sym w.1) (sym v)
           (widen_low (sg false R.A L P) r h (low-frac R.A B W L P P2 (low-whole R.n R.q W R.near R.A L R.square)) small big);

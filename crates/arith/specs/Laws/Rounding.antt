@@ -169,6 +169,10 @@ add-neg-mul f x a y = rw mul-neg
 pub mul-values : (f : Format) (x y : Float) (s t : Bool) (a c b d : ℕ) → 0 < c → 0 < d
     → HasValue x s a c → HasValue y t b d → mul f x y ≡ round f (unlike s t) (a * b) (c * d)
 unfolding mul
+mul-values f nan y s t a c b d C D v w = elim v [ ]
+mul-values f (inf _) y s t a c b d C D v w = elim v [ ]
+mul-values f (fin s' m e) nan s t a c b d C D v w = elim w [ ]
+mul-values f (fin s' m e) (inf _) s t a c b d C D v w = elim w [ ]
 mul-values f (fin s' m e) (fin t' n g) s t a c b d C D v w =
     let p = m * up e * (n * up g) in let q = down e * down g in
     ap (λ (z : Bool). round f (unlike z t') p q) v.0

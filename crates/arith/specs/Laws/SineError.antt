@@ -389,7 +389,7 @@ no_value : (t : SineCosine) → Sines.Refused ≡ Sines.Value t → ⊥
 no_value t e = let z : ◌≡◌ {A = ℕ} 0 1 = cc in omega arith
 
 pub record Accepted (h : Float) (t : SineCosine) : Type 0 where
-  pub is-finite : T (finite h)
+  pub is_finite : T (finite h)
   pub low : qn 0 ≤q val h
   pub high : val h ≤q qn 4
   pub is : halved_of 3 h ≡ t
@@ -405,7 +405,7 @@ sin-cos-accepted h t e = go (lt h (ratio 0 1)) (le h (ratio 4 1)) refl refl e
     go false true p q e =
         let f = accepted-finite h p q in
         record {
-          is-finite = f;
+          is_finite = f;
           low = subst (λ z. z ≤q val h) zero_val (lt_no h (ratio 0 1) f (small-finite 0 (inl refl)) p);
           high = subst (λ z. val h ≤q z) four-val (subst T (sym q ∙ le_val h (ratio 4 1) f (small-finite 4 (inr refl))) tt);
           is = cc;
@@ -413,4 +413,4 @@ sin-cos-accepted h t e = go (lt h (ratio 0 1)) (le h (ratio 4 1)) refl refl e
 
 -- ---- for every angle that `sin_cos_of` accepts
 pub sin-cos-near : (h : Float) (t : SineCosine) → sin_cos_of h ≡ Sines.Value t → SinesNear (val h) t
-sin-cos-near h t e = let a = sin-cos-accepted h t e in subst (SinesNear (val h)) a.is (turn_near h a.is-finite a.low a.high)
+sin-cos-near h t e = let a = sin-cos-accepted h t e in subst (SinesNear (val h)) a.is (turn_near h a.is_finite a.low a.high)

@@ -21,7 +21,7 @@ decreases-loop fd buffer₀ chunk₀ count₀ last₀ answer₀ buffer chunk cou
 
 -- the answer as the machine reads it back
 back : (c : tie.After-read-to invariant-loop decreases-loop) → to_z w64 (of_z w64 c.read-to.result.answer) ≡ c.read-to.result.answer
-back c = to_z-of_z (sfits_of c.read-to.type-inv.1.1.0.1)
+back c = to_z-of_z (sfits_of c.read-to.type_inv.1.1.0.1)
 
 returns : tie.Need-returns invariant-loop decreases-loop
 returns c =

@@ -42,7 +42,7 @@ most : (c : tie.After-bytes) →
 most c =
     let at-met = c.before.before in let at_read = at-met.before.before.before in let at-read-arg = at_read.before in
     let z : ℤ = at_read.read.result in
-    let same : answer at_read ≡ z = to_z-of_z {w = w64} {z = z} (record { sfits = at_read.read.type-inv }) in
+    let same : answer at_read ≡ z = to_z-of_z {w = w64} {z = z} (record { sfits = at_read.read.type_inv }) in
     let came : c.bytes.result ≡ bytes_in (got_of z) =
     c.bytes.ensures ∙ ap bytes_in at-met.met.ensures ∙ ap (λ (y : ℤ). bytes_in (got_of y)) same in
     omega (arith, came, moved-most z at_read.read.ensures, slice-aggregate-read at-read-arg)

@@ -27,23 +27,23 @@ halved-below t = and 0 halved-kinds.ps (falls 0 halved-kinds.ps ◌<◌ μ-halve
 abbrev calls : ℕ → halved-lts.Claims
 calls t = (sums-at-reads.Asked, sums-at-reads.Learnt, halved-below t, halved.Post, doubled-reads.Asked, doubled-reads.Learnt)
 
-sums-at-requires : (t : ℕ) → halved-lts.Need-sums-at-requires (calls t) (halved-at t) halved.Post
+sums-at-requires : (t : ℕ) → halved-lts.Need-sums_at-requires (calls t) (halved-at t) halved.Post
 sums-at-requires t c κs = search rules
 
-returns : (t : ℕ) → halved-lts.Need-returns (calls t) (halved-at t) halved.Post
+returns : (t : ℕ) → halved-lts.Need-returns-then-halvings-eq0 (calls t) (halved-at t) halved.Post
 returns t c =
     let at-if1 = c.before in
-    c.sums_at.ensures ∙ turn-none _ at-if1.if1.true
+    c.sums_at.ensures ∙ turn-none _ at-if1.if-halvings-eq0.true
 
-sums-at-requires-2 : (t : ℕ) → halved-lts.Need-sums-at-requires-2 (calls t) (halved-at t) halved.Post
+sums-at-requires-2 : (t : ℕ) → halved-lts.Need-sums_at-requires-then-x (calls t) (halved-at t) halved.Post
 sums-at-requires-2 t c κs = search rules
 
-returns-2 : (t : ℕ) → halved-lts.Need-returns-2 (calls t) (halved-at t) halved.Post
+returns-2 : (t : ℕ) → halved-lts.Need-returns-then-x (calls t) (halved-at t) halved.Post
 returns-2 t c =
     let at-if2 = c.before in let at-if1 = at-if2.before in
-    c.sums-at2.ensures ∙ turn_small _ at-if1.if1.false at-if2.if2.true
+    c.sums_at-then-x.ensures ∙ turn_small _ at-if1.if-halvings-eq0.false at-if2.if-x.true
 
-sub-halved : (t : ℕ) → halved-lts.Need-overflow-sub-halved (calls t) (halved-at t) halved.Post
+sub-halved : (t : ℕ) → halved-lts.Need-overflow_sub-halvings (calls t) (halved-at t) halved.Post
 sub-halved t c = omega arith
 
 halved-requires : (t : ℕ) → halved-lts.Need-halved-requires (calls t) (halved-at t) halved.Post
@@ -52,13 +52,13 @@ halved-requires t c κs = (omega arith, tt)
 doubled-requires : (t : ℕ) → halved-lts.Need-doubled-requires (calls t) (halved-at t) halved.Post
 doubled-requires t c κs = search rules
 
-returns-3 : (t : ℕ) → halved-lts.Need-returns-3 (calls t) (halved-at t) halved.Post
+returns-3 : (t : ℕ) → halved-lts.Need-returns (calls t) (halved-at t) halved.Post
 returns-3 t c =
     let at-halved = c.before in let at-if2 = at-halved.before in let at-if1 = at-if2.before in
-    c.doubled.ensures ∙ turn-large _ at-if1.if1.false at-if2.if2.false at-halved.halved.ensures
+    c.doubled.ensures ∙ turn-large _ at-if1.if-halvings-eq0.false at-if2.if-x.false at-halved.halved.ensures
 
-pub +halved-spec : {M : Type 1} → statement M
-+halved-spec = close μ-halved λ t. halved-lts.spec (calls t)
+pub +halved_spec : {M : Type 1} → statement M
++halved_spec = close μ-halved λ t. halved-lts.spec (calls t)
     (halved-at t)
     halved.Post
     (sums-at-requires t)

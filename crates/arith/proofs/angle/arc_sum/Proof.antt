@@ -9,5 +9,5 @@ returns : tie.Need-returns
 unfolding arc_sum of_bits round horner
 returns c = refl
 
-pub arc-sum-spec : {M : Type 1} → statement M
-arc-sum-spec = tie.close (tie.spec returns)
+pub arc_sum_spec : {M : Type 1} → statement M
+arc_sum_spec = tie.close (tie.spec returns)

@@ -4,8 +4,8 @@ use borrow.Author.Rules.{rules}
 use Rattle.arith.proofs.angle.atan2.Statement.{statement}
 use Rattle.arith.proofs.angle.atan2.Tie as tie
 
-pub atan2-spec : {M : Type 1} → statement M
-atan2-spec =
+pub atan2_spec : {M : Type 1} → statement M
+atan2_spec =
     tie.close (tie.spec
     (λ c κs. search rules) (λ c. search (atan-answered, atan-first)) (λ c κs. search rules) (λ c. search (atan-answered, atan-second))
     (λ c. search (atan-answered, atan-zero)) (λ c κs. search rules) (λ c. search (atan-answered, atan-axis))

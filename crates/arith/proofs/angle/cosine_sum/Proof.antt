@@ -9,5 +9,5 @@ returns : tie.Need-returns
 unfolding cosine_sum of_bits round factorial horner
 returns c = refl
 
-pub cosine-sum-spec : {M : Type 1} → statement M
-cosine-sum-spec = tie.close (tie.spec returns)
+pub cosine_sum_spec : {M : Type 1} → statement M
+cosine_sum_spec = tie.close (tie.spec returns)

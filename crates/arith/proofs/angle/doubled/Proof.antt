@@ -9,5 +9,5 @@ returns : tie.Need-returns
 unfolding doubled of_bits round
 returns c = refl
 
-pub doubled-spec : {M : Type 1} → statement M
-doubled-spec = tie.close (tie.spec returns)
+pub doubled_spec : {M : Type 1} → statement M
+doubled_spec = tie.close (tie.spec returns)

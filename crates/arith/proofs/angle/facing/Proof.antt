@@ -3,6 +3,6 @@ use Rattle.arith.proofs.Ways.{facing-left, facing-right}
 use Rattle.arith.proofs.angle.facing.Statement.{statement}
 use Rattle.arith.proofs.angle.facing.Tie as tie
 
-pub facing-spec : {M : Type 1} → statement M
-facing-spec =
-    tie.close (tie.spec (λ c. facing-left _ _ c.if1.true) (λ c. facing-right _ c.if1.false))
+pub facing_spec : {M : Type 1} → statement M
+facing_spec =
+    tie.close (tie.spec (λ c. facing-left _ _ c.if-x.true) (λ c. facing-right _ c.if-x.false))

@@ -4,6 +4,6 @@ use borrow.Author.Rules.{rules}
 use Rattle.arith.proofs.angle.half_tangent.Statement.{statement}
 use Rattle.arith.proofs.angle.half_tangent.Tie as tie
 
-pub half-tangent-spec : {M : Type 1} → statement M
-half-tangent-spec =
+pub half_tangent_spec : {M : Type 1} → statement M
+half_tangent_spec =
     tie.close (tie.spec (λ c κs. search rules) (λ c. half-tangent-is _ c.sqrt.ensures.is))

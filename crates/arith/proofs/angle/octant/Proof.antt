@@ -7,8 +7,8 @@ use Rattle.arith.proofs.angle.octant.Tie as tie
 returns : tie.Need-returns
 returns c =
     let at-half-tangent2 = c.before in let at-half-tangent = at-half-tangent2.before in
-    octant-is _ at-half-tangent.half-tangent.ensures at-half-tangent2.half-tangent2.ensures c.arc-sum.ensures
+    octant-is _ at-half-tangent.half_tangent.ensures at-half-tangent2.half_tangent-2.ensures c.arc_sum.ensures
 
-pub octant-spec : {M : Type 1} → statement M
-octant-spec =
+pub octant_spec : {M : Type 1} → statement M
+octant_spec =
     tie.close (tie.spec (λ c κs. search rules) (λ c κs. search rules) (λ c κs. search rules) returns)

@@ -4,16 +4,16 @@ use borrow.Author.Rules.{rules}
 use Rattle.arith.proofs.angle.quadrant.Statement.{statement}
 use Rattle.arith.proofs.angle.quadrant.Tie as tie
 
-returns : tie.Need-returns
+returns : tie.Need-returns-then-ax-ay
 returns c =
     let at-if1 = c.before in
-    quadrant-steep _ _ at-if1.if1.true c.octant.ensures
+    quadrant-steep _ _ at-if1.if-ax-ay.true c.octant.ensures
 
-returns-2 : tie.Need-returns-2
+returns-2 : tie.Need-returns
 returns-2 c =
     let at-if1 = c.before in
-    quadrant-flat _ _ at-if1.if1.false c.octant2.ensures
+    quadrant-flat _ _ at-if1.if-ax-ay.false c.octant-2.ensures
 
-pub quadrant-spec : {M : Type 1} → statement M
-quadrant-spec =
+pub quadrant_spec : {M : Type 1} → statement M
+quadrant_spec =
     tie.close (tie.spec (λ c κs. search rules) returns (λ c κs. search rules) returns-2)

@@ -4,16 +4,16 @@ use borrow.Author.Rules.{rules}
 use Rattle.arith.proofs.angle.rem_tau.Statement.{statement}
 use Rattle.arith.proofs.angle.rem_tau.Tie as tie
 
-returns : tie.Need-returns
+returns : tie.Need-returns-then-r
 returns c =
     let at-remainder-tau = c.before in
-    rem_below _ at-remainder-tau.remainder-tau.ensures c.if1.true
+    rem_below _ at-remainder-tau.remainder_tau-r.ensures c.if-r.true
 
-returns-2 : tie.Need-returns-2
+returns-2 : tie.Need-returns-else-r
 returns-2 c =
     let at-remainder-tau = c.before in
-    rem-above _ at-remainder-tau.remainder-tau.ensures c.if1.false
+    rem-above _ at-remainder-tau.remainder_tau-r.ensures c.if-r.false
 
-pub rem-tau-spec : {M : Type 1} → statement M
-rem-tau-spec =
+pub rem_tau_spec : {M : Type 1} → statement M
+rem_tau_spec =
     tie.close (tie.spec (λ c κs. search rules) returns returns-2)

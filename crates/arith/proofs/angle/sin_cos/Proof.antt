@@ -4,17 +4,17 @@ use borrow.Author.Rules.{rules}
 use Rattle.arith.proofs.angle.sin_cos.Statement.{statement}
 use Rattle.arith.proofs.angle.sin_cos.Tie as tie
 
-returns-2 : tie.Need-returns-2
+returns-2 : tie.Need-returns-then-h-2
 returns-2 c =
     let at-if2 = c.before in let at-if1 = at-if2.before in
-    sines-answered (sines-in _ at-if1.if1.false at-if2.if2.true c.halved.ensures)
+    sines-answered (sines-in _ at-if1.if-h.false at-if2.if-h-2.true c.halved.ensures)
 
-returns-3 : tie.Need-returns-3
+returns-3 : tie.Need-returns
 returns-3 c =
     let at-if1 = c.before in
-    sines-answered (sines-high _ at-if1.if1.false c.if2.false)
+    sines-answered (sines-high _ at-if1.if-h.false c.if-h-2.false)
 
-pub sin-cos-spec : {M : Type 1} → statement M
-sin-cos-spec =
+pub sin_cos_spec : {M : Type 1} → statement M
+sin_cos_spec =
     tie.close (tie.spec
-    (λ c. sines-answered (sines-low _ c.if1.true)) (λ c κs. search rules) returns-2 returns-3)
+    (λ c. sines-answered (sines-low _ c.if-h.true)) (λ c κs. search rules) returns-2 returns-3)

@@ -9,5 +9,5 @@ returns : tie.Need-returns
 unfolding sine_sum of_bits round factorial horner
 returns c = refl
 
-pub sine-sum-spec : {M : Type 1} → statement M
-sine-sum-spec = tie.close (tie.spec returns)
+pub sine_sum_spec : {M : Type 1} → statement M
+sine_sum_spec = tie.close (tie.spec returns)

@@ -7,8 +7,8 @@ use Rattle.arith.proofs.angle.sums_at.Tie as tie
 returns : tie.Need-returns
 returns c =
     let at-sine-sum = c.before in
-    sums-at-is _ at-sine-sum.sine-sum.ensures c.cosine-sum.ensures
+    sums-at-is _ at-sine-sum.sine_sum.ensures c.cosine_sum.ensures
 
-pub sums-at-spec : {M : Type 1} → statement M
-sums-at-spec =
+pub sums_at_spec : {M : Type 1} → statement M
+sums_at_spec =
     tie.close (tie.spec (λ c κs. search rules) (λ c κs. search rules) returns)

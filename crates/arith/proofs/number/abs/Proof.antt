@@ -5,11 +5,11 @@ use Rattle.arith.proofs.Ways.{abs-below, abs-above}
 use Rattle.arith.proofs.number.abs.Statement.{statement}
 use Rattle.arith.proofs.number.abs.Tie as tie
 
-returns : tie.Need-returns
+returns : tie.Need-returns-then-x
 returns c =
     let at_entry = c.before in
-    abs-below _ (subst T (sym at_entry.well-formed.0.1) tt) c.if1.true
+    abs-below _ (subst T (sym at_entry.well_formed.0.1) tt) c.if-x.true
 
-pub abs-spec : {M : Type 1} → statement M
-abs-spec =
-    tie.close (tie.spec returns (λ c. abs-above c.if1.false))
+pub abs_spec : {M : Type 1} → statement M
+abs_spec =
+    tie.close (tie.spec returns (λ c. abs-above c.if-x.false))

@@ -11,25 +11,25 @@ use Rattle.arith.proofs.remainder.doubled.Tie as tie
 abbrev d : ℕ
 d = 7074237752028440
 
-abbrev invariant-loop : tie.invariant-loop
+abbrev invariant-loop : tie.invariant-loop-k
 invariant-loop m n r₀ k₀ r k = (r < d) × (r * 2 ^ k % d ≡ m * 2 ^ n % d)
 
-abbrev decreases-loop : tie.decreases-loop
+abbrev decreases-loop : tie.decreases-loop-k
 decreases-loop m n r₀ k₀ r k = k
 
-loop-again : tie.Need-loop-preserved invariant-loop decreases-loop
+loop-again : tie.Need-loop-k-preserved invariant-loop decreases-loop
 loop-again c =
     let at-loop = c.before in
-    let l = at-loop.loop in
-    (mod-lt _ (lit< tt), eleven _ d c.loop-test.true l.invariant.1)
+    let l = at-loop.loop-k in
+    (mod-lt _ (lit< tt), eleven _ d c.loop-k-test.true l.invariant.1)
 
 returns : tie.Need-returns invariant-loop decreases-loop
 returns c =
     let at-loop = c.before in
-    let l = at-loop.loop in
-    rest _ _ d (lt_of_lt_of_le l.invariant.0 (lit≤ tt)) c.loop-test.false l.invariant.1
+    let l = at-loop.loop-k in
+    rest _ _ d (lt_of_lt_of_le l.invariant.0 (lit≤ tt)) c.loop-k-test.false l.invariant.1
 
-pub doubled-spec : {M : Type 1} → statement M
-doubled-spec =
+pub doubled_spec : {M : Type 1} → statement M
+doubled_spec =
     tie.close (tie.spec
     invariant-loop decreases-loop (λ c. (mod-lt _ (lit< tt), mod_times _ _ d)) (λ c. omega arith) (λ c. omega arith) loop-again (λ c. omega arith) returns)

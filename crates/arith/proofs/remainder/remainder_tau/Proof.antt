@@ -4,7 +4,7 @@ use borrow.Author.Rules.{rules}
 use Rattle.arith.proofs.remainder.remainder_tau.Statement.{statement}
 use Rattle.arith.proofs.remainder.remainder_tau.Tie as tie
 
-pub remainder-tau-spec : {M : Type 1} → statement M
-remainder-tau-spec =
+pub remainder_tau_spec : {M : Type 1} → statement M
+remainder_tau_spec =
     tie.close (tie.spec
     (λ c κs. search turned) (λ c. search minus-remainder) (λ c κs. search rules) (λ c. search rules))

@@ -5,20 +5,20 @@ use borrow.Author.Rules.{rules}
 use Rattle.arith.proofs.root.hypot.Statement.{statement}
 use Rattle.arith.proofs.root.hypot.Tie as tie
 
-returns : tie.Need-returns
+returns : tie.Need-returns-then-not-is_finite
 returns c =
     let at-if1 = c.before in let at-is-finite = at-if1.before in
-    c.infinity.ensures ∙ hypot-first _ _ at-is-finite.is-finite.ensures at-if1.if1.true
+    c.infinity.ensures ∙ hypot-first _ _ at-is-finite.is_finite.ensures at-if1.if-not-is_finite.true
 
-returns-2 : tie.Need-returns-2
+returns-2 : tie.Need-returns-then-not-is_finite-2
 returns-2 c =
     let at-if2 = c.before in let at-is-finite2 = at-if2.before in let at-if1 = at-is-finite2.before in
     let at-is-finite = at-if1.before in
-    c.infinity2.ensures ∙ hypot-second _ _ at-is-finite.is-finite.ensures
-    at-if1.if1.false at-is-finite2.is-finite2.ensures at-if2.if2.true
+    c.infinity-then-not-is_finite-2.ensures ∙ hypot-second _ _ at-is-finite.is_finite.ensures
+    at-if1.if-not-is_finite.false at-is-finite2.is_finite-2.ensures at-if2.if-not-is_finite-2.true
 
-pub hypot-spec : {M : Type 1} → statement M
-hypot-spec =
+pub hypot_spec : {M : Type 1} → statement M
+hypot_spec =
     tie.close (tie.spec
     (λ c κs. search rules) (λ c κs. search rules) returns (λ c κs. search rules) (λ c κs. search rules)
     returns-2 (λ c κs. search rules) (λ c κs. search rules) (λ c κs. search rules) (λ c κs. search rules)

@@ -6,20 +6,20 @@ use borrow.Author.Rules.{rules}
 use Rattle.arith.proofs.root.join.Statement.{statement}
 use Rattle.arith.proofs.root.join.Tie as tie
 
-even : tie.Need-returns
+even : tie.Need-returns-then-h-eq0
 even c =
     let at-if1 = c.before in let at_entry = at-if1.before in
     let pre = at_entry.requires in
-    join-even _ pre.0 pre.1 pre.2 pre.3 at-if1.if1.true c.nearest-root.ensures
+    join-even _ pre.0 pre.1 pre.2 pre.3 at-if1.if-h-eq0.true c.nearest_root.ensures
 
-odd : tie.Need-returns-2
+odd : tie.Need-returns-else-h-eq0
 odd c =
     let at-if1 = c.before in let at_entry = at-if1.before in
     let pre = at_entry.requires in
-    join-odd _ pre.0 pre.1 pre.2 pre.3 at-if1.if1.false c.nearest-root2.ensures
+    join-odd _ pre.0 pre.1 pre.2 pre.3 at-if1.if-h-eq0.false c.nearest_root-else-h-eq0.ensures
 
-pub join-spec : {M : Type 1} → statement M
-join-spec =
+pub join_spec : {M : Type 1} → statement M
+join_spec =
     tie.close (tie.spec
     (λ c. search rules) (λ c. search rules) (λ c κs. search rules)
     (λ c. record { fits = lt_of_lt_of_le (even c).0 (lit≤ tt) }) (λ c. search rules) (λ c. search rules)

@@ -7,10 +7,10 @@ use Rattle.arith.specs.Laws.RootHalves.{Halves, halves, d-fits, p-fits, sum_fits
 use Rattle.arith.proofs.root.nearest_root.Statement.{statement}
 use Rattle.arith.proofs.root.nearest_root.Tie as tie
 
-known : (c : tie.After-whole-root) → let at_entry = c.before in Halves at_entry.args.m c.whole-root.result
+known : (c : tie.After-whole_root-s) → let at_entry = c.before in Halves at_entry.args.m c.whole_root-s.result
 known c =
     let at_entry = c.before in
-    halves at_entry.requires.0 at_entry.requires.1 c.whole-root.ensures.0 c.whole-root.ensures.1
+    halves at_entry.requires.0 at_entry.requires.1 c.whole_root-s.ensures.0 c.whole_root-s.ensures.1
 
 positive : (s : ℕ) → 67108864 ≤ s → 0 < s
 positive s h = omega arith
@@ -27,40 +27,40 @@ square-fits {x} h = omega arith
 up_fits : (s : ℕ) {t d : ℕ} → s < 134217728 → t ≤ 67108864 → d ≤ 1 → s * 67108864 + t + d < 2 ^ 64
 up_fits s {t} {d} a b c = omega arith
 
-mul-d-2 : tie.Need-overflow-mul-d-2
-mul-d-2 c = record { fits = d-fits c.whole-root.result (known c).s-hi (known c).d-hi }
+mul-d-2 : tie.Need-overflow_mul-d-2
+mul-d-2 c = record { fits = d-fits c.whole_root-s.result (known c).s-hi (known c).d-hi }
 
-mul-p : tie.Need-overflow-mul-p
-mul-p c = record { fits = p-fits c.whole-root.result (known c).s-hi (known c).p-hi }
+mul-p : tie.Need-overflow_mul-p
+mul-p c = record { fits = p-fits c.whole_root-s.result (known c).s-hi (known c).p-hi }
 
-mul-q : tie.Need-overflow-mul-q
-mul-q c = record { fits = h_fits c.whole-root.result (known c).s-hi }
+mul-q : tie.Need-overflow_mul-q
+mul-q c = record { fits = h_fits c.whole_root-s.result (known c).s-hi }
 
-add-q : tie.Need-overflow-add-q
-add-q c = record { fits = q-fits c.whole-root.result (known c).s-hi (known c).t-hi }
+add-q : tie.Need-overflow_add-q
+add-q c = record { fits = q-fits c.whole_root-s.result (known c).s-hi (known c).t-hi }
 
-add-if1 : tie.Need-overflow-add-if1
-add-if1 c = record { fits = sum_fits c.whole-root.result (known c).s-hi (known c).t-hi (known c).tt-hi }
+add-if1 : tie.Need-overflow_add-t
+add-if1 c = record { fits = sum_fits c.whole_root-s.result (known c).s-hi (known c).t-hi (known c).tt-hi }
 
-add-result : tie.Need-overflow-add-result
+add-result : tie.Need-overflow_add-result
 add-result c =
     let at-whole-root = c.before in
-    record { fits = up_fits at-whole-root.whole-root.result (known at-whole-root).s-hi (known at-whole-root).t-hi (lit≤ tt) }
+    record { fits = up_fits at-whole-root.whole_root-s.result (known at-whole-root).s-hi (known at-whole-root).t-hi (lit≤ tt) }
 
-returns : tie.Need-returns
+returns : tie.Need-returns-then-t-q
 returns c =
     let at-whole-root = c.before in
-    near_up (known at-whole-root) c.if1.true
+    near_up (known at-whole-root) c.if-t-q.true
 
-returns-2 : tie.Need-returns-2
+returns-2 : tie.Need-returns-else-t-q
 returns-2 c =
     let at-whole-root = c.before in
-    near-stay (known at-whole-root) c.if1.false
+    near-stay (known at-whole-root) c.if-t-q.false
 
-pub nearest-root-spec : {M : Type 1} → statement M
-nearest-root-spec =
+pub nearest_root_spec : {M : Type 1} → statement M
+nearest_root_spec =
     tie.close (tie.spec
     (λ c κs. search rules) (λ c. search rules) (λ c. search rules) mul-d-2
-    (λ c. positive c.whole-root.result (known c).s-lo)
-    (λ c. positive c.whole-root.result (known c).s-lo) mul-p mul-q add-q
+    (λ c. positive c.whole_root-s.result (known c).s-lo)
+    (λ c. positive c.whole_root-s.result (known c).s-lo) mul-p mul-q add-q
     (λ c. record { fits = square-fits (known c).tt-hi }) add-if1 add-result returns returns-2)

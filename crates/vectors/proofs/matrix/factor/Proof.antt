@@ -9,22 +9,22 @@ use Rattle.vectors.specs.Matrix.{factor_row_of, factor_of}
 use Rattle.vectors.proofs.matrix.factor.Statement.{statement}
 use Rattle.vectors.proofs.matrix.factor.Tie as tie
 
-abbrev invariant-loop : tie.invariant-loop
+abbrev invariant-loop : tie.invariant-loop-row
 invariant-loop n lower₀ row₀ lower row = (row ≤ 3) × (go lower ≡ loop row (factor_row_of n) lower₀)
 
-abbrev decreases-loop : tie.decreases-loop
+abbrev decreases-loop : tie.decreases-loop-row
 decreases-loop n lower₀ row₀ lower row = 3 - row
 
-returns : tie.Need-returns invariant-loop decreases-loop
+returns : tie.Need-returns-then-not-factor_row invariant-loop decreases-loop
 unfolding factor_of
 returns c = search (loop-stop, was-no)
 
-returns-2 : tie.Need-returns-2 invariant-loop decreases-loop
+returns-2 : tie.Need-returns invariant-loop decreases-loop
 unfolding factor_of
 returns-2 c = search loop-end
 
-pub factor-spec : {M : Type 1} → statement M
-factor-spec =
+pub factor_spec : {M : Type 1} → statement M
+factor_spec =
     tie.close (tie.spec
     invariant-loop decreases-loop (λ c. (omega arith, loop-none _ _)) (λ c κs. omega arith) returns (λ c. omega arith)
     (λ c. omega arith) (λ c. search (loop-more, was-yes, arith)) returns-2)

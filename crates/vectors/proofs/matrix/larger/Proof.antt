@@ -3,8 +3,8 @@ use borrow.Author.Rules.{rules}
 use Rattle.vectors.proofs.matrix.larger.Statement.{statement}
 use Rattle.vectors.proofs.matrix.larger.Tie as tie
 
-pub larger-spec : {M : Type 1} → statement M
-larger-spec =
+pub larger_spec : {M : Type 1} → statement M
+larger_spec =
     tie.close (tie.spec
     (λ c κs. search rules) (λ c κs. search rules) (λ c κs. search rules) (λ c κs. search rules)
     (λ c κs. search rules) (λ c κs. search rules) (λ c. cc))

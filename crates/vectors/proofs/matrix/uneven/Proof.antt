@@ -8,6 +8,6 @@ returns : tie.Need-returns
 unfolding of_bits round
 returns c = simp c.abs.ensures
 
-pub uneven-spec : {M : Type 1} → statement M
-uneven-spec =
+pub uneven_spec : {M : Type 1} → statement M
+uneven_spec =
     tie.close (tie.spec (λ c κs. search rules) returns)

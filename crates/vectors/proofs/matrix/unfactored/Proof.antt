@@ -8,6 +8,6 @@ returns : tie.Need-returns
 unfolding of_bits round
 returns c = simp c.zero.ensures
 
-pub unfactored-spec : {M : Type 1} → statement M
-unfactored-spec =
+pub unfactored_spec : {M : Type 1} → statement M
+unfactored_spec =
     tie.close (tie.spec (λ c κs. search rules) returns)

@@ -8,6 +8,6 @@ returns : tie.Need-returns
 unfolding of_bits round
 returns c = simp c.zero.ensures
 
-pub uninverted-spec : {M : Type 1} → statement M
-uninverted-spec =
+pub uninverted_spec : {M : Type 1} → statement M
+uninverted_spec =
     tie.close (tie.spec (λ c κs. search rules) returns)

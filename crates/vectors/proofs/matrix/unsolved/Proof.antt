@@ -8,5 +8,5 @@ returns : tie.Need-returns
 unfolding of_bits round
 returns c = refl
 
-pub unsolved-spec : {M : Type 1} → statement M
-unsolved-spec = tie.close (tie.spec returns)
+pub unsolved_spec : {M : Type 1} → statement M
+unsolved_spec = tie.close (tie.spec returns)

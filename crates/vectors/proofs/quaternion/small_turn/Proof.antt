@@ -8,5 +8,5 @@ returns : tie.Need-returns
 unfolding of_bits round
 returns c = refl
 
-pub small-turn-spec : {M : Type 1} → statement M
-small-turn-spec = tie.close (tie.spec returns)
+pub small_turn_spec : {M : Type 1} → statement M
+small_turn_spec = tie.close (tie.spec returns)

@@ -4,8 +4,8 @@ use borrow.Author.Rules.{rules}
 use Rattle.vectors.proofs.quaternion.turn_of.Statement.{statement}
 use Rattle.vectors.proofs.quaternion.turn_of.Tie as tie
 
-pub turn-of-spec : {M : Type 1} → statement M
-turn-of-spec =
+pub turn_of_spec : {M : Type 1} → statement M
+turn_of_spec =
     tie.close (tie.spec
     (λ c κs. search rules) (λ c. search delta-wild) (λ c κs. search rules) (λ c κs. search rules)
     (λ c. search delta-long) (λ c κs. search rules) (λ c. search (tiny-is, delta-small))

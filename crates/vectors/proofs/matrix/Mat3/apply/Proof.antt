@@ -8,10 +8,10 @@ returns c =
     let at-struct-known6 = c.before.before.before.before.before.before in
     let at-struct-known3 = at-struct-known6.before.before.before.before.before.before in
     let at-to-columns = at-struct-known3.before.before.before.before.before.before in
-    simp at-to-columns.to-columns.ensures
+    simp at-to-columns.to_columns-c.ensures
 
-pub apply-spec : {M : Type 1} → statement M
-apply-spec =
+pub apply_spec : {M : Type 1} → statement M
+apply_spec =
     tie.close (tie.spec
     (λ c κs. search rules) (λ c. search rules) (λ c. search rules) (λ c. search rules) (λ c. search rules)
     (λ c. search rules) (λ c. search rules) (λ c. search rules) (λ c. search rules) (λ c. search rules)

@@ -4,8 +4,8 @@ use borrow.Author.Rules.{rules}
 use Rattle.vectors.proofs.matrix.Mat3.column.Statement.{statement}
 use Rattle.vectors.proofs.matrix.Mat3.column.Tie as tie
 
-pub column-spec : {M : Type 1} → statement M
-column-spec =
+pub column_spec : {M : Type 1} → statement M
+column_spec =
     tie.close (tie.spec
     (λ c κs. search rules) (λ c. search rules) (λ c. search rules) (λ c. search rules) (λ c. search rules)
     (λ c. search rules) (λ c. search rules) (λ c. search rules) (λ c. search rules) (λ c. search rules)

@@ -6,16 +6,16 @@ use borrow.Author.Rules.{rules}
 use Rattle.vectors.proofs.matrix.Mat3.factor_spd.Statement.{statement}
 use Rattle.vectors.proofs.matrix.Mat3.factor_spd.Tie as tie
 
-returns-4 : tie.Need-returns-4
+returns-4 : tie.Need-returns-then-factor
 unfolding of_bits round
 returns-4 c = search (zero_is, factor-done)
 
-returns-5 : tie.Need-returns-5
+returns-5 : tie.Need-returns
 unfolding of_bits round
 returns-5 c = search (zero_is, factor-not)
 
-pub factor-spd-spec : {M : Type 1} → statement M
-factor-spd-spec =
+pub factor_spd_spec : {M : Type 1} → statement M
+factor_spd_spec =
     tie.close (tie.spec
     (λ c κs. search rules) (λ c κs. search rules) (λ c. search factor-wild) (λ c κs. search rules)
     (λ c κs. search rules) (λ c. search (zero_is, factor-zero)) (λ c κs. search rules) (λ c κs. search rules)

@@ -8,6 +8,6 @@ returns c =
     let at-transposed = c.before in
     simp (c.new.ensures, at-transposed.transposed.ensures)
 
-pub from-rows-spec : {M : Type 1} → statement M
-from-rows-spec =
+pub from_rows_spec : {M : Type 1} → statement M
+from_rows_spec =
     tie.close (tie.spec (λ c κs. search rules) (λ c κs. search rules) returns)

@@ -10,16 +10,16 @@ returns c =
     let at-column3 = c.before in let at-larger2 = at-column3.before in let at-column2 = at-larger2.before in
     let at-larger = at-column2.before in let at-column = at-larger.before in
     simp (
-      c.larger3.ensures,
-      at-column3.column3.ensures,
-      at-larger2.larger2.ensures,
-      at-column2.column2.ensures,
-      at-larger.larger.ensures,
+      c.larger.ensures,
+      at-column3.column-3.ensures,
+      at-larger2.larger-second.ensures,
+      at-column2.column-2.ensures,
+      at-larger.larger-first.ensures,
       at-column.column.ensures,
     )
 
-pub largest-spec : {M : Type 1} → statement M
-largest-spec =
+pub largest_spec : {M : Type 1} → statement M
+largest_spec =
     tie.close (tie.spec
     (λ c κs. search rules) (λ c κs. search rules) (λ c κs. search rules) (λ c κs. search rules)
     (λ c κs. search rules) (λ c κs. search rules) returns)

@@ -6,8 +6,8 @@ use Rattle.vectors.proofs.matrix.Mat3.transpose.Tie as tie
 returns : tie.Need-returns
 returns c =
     let at-transposed = c.before in let at-to-columns = at-transposed.before in
-    simp (c.new.ensures, at-transposed.transposed.ensures, at-to-columns.to-columns.ensures)
+    simp (c.new.ensures, at-transposed.transposed.ensures, at-to-columns.to_columns.ensures)
 
-pub transpose-spec : {M : Type 1} → statement M
-transpose-spec =
+pub transpose_spec : {M : Type 1} → statement M
+transpose_spec =
     tie.close (tie.spec (λ c κs. search rules) (λ c κs. search rules) (λ c κs. search rules) returns)

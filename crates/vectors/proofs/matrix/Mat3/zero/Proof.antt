@@ -8,6 +8,6 @@ returns : tie.Need-returns
 unfolding of_bits round
 returns c = c.new.ensures
 
-pub zero-spec : {M : Type 1} → statement M
-zero-spec =
+pub zero_spec : {M : Type 1} → statement M
+zero_spec =
     tie.close (tie.spec (λ c κs. search rules) returns)

@@ -6,18 +6,18 @@ use borrow.Author.Rules.{rules}
 use Rattle.vectors.proofs.quaternion.Quat.is_normalized.Statement.{statement}
 use Rattle.vectors.proofs.quaternion.Quat.is_normalized.Tie as tie
 
-returns : tie.Need-returns
+returns : tie.Need-returns-then-is_finite
 unfolding of_bits round is_normalized_of
 returns c =
     let at-length-squared = c.before in let at-if1 = at-length-squared.before in let at-is-finite = at-if1.before in
-    simp (c.abs.ensures, at-length-squared.length-squared.ensures, sym at-is-finite.is-finite.ensures ∙ at-if1.if1.true)
+    simp (c.abs.ensures, at-length-squared.length_squared.ensures, sym at-is-finite.is_finite.ensures ∙ at-if1.if-is_finite.true)
 
-returns-2 : tie.Need-returns-2
+returns-2 : tie.Need-returns
 unfolding is_normalized_of
 returns-2 c =
     let at-is-finite = c.before in
-    simp (sym at-is-finite.is-finite.ensures ∙ c.if1.false)
+    simp (sym at-is-finite.is_finite.ensures ∙ c.if-is_finite.false)
 
-pub is-normalized-spec : {M : Type 1} → statement M
-is-normalized-spec =
+pub is_normalized_spec : {M : Type 1} → statement M
+is_normalized_spec =
     tie.close (tie.spec (λ c κs. search rules) (λ c κs. search rules) (λ c κs. search rules) returns returns-2)

@@ -6,7 +6,7 @@ use Rattle.vectors.proofs.quaternion.Quat.length.Tie as tie
 returns : tie.Need-returns
 returns c =
     let at-hypot2 = c.before in let at-hypot = at-hypot2.before in
-    simp (c.hypot3.ensures, at-hypot2.hypot2.ensures, at-hypot.hypot.ensures)
+    simp (c.hypot-3.ensures, at-hypot2.hypot-2.ensures, at-hypot.hypot.ensures)
 
 pub length_spec : {M : Type 1} → statement M
 length_spec =

@@ -4,7 +4,7 @@ use borrow.Author.Rules.{rules}
 use Rattle.vectors.proofs.quaternion.Quat.rotate_as_unit.Statement.{statement}
 use Rattle.vectors.proofs.quaternion.Quat.rotate_as_unit.Tie as tie
 
-pub rotate-as-unit-spec : {M : Type 1} → statement M
-rotate-as-unit-spec =
+pub rotate_as_unit_spec : {M : Type 1} → statement M
+rotate_as_unit_spec =
     tie.close (tie.spec
     (λ c κs. search rules) (λ c κs. search rules) (λ c. search unit-by) (λ c. search unit-wild))

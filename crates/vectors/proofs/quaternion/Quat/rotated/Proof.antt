@@ -4,7 +4,7 @@ use borrow.Author.Rules.{rules}
 use Rattle.vectors.proofs.quaternion.Quat.rotated.Statement.{statement}
 use Rattle.vectors.proofs.quaternion.Quat.rotated.Tie as tie
 
-pub rotated-spec : {M : Type 1} → statement M
-rotated-spec =
+pub rotated_spec : {M : Type 1} → statement M
+rotated_spec =
     tie.close (tie.spec
     (λ c κs. search rules) (λ c κs. search rules) (λ c. search rotated-some) (λ c. search rotated-none))

@@ -4,8 +4,8 @@ use borrow.Author.Rules.{rules}
 use Rattle.vectors.proofs.quaternion.Quat.to_mat3.Statement.{statement}
 use Rattle.vectors.proofs.quaternion.Quat.to_mat3.Tie as tie
 
-pub to-mat3-spec : {M : Type 1} → statement M
-to-mat3-spec =
+pub to_mat3_spec : {M : Type 1} → statement M
+to_mat3_spec =
     tie.close (tie.spec
     (λ c κs. search rules) (λ c. search rules) (λ c. search rules) (λ c κs. search rules)
     (λ c. search mat-none) (λ c κs. search rules) (λ c. search mat-some))

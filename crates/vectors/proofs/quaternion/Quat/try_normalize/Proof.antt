@@ -4,8 +4,8 @@ use borrow.Author.Rules.{rules}
 use Rattle.vectors.proofs.quaternion.Quat.try_normalize.Statement.{statement}
 use Rattle.vectors.proofs.quaternion.Quat.try_normalize.Tie as tie
 
-pub try-normalize-spec : {M : Type 1} → statement M
-try-normalize-spec =
+pub try_normalize_spec : {M : Type 1} → statement M
+try_normalize_spec =
     tie.close (tie.spec
     (λ c κs. search rules) (λ c. search normalize-wild) (λ c κs. search rules)
     (λ c. search (zero_is, normalize-zero)) (λ c κs. search rules) (λ c κs. search rules)

@@ -10,17 +10,17 @@ returns c =
     let at-scale2 = c.before in let at-cross2 = at-scale2.before in let at-add = at-cross2.before in
     let at-scale = at-add.before in let at-cross = at-scale.before.before in let at_new = at-cross.before in
     simp (
-      c.add2.ensures,
-      at-scale2.scale2.ensures,
-      at-cross2.cross2.ensures,
+      c.add-2.ensures,
+      at-scale2.scale-2.ensures,
+      at-cross2.cross.ensures,
       at-add.add.ensures,
       at-scale.scale.ensures,
-      at-cross.cross.ensures,
-      at_new.new.ensures,
+      at-cross.cross-first_cross.ensures,
+      at_new.new-vector_part.ensures,
     )
 
-pub turned-spec : {M : Type 1} → statement M
-turned-spec =
+pub turned_spec : {M : Type 1} → statement M
+turned_spec =
     tie.close (tie.spec
     (λ c κs. search rules) (λ c κs. search rules) (λ c κs. search rules) (λ c κs. search rules)
     (λ c κs. search rules) (λ c κs. search rules) (λ c κs. search rules) returns)

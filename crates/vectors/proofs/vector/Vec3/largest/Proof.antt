@@ -3,8 +3,8 @@ use borrow.Author.Rules.{rules}
 use Rattle.vectors.proofs.vector.Vec3.largest.Statement.{statement}
 use Rattle.vectors.proofs.vector.Vec3.largest.Tie as tie
 
-pub largest-spec : {M : Type 1} → statement M
-largest-spec =
+pub largest_spec : {M : Type 1} → statement M
+largest_spec =
     tie.close (tie.spec
     (λ c κs. search rules) (λ c κs. search rules) (λ c κs. search rules) (λ c κs. search rules)
     (λ c κs. search rules) (λ c. cc))

@@ -6,7 +6,7 @@ use Rattle.vectors.proofs.vector.Vec3.length.Tie as tie
 returns : tie.Need-returns
 returns c =
     let at-hypot = c.before in
-    simp (c.hypot2.ensures, at-hypot.hypot.ensures)
+    simp (c.hypot-2.ensures, at-hypot.hypot.ensures)
 
 pub length_spec : {M : Type 1} → statement M
 length_spec =
