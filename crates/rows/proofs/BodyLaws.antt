@@ -331,22 +331,22 @@ module _ (self : MomentumBody) {unit : Quat} (n : UnitOf self.rotation unit) whe
       unfolding origin_of
       after-origin h e = e ∙ ap tested (sym h ∙ ap not en) ∙ then-go _ (vector-go eo so ∙ ap try_finite es) ∙ then-go _ turns
 
-      pub origin-not-normalized : not b ≡ true → over ≡ origin_of self
+      pub origin-not-normalized : b ≡ false → over ≡ origin_of self
       unfolding ◌>>=◌
-      origin-not-normalized h = after-origin h refl
+      origin-not-normalized h = after-origin (ap not h) refl
 
-      module _ (hn : not b ≡ false) {w : Vec3} (ew : w ≡ add_of t origin) where
+      module _ (hn : b ≡ true) {w : Vec3} (ew : w ≡ add_of t origin) where
         centers : try_finite w ≡ world_center_of_mass_of origin self.rotation self.center_of_mass
         unfolding world_center_of_mass_of
         centers = ap try_finite ew ∙ then-go _ turns
 
         pub origin-center-lost : over ≡ try_finite w → over ≡ origin_of self
         unfolding ◌>>=◌
-        origin-center-lost h = after-origin hn (then-stop _ (h ∙ centers))
+        origin-center-lost h = after-origin (ap not hn) (then-stop _ (h ∙ centers))
 
         pub origin-found : {p : OptionVec3} {x : Vec3} → vector_or arithmetic_overflow p ≡ try_finite w → p ≡ Vector.Some x → go origin ≡ origin_of self
         unfolding ◌>>=◌
-        origin-found ep sp = after-origin hn (then-go _ (vector-go ep sp ∙ centers))
+        origin-found ep sp = after-origin (ap not hn) (then-go _ (vector-go ep sp ∙ centers))
 
 module _ (self : MomentumBody) (old : BodyState) where
   pub state-without-unit : quat_try_normalize_of self.rotation ≡ None → over ≡ state_of self old

@@ -48,15 +48,15 @@ module _ (s : List Float) (i : ℕ) where
   unfolding tab finite_values
   finite-none a b = refl
 
-  pub finite-more : (k : ℕ) {t : Bool} → Finite k → t ≡ is_finite (at s (i + 14 * k + 12)) → not t ≡ false → Finite (k + 1)
+  pub finite-more : (k : ℕ) {t : Bool} → Finite k → t ≡ is_finite (at s (i + 14 * k + 12)) → t ≡ true → Finite (k + 1)
   unfolding tab
   finite-more k {t} h e n a b =
       let last = is_finite (at s (i + 14 * k + 12)) in
       rw (add-one k)
-      (sym (finite-end (rows_at s i a b k) (row_at s (i + 14 * k) a b) ∙ ap (λ (x : Bool). x && last) (sym (h a b)) ∙ sym e ∙ not-no t n))
+      (sym (finite-end (rows_at s i a b k) (row_at s (i + 14 * k) a b) ∙ ap (λ (x : Bool). x && last) (sym (h a b)) ∙ sym e ∙ n))
 
-  pub finite-stop : (n k : ℕ) {t : Bool} → k < n → t ≡ is_finite (at s (i + 14 * k + 12)) → not t ≡ true → (a b : ℕ) → false ≡ finite_values (rows_at s i a b n)
-  finite-stop n k {t} h e q a b = finite-lost (λ (j : ℕ). row_at s (i + 14 * j) a b) n k h (sym e ∙ not_yes t q)
+  pub finite-stop : (n k : ℕ) {t : Bool} → k < n → t ≡ is_finite (at s (i + 14 * k + 12)) → t ≡ false → (a b : ℕ) → false ≡ finite_values (rows_at s i a b n)
+  finite-stop n k {t} h e q a b = finite-lost (λ (j : ℕ). row_at s (i + 14 * j) a b) n k h (sym e ∙ q)
 
   pub finite-all : {n k : ℕ} → k ≤ n → n ≤ k → Finite k → Finite n
   finite-all {n} {k} h g f =

@@ -90,13 +90,13 @@ ran-number x r e = here r ∙ ap refusal_number e
 
 -- the code asked `done`, which answered b
 module _ {A : Type 0} (x : A) (r : End) {b : Bool} (eb : b ≡ is_done r) where
-  pub fails : not b ≡ true → ran_as r x ≡ stop (fault_of r)
-  fails h = ran-failed x r (sym eb ∙ not_yes b h)
+  pub fails : b ≡ false → ran_as r x ≡ stop (fault_of r)
+  fails h = ran-failed x r (sym eb ∙ h)
 
-  pub end_goes : {d : Result A} → ran_as r x ≡ d → not b ≡ false → go x ≡ d
-  end_goes e h = sym (ran-done x r (sym eb ∙ not-no b h)) ∙ e
+  pub end_goes : {d : Result A} → ran_as r x ≡ d → b ≡ true → go x ≡ d
+  end_goes e h = sym (ran-done x r (sym eb ∙ h)) ∙ e
 
-  pub end-stops : {d : Result A} → ran_as r x ≡ d → not b ≡ true → stop (fault_of r) ≡ d
+  pub end-stops : {d : Result A} → ran_as r x ≡ d → b ≡ false → stop (fault_of r) ≡ d
   end-stops e h = sym (fails h) ∙ e
 
 -- ---- a body that was to be moved

@@ -4,16 +4,14 @@ use borrow.Author.Rules.{rules}
 use Rattle.rows.proofs.body.finite.Statement.{statement}
 use Rattle.rows.proofs.body.finite.Tie as tie
 
-returns : tie.Need-returns
+returns : tie.Need-returns-then-is_finite
 returns c =
-    let at-is-finite = c.before in
-    finite-yes _ at-is-finite.is-finite.ensures c.if1.true
+    finite-yes _ c.is_finite.ensures c.if-is_finite.true
 
-returns-2 : tie.Need-returns-2
+returns-2 : tie.Need-returns
 returns-2 c =
-    let at-is-finite = c.before in
-    finite-no _ at-is-finite.is-finite.ensures c.if1.false
+    finite-no _ c.is_finite.ensures c.if-is_finite.false
 
-pub finite-spec : {M : Type 1} → statement M
-finite-spec =
+pub finite_spec : {M : Type 1} → statement M
+finite_spec =
     tie.close (tie.spec (λ c κs. search rules) returns returns-2)

@@ -5,8 +5,8 @@ use borrow.Author.Rules.{rules}
 use Rattle.rows.proofs.body.in_frame.Statement.{statement}
 use Rattle.rows.proofs.body.in_frame.Tie as tie
 
-pub in-frame-spec : {M : Type 1} → statement M
-in-frame-spec =
+pub in_frame_spec : {M : Type 1} → statement M
+in_frame_spec =
     tie.close (tie.spec
     (λ c κs. search rules) (λ c κs. search rules) (λ c. search rules) (λ c κs. search rules)
     (λ c κs. search rules) (λ c. search rules) (λ c. search (framed, some_go))

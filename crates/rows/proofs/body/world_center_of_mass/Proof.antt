@@ -5,8 +5,8 @@ use borrow.Author.Rules.{rules}
 use Rattle.rows.proofs.body.world_center_of_mass.Statement.{statement}
 use Rattle.rows.proofs.body.world_center_of_mass.Tie as tie
 
-pub world-center-of-mass-spec : {M : Type 1} → statement M
-world-center-of-mass-spec =
+pub world_center_of_mass_spec : {M : Type 1} → statement M
+world_center_of_mass_spec =
     tie.close (tie.spec
     (λ c κs. search rules) (λ c. search rules) (λ c κs. search rules) (λ c κs. search rules)
     (λ c. search rules) (λ c. search (answers, centered)) (λ c. search (answers, center-lost)))

@@ -6,22 +6,21 @@ use borrow.Author.Rules.{rules}
 use Rattle.rows.proofs.geometry.aligned.Statement.{statement}
 use Rattle.rows.proofs.geometry.aligned.Tie as tie
 
-returns-2 : tie.Need-returns-2
+returns-2 : tie.Need-returns-in_default-rotate_as_unit
 returns-2 c =
-    let at_turn = c.before.before in let at-z = at_turn.before.before in let at-rotate-vector = at-z.before.before in
     λ q u.
     aligned-no-a q _
-    (axis-turned _ (some_go arithmetic_overflow at-rotate-vector.rotate-vector.ensures at-z.z.given.1))
-    (axis-turned q (turned-stop u _ at_turn.rotate-as-unit.ensures c.enum-told2.given.1))
+    (axis-turned _ (some_go arithmetic_overflow c.rotate_vector.ensures c.in-Some.is))
+    (axis-turned q (turned-stop u _ c.rotate_as_unit.ensures c.in_default-rotate_as_unit.is))
 
-returns-3 : tie.Need-returns-3
+returns-3 : tie.Need-returns-then-dot
 returns-3 c = search (answers, aligned-apart, axis-turned, turned-go)
 
-returns-4 : tie.Need-returns-4
+returns-4 : tie.Need-returns
 returns-4 c = search (aligned-is, axis-turned, turned-go, some_go)
 
-pub aligned-spec : {M : Type 1} → statement M
-aligned-spec =
+pub aligned_spec : {M : Type 1} → statement M
+aligned_spec =
     tie.close (tie.spec
     (λ c κs. search rules) (λ c. search rules) (λ c. search rules)
     (λ c. search (answers, aligned-no-b, axis-turned)) (λ c κs. search rules) (λ c. search rules)

@@ -5,14 +5,13 @@ use native.Mathlib.Omega.{arith}
 use Rattle.rows.proofs.geometry.append.Statement.{statement}
 use Rattle.rows.proofs.geometry.append.Tie as tie
 
-append-row-requires : tie.Need-append-row-requires
+append-row-requires : tie.Need-append_row-requires
 append-row-requires c κs =
-    let at-written = c.before.before in let at_entry = at-written.before.before.before in
-    omega (arith, at_entry.requires, count-rows at-written.written.given.1)
+    omega (arith, c.requires, count-rows c.in-Rows.is)
 
-pub append-spec : {M : Type 1} → statement M
-append-spec =
+pub append_spec : {M : Type 1} → statement M
+append_spec =
     tie.close (tie.spec
     (λ c. search rules) append-row-requires (λ c. search rules) (λ c. search rules) (λ c. search rules)
-    (λ c. search append-rows) (λ c. append-nonconvergent c.enum_told.given.1)
-    (λ c. append-overflow c.enum-told2.given.1))
+    (λ c. search append-rows) (λ c. append-nonconvergent c.in-NonConvergent.is)
+    (λ c. append-overflow c.in-ArithmeticOverflow.is))

@@ -7,20 +7,20 @@ use Rattle.rows.specs.declared.geometry.RowAnswer.TheVariants as Row
 use Rattle.rows.proofs.geometry.append_row.Statement.{statement}
 use Rattle.rows.proofs.geometry.append_row.Tie as tie
 
-returns-2 : tie.Need-returns-2
+returns-2 : tie.Need-returns-in-Free
 unfolding There
-returns-2 c = append-none Row.Free tt c.enum_told.given.1 refl
+returns-2 c = append-none Row.Free tt c.in-Free.is refl
 
-returns-3 : tie.Need-returns-3
+returns-3 : tie.Need-returns-in-NonConvergent
 unfolding There
-returns-3 c = append-none Row.NonConvergent tt c.enum-told2.given.1 refl
+returns-3 c = append-none Row.NonConvergent tt c.in-NonConvergent.is refl
 
-returns-4 : tie.Need-returns-4
+returns-4 : tie.Need-returns-in-ArithmeticOverflow
 unfolding There
-returns-4 c = append-none Row.ArithmeticOverflow tt c.enum-told3.given.1 refl
+returns-4 c = append-none Row.ArithmeticOverflow tt c.in-ArithmeticOverflow.is refl
 
-pub append-row-spec : {M : Type 1} → statement M
-append-row-spec =
+pub append_row_spec : {M : Type 1} → statement M
+append_row_spec =
     tie.close (tie.spec
     (λ c. search rules) (λ c. search rules) (λ c. search rules) (λ c κs. search rules) (λ c. search rules)
     (λ c. search rules) (λ c. search rules) (λ c. search rules) (λ c. search rules) (λ c. search append-value)

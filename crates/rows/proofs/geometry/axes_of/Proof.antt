@@ -5,9 +5,9 @@ use mathlib.Core.Path.{ap, sym}
 use Rattle.rows.proofs.geometry.axes_of.Statement.{statement}
 use Rattle.rows.proofs.geometry.axes_of.Tie as tie
 
-pub axes-of-spec : {M : Type 1} → statement M
-axes-of-spec =
+pub axes_of_spec : {M : Type 1} → statement M
+axes_of_spec =
     tie.close (tie.spec
     (λ c. search rules) (λ c. search rules) (λ c. search rules)
-    (λ c. ap axes_of (sym c.enum_told.given.1)) (λ c. ap axes_of (sym c.enum-told2.given.1))
-    (λ c. ap axes_of (sym c.enum-told3.given.1)))
+    (λ c. ap axes_of (sym c.in-Point.is)) (λ c. ap axes_of (sym c.in-Line.is))
+    (λ c. ap axes_of (sym c.in-Plane.is)))

@@ -10,21 +10,19 @@ use native.Mathlib.Omega.{arith}
 use Rattle.rows.proofs.geometry.clear.Statement.{statement}
 use Rattle.rows.proofs.geometry.clear.Tie as tie
 
-abbrev invariant-loop : tie.invariant-loop
+abbrev invariant-loop : tie.invariant-loop-k
 invariant-loop s₀ at size k₀ s k = (k ≤ size) × (length s ≡ length s₀) × (Filled at k (λ _. ratio 0 1) s₀ s)
 
-abbrev decreases-loop : tie.decreases-loop
+abbrev decreases-loop : tie.decreases-loop-k
 decreases-loop s₀ at size k₀ s k = size - k
 
-loop-again : tie.Need-loop-preserved invariant-loop decreases-loop
+loop-again : tie.Need-loop-k-preserved invariant-loop decreases-loop
 loop-again c =
-    let at-loop = c.before in
-    (omega arith, simp length-set (omega arith), filled_more at-loop.loop.invariant.2 (omega arith) zero_is)
+    (omega arith, simp length-set (omega arith), filled_more c.loop-k.invariant.2 (omega arith) zero_is)
 
 returns : tie.Need-returns invariant-loop decreases-loop
 returns c =
-    let at-loop = c.before in
-    filled-all (omega arith) (omega arith) at-loop.loop.invariant.2
+    filled-all (omega arith) (omega arith) c.loop-k.invariant.2
 
 pub clear_spec : {M : Type 1} → statement M
 clear_spec =

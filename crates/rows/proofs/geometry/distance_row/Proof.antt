@@ -6,17 +6,17 @@ use borrow.Author.Rules.{rules}
 use Rattle.rows.proofs.geometry.distance_row.Statement.{statement}
 use Rattle.rows.proofs.geometry.distance_row.Tie as tie
 
-returns : tie.Need-returns
+returns : tie.Need-returns-in_default
 returns c = search (answers, distance-no-length, single-stop)
 
-returns-2 : tie.Need-returns-2
+returns-2 : tie.Need-returns-in_default-try_normalize
 returns-2 c = search (distance-no-axis, single-stop, none-stop)
 
-returns-3 : tie.Need-returns-3
+returns-3 : tie.Need-returns-in_default-tolerance
 returns-3 c = search (distance-no-tolerance, single-stop, tolerance-stop)
 
-pub distance-row-spec : {M : Type 1} → statement M
-distance-row-spec =
+pub distance_row_spec : {M : Type 1} → statement M
+distance_row_spec =
     tie.close (tie.spec
     (λ c κs. search rules) (λ c. search rules) (λ c. search rules) returns (λ c κs. search rules)
     (λ c. search rules) (λ c. search rules) returns-2 (λ c κs. search rules) (λ c. search rules)

@@ -4,11 +4,10 @@ use borrow.Author.Rules.{rules}
 use Rattle.rows.proofs.geometry.half_turned.Statement.{statement}
 use Rattle.rows.proofs.geometry.half_turned.Tie as tie
 
-returns : tie.Need-returns
+returns : tie.Need-returns-then-norm_squared
 returns c =
-    let at-if1 = c.before in
-    half-yes _ _ c.any-locked.ensures at-if1.if1.true
+    half-yes _ _ c.any_locked.ensures c.if-norm_squared.true
 
-pub half-turned-spec : {M : Type 1} → statement M
-half-turned-spec =
-    tie.close (tie.spec (λ c κs. search rules) returns (λ c. half-no _ _ c.if1.false))
+pub half_turned_spec : {M : Type 1} → statement M
+half_turned_spec =
+    tie.close (tie.spec (λ c κs. search rules) returns (λ c. half-no _ _ c.if-norm_squared.false))

@@ -6,15 +6,15 @@ use native.Mathlib.Omega.{arith}
 use Rattle.rows.proofs.geometry.linear_count.Statement.{statement}
 use Rattle.rows.proofs.geometry.linear_count.Tie as tie
 
-returns : tie.Need-returns
-returns c = (ap linear_count (sym c.enum_told.given.1), omega arith)
+returns : tie.Need-returns-in-Point
+returns c = (ap linear_count (sym c.in-Point.is), omega arith)
 
-returns-2 : tie.Need-returns-2
-returns-2 c = (ap linear_count (sym c.enum-told2.given.1), omega arith)
+returns-2 : tie.Need-returns-in-Line
+returns-2 c = (ap linear_count (sym c.in-Line.is), omega arith)
 
-returns-3 : tie.Need-returns-3
-returns-3 c = (ap linear_count (sym c.enum-told3.given.1), omega arith)
+returns-3 : tie.Need-returns-in-Plane
+returns-3 c = (ap linear_count (sym c.in-Plane.is), omega arith)
 
-pub linear-count-spec : {M : Type 1} → statement M
-linear-count-spec =
+pub linear_count_spec : {M : Type 1} → statement M
+linear_count_spec =
     tie.close (tie.spec (λ c. search rules) (λ c. search rules) (λ c. search rules) returns returns-2 returns-3)

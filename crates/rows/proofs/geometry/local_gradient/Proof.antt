@@ -4,8 +4,8 @@ use borrow.Author.Rules.{rules}
 use Rattle.rows.proofs.geometry.local_gradient.Statement.{statement}
 use Rattle.rows.proofs.geometry.local_gradient.Tie as tie
 
-pub local-gradient-spec : {M : Type 1} → statement M
-local-gradient-spec =
+pub local_gradient_spec : {M : Type 1} → statement M
+local_gradient_spec =
     tie.close (tie.spec
     (λ c κs. search rules) (λ c κs. search rules) (λ c κs. search rules) (λ c κs. search rules)
     (λ c κs. search rules) (λ c κs. search rules) (λ c κs. search rules) (λ c. search local-is))

@@ -4,7 +4,7 @@ use native.Mathlib.Omega.{arith}
 use Rattle.rows.proofs.geometry.one_if_equal.Statement.{statement}
 use Rattle.rows.proofs.geometry.one_if_equal.Tie as tie
 
-pub one-if-equal-spec : {M : Type 1} → statement M
-one-if-equal-spec =
+pub one_if_equal_spec : {M : Type 1} → statement M
+one_if_equal_spec =
     tie.close (tie.spec
-    (λ c. (one-yes c.if1.true, omega arith)) (λ c. (one-no c.if1.false, omega arith)))
+    (λ c. (one-yes c.if-a-b.true, omega arith)) (λ c. (one-no c.if-a-b.false, omega arith)))

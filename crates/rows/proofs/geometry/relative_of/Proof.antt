@@ -5,8 +5,8 @@ use borrow.Author.Rules.{rules}
 use Rattle.rows.proofs.geometry.relative_of.Statement.{statement}
 use Rattle.rows.proofs.geometry.relative_of.Tie as tie
 
-pub relative-of-spec : {M : Type 1} → statement M
-relative-of-spec =
+pub relative_of_spec : {M : Type 1} → statement M
+relative_of_spec =
     tie.close (tie.spec
     (λ c κs. search rules) (λ c κs. search rules) (λ c κs. search rules) (λ c. search rules)
     (λ c. search rules) (λ c. search (answers, relative-no-unit)) (λ c κs. search rules)

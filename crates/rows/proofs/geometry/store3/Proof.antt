@@ -6,8 +6,8 @@ use native.Mathlib.Omega.{arith}
 use Rattle.rows.proofs.geometry.store3.Statement.{statement}
 use Rattle.rows.proofs.geometry.store3.Tie as tie
 
-pub store3-spec : {M : Type 1} → statement M
-store3-spec =
+pub store3_spec : {M : Type 1} → statement M
+store3_spec =
     tie.close (tie.spec
     (λ c. search rules) (λ c. search rules) (λ c. search rules) (λ c. search rules)
     (λ c. simp length-set (omega arith)) (λ c. search rules) (λ c. search rules)

@@ -6,13 +6,11 @@ use Rattle.rows.proofs.geometry.swing_row.Tie as tie
 
 returns : tie.Need-returns
 returns c =
-    let at-sub = c.before.before.before.before.before in let at-scale2 = at-sub.before in
-    let at-scale = at-scale2.before.before.before in
     λ q u.
     swing-is _ q _ _
-    at-scale.scale.ensures at-scale2.scale2.ensures at-sub.sub.ensures (c.gradient-row.ensures q u)
+    c.scale.ensures c.scale-2.ensures c.sub-gradient.ensures (c.gradient_row.ensures q u)
 
-pub swing-row-spec : {M : Type 1} → statement M
-swing-row-spec =
+pub swing_row_spec : {M : Type 1} → statement M
+swing_row_spec =
     tie.close (tie.spec
     (λ c κs. search rules) (λ c κs. search rules) (λ c κs. search rules) (λ c κs. search rules) returns)

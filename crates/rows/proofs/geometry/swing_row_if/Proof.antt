@@ -4,14 +4,13 @@ use borrow.Author.Rules.{rules}
 use Rattle.rows.proofs.geometry.swing_row_if.Statement.{statement}
 use Rattle.rows.proofs.geometry.swing_row_if.Tie as tie
 
-returns : tie.Need-returns
+returns : tie.Need-returns-then-limit
 returns c =
-    let at-if1 = c.before in
-    λ q u. row-locked _ (zero_test _ at-if1.if1.true) (c.swing-row.ensures q u)
+    λ q u. row-locked _ (zero_test _ c.if-limit.true) (c.swing_row.ensures q u)
 
-returns-2 : tie.Need-returns-2
-returns-2 c = λ q u. row-free _ (zero_test _ c.if1.false)
+returns-2 : tie.Need-returns
+returns-2 c = λ q u. row-free _ (zero_test _ c.if-limit.false)
 
-pub swing-row-if-spec : {M : Type 1} → statement M
-swing-row-if-spec =
+pub swing_row_if_spec : {M : Type 1} → statement M
+swing_row_if_spec =
     tie.close (tie.spec (λ c κs. search rules) returns returns-2)

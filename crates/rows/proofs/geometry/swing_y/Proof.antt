@@ -4,6 +4,6 @@ use borrow.Author.Rules.{rules}
 use Rattle.rows.proofs.geometry.swing_y.Statement.{statement}
 use Rattle.rows.proofs.geometry.swing_y.Tie as tie
 
-pub swing-y-spec : {M : Type 1} → statement M
-swing-y-spec =
+pub swing_y_spec : {M : Type 1} → statement M
+swing_y_spec =
     tie.close (tie.spec (λ c κs. search rules) (λ c. swing-y-is c.new.ensures))

@@ -5,8 +5,8 @@ use borrow.Author.Rules.{rules}
 use Rattle.rows.proofs.geometry.tolerance.Statement.{statement}
 use Rattle.rows.proofs.geometry.tolerance.Tie as tie
 
-pub tolerance-spec : {M : Type 1} → statement M
-tolerance-spec =
+pub tolerance_spec : {M : Type 1} → statement M
+tolerance_spec =
     tie.close (tie.spec
     (λ c κs. search rules) (λ c. search rules) (λ c. search rules) (λ c. search (answers, tolerance-no-a))
     (λ c κs. search rules) (λ c. search rules) (λ c. search rules) (λ c. search (tolerance-no-b, number-stop))

@@ -5,8 +5,8 @@ use native.Mathlib.Omega.{arith}
 use Rattle.rows.proofs.geometry.turning_count.Statement.{statement}
 use Rattle.rows.proofs.geometry.turning_count.Tie as tie
 
-pub turning-count-spec : {M : Type 1} → statement M
-turning-count-spec =
+pub turning_count_spec : {M : Type 1} → statement M
+turning_count_spec =
     tie.close (tie.spec
     (λ c. search rules) (λ c. search rules) (λ c. search rules) (λ c κs. search rules) (λ c κs. search rules)
     (λ c. search rules) (λ c κs. search rules) (λ c. search rules) (λ c. search rules) (λ c. search rules)

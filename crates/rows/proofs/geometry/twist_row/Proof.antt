@@ -4,17 +4,15 @@ use borrow.Author.Rules.{rules}
 use Rattle.rows.proofs.geometry.twist_row.Statement.{statement}
 use Rattle.rows.proofs.geometry.twist_row.Tie as tie
 
-returns-3 : tie.Need-returns-3
+returns-3 : tie.Need-returns
 returns-3 c =
-    let at-scale = c.before.before.before in let at-if1 = at-scale.before.before.before in let at-abs = at-if1.before in
-    let at-rem-tau = at-abs.before in let at-half = at-rem-tau.before.before in let at-atan2 = at-half.before.before in
     λ q u.
     twist-is _ q _ _
-    at-atan2.atan2.ensures.is at-half.half.given.1 at-rem-tau.rem-tau.ensures at-abs.abs.ensures
-    at-if1.if1.false at-scale.scale.ensures (c.gradient-row.ensures q u)
+    c.atan2.ensures.is c.in-Value.is c.rem_tau-value.ensures c.abs.ensures
+    c.if-abs.false c.scale-gradient.ensures (c.gradient_row.ensures q u)
 
-pub twist-row-spec : {M : Type 1} → statement M
-twist-row-spec =
+pub twist_row_spec : {M : Type 1} → statement M
+twist_row_spec =
     tie.close (tie.spec
     (λ c κs. search rules) (λ c. search rules) (λ c. search rules) (λ c. search (single-stop, twist-refused))
     (λ c κs. search rules) (λ c κs. search rules) (λ c. search (single-stop, twist-half-turn))

@@ -4,14 +4,13 @@ use borrow.Author.Rules.{rules}
 use Rattle.rows.proofs.geometry.twist_row_if.Statement.{statement}
 use Rattle.rows.proofs.geometry.twist_row_if.Tie as tie
 
-returns : tie.Need-returns
+returns : tie.Need-returns-then-cone
 returns c =
-    let at-if1 = c.before in
-    λ q u. row-locked _ at-if1.if1.true (c.twist-row.ensures q u)
+    λ q u. row-locked _ c.if-cone.true (c.twist_row.ensures q u)
 
-returns-2 : tie.Need-returns-2
-returns-2 c = λ q u. row-free _ c.if1.false
+returns-2 : tie.Need-returns
+returns-2 c = λ q u. row-free _ c.if-cone.false
 
-pub twist-row-if-spec : {M : Type 1} → statement M
-twist-row-if-spec =
+pub twist_row_if_spec : {M : Type 1} → statement M
+twist_row_if_spec =
     tie.close (tie.spec (λ c κs. search rules) returns returns-2)

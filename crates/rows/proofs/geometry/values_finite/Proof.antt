@@ -9,14 +9,14 @@ use native.Mathlib.Omega.{arith}
 use Rattle.rows.proofs.geometry.values_finite.Statement.{statement}
 use Rattle.rows.proofs.geometry.values_finite.Tie as tie
 
-abbrev invariant-loop : tie.invariant-loop
+abbrev invariant-loop : tie.invariant-loop-k
 invariant-loop s at count k₀ k = (k ≤ count) × ((a b : ℕ) → true ≡ finite_values (rows_at s at a b k))
 
-abbrev decreases-loop : tie.decreases-loop
+abbrev decreases-loop : tie.decreases-loop-k
 decreases-loop s at count k₀ k = count - k
 
-pub values-finite-spec : {M : Type 1} → statement M
-values-finite-spec =
+pub values_finite_spec : {M : Type 1} → statement M
+values_finite_spec =
     tie.close (tie.spec
     invariant-loop decreases-loop (λ c. search (finite-none, arith)) (λ c. omega arith) (λ c. omega arith)
     (λ c. omega arith) (λ c. omega arith) (λ c. omega arith) (λ c κs. omega arith) (λ c. search finite-stop)

@@ -9,38 +9,29 @@ use native.Mathlib.Omega.{arith}
 use Rattle.rows.proofs.geometry.write_align.Statement.{statement}
 use Rattle.rows.proofs.geometry.write_align.Tie as tie
 
-append-requires-2 : tie.Need-append-requires-2
+append-requires-2 : tie.Need-append-requires
 append-requires-2 c κs =
-    let at_one = c.before.before.before.before in let at-z = at_one.before.before.before.before in
-    let at_entry = at-z.before.before.before.before in
-    room-here (room_after at_entry.requires.0 at_one.append.ensures) (omega arith)
+    room-here (room_after c.requires.0 c.append-one.ensures) (omega arith)
 
-returns : tie.Need-returns
+returns : tie.Need-returns-in-Value
 returns c =
-    let at-two = c.before.before in let at-align-row2 = at-two.before.before in
-    let at_one = at-align-row2.before.before.before in let at-align-row = at_one.before.before in
-    let at-z = at-align-row.before.before in let at_Aligned = at-z.before.before in let at_entry = at_Aligned.before.before in
-    let u = at_entry.requires.1 in
-    align-adds _ _ (axis-as (at_Aligned.aligned.ensures _ u) at-z.z.given.1)
-    at_one.append.ensures (at-align-row.align-row.ensures _ u)
-    at-two.append2.ensures (at-align-row2.align-row2.ensures _ u)
+    let u = c.requires.1 in
+    align-adds _ _ (axis-as (c.aligned.ensures _ u) c.in-Value.is)
+    c.append-one.ensures (c.align_row-x.ensures _ u)
+    c.append.ensures (c.align_row-y.ensures _ u)
 
-returns-2 : tie.Need-returns-2
+returns-2 : tie.Need-returns-in-NonConvergent
 returns-2 c =
-    let at-append3 = c.before.before in let at_told = at-append3.before.before in let at_Aligned = at_told.before.before in
-    let at_entry = at_Aligned.before.before in
     align-lost _ _ non_convergent refl
-    (axis-as (at_Aligned.aligned.ensures _ at_entry.requires.1) at_told.enum_told.given.1) at-append3.append3.ensures
+    (axis-as (c.aligned.ensures _ c.requires.1) c.in-NonConvergent.is) c.append-in-NonConvergent.ensures
 
-returns-3 : tie.Need-returns-3
+returns-3 : tie.Need-returns-in-ArithmeticOverflow
 returns-3 c =
-    let at-append4 = c.before.before in let at_told = at-append4.before.before in let at_Aligned = at_told.before.before in
-    let at_entry = at_Aligned.before.before in
     align-lost _ _ arithmetic_overflow refl
-    (axis-as (at_Aligned.aligned.ensures _ at_entry.requires.1) at_told.enum-told2.given.1) at-append4.append4.ensures
+    (axis-as (c.aligned.ensures _ c.requires.1) c.in-ArithmeticOverflow.is) c.append-in-ArithmeticOverflow.ensures
 
-pub write-align-spec : {M : Type 1} → statement M
-write-align-spec =
+pub write_align_spec : {M : Type 1} → statement M
+write_align_spec =
     tie.close (tie.spec
     (λ c κs. search rules) (λ c. search rules) (λ c κs. search rules) (λ c κs. search (room-here, arith))
     (λ c κs. search rules) append-requires-2 (λ c. search rules) (λ c κs. search (room-here, arith))

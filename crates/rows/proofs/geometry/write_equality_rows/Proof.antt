@@ -4,9 +4,9 @@ use borrow.Author.Rules.{rules}
 use Rattle.rows.proofs.geometry.write_equality_rows.Statement.{statement}
 use Rattle.rows.proofs.geometry.write_equality_rows.Tie as tie
 
-pub write-equality-rows-spec : {M : Type 1} → statement M
-write-equality-rows-spec =
+pub write_equality_rows_spec : {M : Type 1} → statement M
+write_equality_rows_spec =
     tie.close (tie.spec
-    (λ c κs. let at_entry = c.before.before in at_entry.requires) (λ c. search rules) (λ c. search rules) (λ c κs. search rules)
+    (λ c κs. c.requires) (λ c. search rules) (λ c. search rules) (λ c κs. search rules)
     (λ c. search rules) (λ c κs. search rules) (λ c. search rules) (λ c. search writes-rows)
     (λ c. search rules) (λ c. search writes-nonconvergent) (λ c. search rules) (λ c. search writes-overflow))

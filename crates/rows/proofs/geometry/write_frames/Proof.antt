@@ -11,45 +11,36 @@ use Rattle.rows.specs.declared.geometry.Written.TheVariants as Written
 use Rattle.rows.proofs.geometry.write_frames.Statement.{statement}
 use Rattle.rows.proofs.geometry.write_frames.Tie as tie
 
-returns : tie.Need-returns
+returns : tie.Need-returns-in_default
 returns c = search (tolerance-stop, frames-early, long-row)
 
-values-finite-requires : tie.Need-values-finite-requires
+values-finite-requires : tie.Need-values_finite-requires
 values-finite-requires c κs =
-    let at-written = c.before.before in let at-turning = at-written.before.before.before.before in
-    let at-linear = at-turning.before.before.before.before in let at_unit = at-linear.before.before.before in
-    let at-tolerance2 = at_unit.before.before.before.before in let at_entry = at-tolerance2.before.before.before.before in
-    let all = at-turning.write-turning.ensures _ _ at-linear.write-linear.ensures in
-    omega (arith, all.kept.size, all.within, count-rows at-written.written.given.1, at_entry.requires)
+    let all = c.write_turning-written.ensures _ _ c.write_linear-along.ensures in
+    omega (arith, all.kept.size, all.within, count-rows c.in-Rows.is, c.requires)
 
-returns-3 : tie.Need-returns-3
+returns-3 : tie.Need-returns-then-values_finite
 returns-3 c =
-    let at-values-finite = c.before in let at-written = at-values-finite.before.before.before in
-    let at-turning = at-written.before.before.before.before in let at-linear = at-turning.before.before.before.before in
-    frames-finite _ _ _ _ (at-turning.write-turning.ensures _ _ at-linear.write-linear.ensures)
-    at-written.written.given.1 (at-values-finite.values-finite.ensures _ _) c.if1.true
+    frames-finite _ _ _ _ (c.write_turning-written.ensures _ _ c.write_linear-along.ensures)
+    c.in-Rows.is (c.values_finite.ensures _ _) c.if-values_finite.true
 
-returns-4 : tie.Need-returns-4
+returns-4 : tie.Need-returns-else-values_finite
 returns-4 c =
-    let at-values-finite = c.before in let at-written = at-values-finite.before.before.before in
-    let at-turning = at-written.before.before.before.before in let at-linear = at-turning.before.before.before.before in
-    frames-overflow _ _ _ _ (at-turning.write-turning.ensures _ _ at-linear.write-linear.ensures)
-    at-written.written.given.1 (at-values-finite.values-finite.ensures _ _) c.if1.false
+    frames-overflow _ _ _ _ (c.write_turning-written.ensures _ _ c.write_linear-along.ensures)
+    c.in-Rows.is (c.values_finite.ensures _ _) c.if-values_finite.false
 
-returns-5 : tie.Need-returns-5
+returns-5 : tie.Need-returns-in-NonConvergent
 returns-5 c =
-    let at-turning = c.before.before.before.before in let at-linear = at-turning.before.before.before.before in
-    frames-lost _ _ _ _ (at-turning.write-turning.ensures _ _ at-linear.write-linear.ensures)
-    Written.NonConvergent non_convergent refl refl c.enum-told3.given.1
+    frames-lost _ _ _ _ (c.write_turning-written.ensures _ _ c.write_linear-along.ensures)
+    Written.NonConvergent non_convergent refl refl c.in-NonConvergent.is
 
-returns-6 : tie.Need-returns-6
+returns-6 : tie.Need-returns-in-ArithmeticOverflow
 returns-6 c =
-    let at-turning = c.before.before.before.before in let at-linear = at-turning.before.before.before.before in
-    frames-lost _ _ _ _ (at-turning.write-turning.ensures _ _ at-linear.write-linear.ensures)
-    Written.ArithmeticOverflow arithmetic_overflow refl refl c.enum-told4.given.1
+    frames-lost _ _ _ _ (c.write_turning-written.ensures _ _ c.write_linear-along.ensures)
+    Written.ArithmeticOverflow arithmetic_overflow refl refl c.in-ArithmeticOverflow.is
 
-pub write-frames-spec : {M : Type 1} → statement M
-write-frames-spec =
+pub write_frames_spec : {M : Type 1} → statement M
+write_frames_spec =
     tie.close (tie.spec
     (λ c κs. search rules) (λ c. search rules) (λ c. search rules) returns (λ c κs. search rules)
     (λ c. search rules) (λ c. search rules) (λ c. search (frames-early, unturned-row, no-unit))

@@ -4,9 +4,9 @@ use borrow.Author.Rules.{rules}
 use Rattle.rows.proofs.geometry.write_turning.Statement.{statement}
 use Rattle.rows.proofs.geometry.write_turning.Tie as tie
 
-pub write-turning-spec : {M : Type 1} → statement M
-write-turning-spec =
+pub write_turning_spec : {M : Type 1} → statement M
+write_turning_spec =
     tie.close (tie.spec
-    (λ c. search rules) (λ c. search rules) (λ c κs. let at_entry = c.before.before.before.before in at_entry.requires)
-    (λ c. search rules) (λ c κs. let at_entry = c.before.before.before.before.before in at_entry.requires) (λ c. search turns-free)
+    (λ c. search rules) (λ c. search rules) (λ c κs. c.requires)
+    (λ c. search rules) (λ c κs. c.requires) (λ c. search turns-free)
     (λ c. search rules) (λ c. search turns_as) (λ c. search rules) (λ c. search turns_as))

@@ -5,8 +5,8 @@ use borrow.Author.Rules.{rules}
 use Rattle.rows.proofs.body.MomentumBody.anchor.Statement.{statement}
 use Rattle.rows.proofs.body.MomentumBody.anchor.Tie as tie
 
-pub anchor-spec : {M : Type 1} → statement M
-anchor-spec =
+pub anchor_spec : {M : Type 1} → statement M
+anchor_spec =
     tie.close (tie.spec
     (λ c κs. search rules) (λ c κs. search rules) (λ c. search rules) (λ c κs. search rules)
     (λ c κs. search rules) (λ c. search rules) (λ c. search (answers, anchored))

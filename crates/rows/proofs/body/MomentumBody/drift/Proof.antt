@@ -7,40 +7,28 @@ use borrow.Author.Rules.{rules}
 use Rattle.rows.proofs.body.MomentumBody.drift.Statement.{statement}
 use Rattle.rows.proofs.body.MomentumBody.drift.Tie as tie
 
-returns-3 : tie.Need-returns-3
+returns-3 : tie.Need-returns-in_default-in_frame
 returns-3 c =
-    let at_told = c.before in let at-in-frame = at_told.before.before in let at_unit = at-in-frame.before.before in
-    let at-try-normalize = at_unit.before.before in let at-center = at-try-normalize.before.before in
-    let at-finite = at-center.before.before in let at-add = at-finite.before in let at-scale = at-add.before in
-    lost _ c.overflow3.ensures refl
-    (drift-omega-lost _ _ at-scale.scale.ensures at-add.add.ensures at-finite.finite.ensures at-center.center.given.1
-    at-try-normalize.try-normalize.ensures at_unit.unit.given.1 (vector-stop at-in-frame.in_frame.ensures at_told.enum-told3.given.1))
+    lost _ c.overflow-in_default-in_frame.ensures refl
+    (drift-omega-lost _ _ c.scale.ensures c.add.ensures c.finite.ensures c.in-Some.is
+    c.try_normalize.ensures c.in-Some-try_normalize.is (vector-stop c.in_frame.ensures c.in_default-in_frame.is))
 
-returns-4 : tie.Need-returns-4
+returns-4 : tie.Need-returns-in-Settled
 returns-4 c =
-    let at-rotation = c.before.before in let at-passes = at-rotation.before.before in
-    let at-omega = at-passes.before.before in let at-in-frame = at-omega.before.before in
-    let at_unit = at-in-frame.before.before in let at-try-normalize = at_unit.before.before in
-    let at-center = at-try-normalize.before.before in let at-finite = at-center.before.before in let at-add = at-finite.before in
-    let at-scale = at-add.before in
     found _ _
-    (drifted _ _ at-scale.scale.ensures at-add.add.ensures at-finite.finite.ensures at-center.center.given.1
-    at-try-normalize.try-normalize.ensures at_unit.unit.given.1 at-in-frame.in_frame.ensures at-omega.omega.given.1
-    at-passes.passes.ensures at-rotation.rotation.given.1 c.turned.ensures refl)
+    (drifted _ _ c.scale.ensures c.add.ensures c.finite.ensures c.in-Some.is
+    c.try_normalize.ensures c.in-Some-try_normalize.is c.in_frame.ensures c.in-Some-in_frame.is
+    c.passes.ensures c.in-Settled.is c.turned-body.ensures refl)
 
-returns-6 : tie.Need-returns-6
+returns-6 : tie.Need-returns-in-ArithmeticOverflow
 returns-6 c =
-    let at_told = c.before in let at-passes = at_told.before.before in let at-omega = at-passes.before.before in
-    let at-in-frame = at-omega.before.before in let at_unit = at-in-frame.before.before in
-    let at-try-normalize = at_unit.before.before in let at-center = at-try-normalize.before.before in
-    let at-finite = at-center.before.before in let at-add = at-finite.before in let at-scale = at-add.before in
-    lost _ c.overflow4.ensures refl
-    (drift-turn-lost _ _ at-scale.scale.ensures at-add.add.ensures at-finite.finite.ensures at-center.center.given.1
-    at-try-normalize.try-normalize.ensures at_unit.unit.given.1 at-in-frame.in_frame.ensures at-omega.omega.given.1
-    at-passes.passes.ensures at_told.enum-told5.given.1)
+    lost _ c.overflow-in-ArithmeticOverflow.ensures refl
+    (drift-turn-lost _ _ c.scale.ensures c.add.ensures c.finite.ensures c.in-Some.is
+    c.try_normalize.ensures c.in-Some-try_normalize.is c.in_frame.ensures c.in-Some-in_frame.is
+    c.passes.ensures c.in-ArithmeticOverflow.is)
 
-pub drift-spec : {M : Type 1} → statement M
-drift-spec =
+pub drift_spec : {M : Type 1} → statement M
+drift_spec =
     tie.close (tie.spec
     (λ c κs. search rules) (λ c κs. search rules) (λ c κs. search rules) (λ c. search rules)
     (λ c. search rules) (λ c κs. search rules) (λ c. search (lost, drift-center-lost, vector-stop))

@@ -5,8 +5,8 @@ use borrow.Author.Rules.{rules}
 use Rattle.rows.proofs.body.MomentumBody.inverse_angular_mass.Statement.{statement}
 use Rattle.rows.proofs.body.MomentumBody.inverse_angular_mass.Tie as tie
 
-pub inverse-angular-mass-spec : {M : Type 1} → statement M
-inverse-angular-mass-spec =
+pub inverse_angular_mass_spec : {M : Type 1} → statement M
+inverse_angular_mass_spec =
     tie.close (tie.spec
     (λ c κs. search rules) (λ c. search rules) (λ c κs. search rules) (λ c. search rules)
     (λ c. search (mass-by-unit, unit-of)) (λ c. search (mass-without-unit, no-unit)))

@@ -5,8 +5,8 @@ use borrow.Author.Rules.{rules}
 use Rattle.rows.proofs.body.MomentumBody.kick.Statement.{statement}
 use Rattle.rows.proofs.body.MomentumBody.kick.Tie as tie
 
-pub kick-spec : {M : Type 1} → statement M
-kick-spec =
+pub kick_spec : {M : Type 1} → statement M
+kick_spec =
     tie.close (tie.spec
     (λ c κs. search rules) (λ c κs. search rules) (λ c. search rules) (λ c. search rules)
     (λ c κs. search rules) (λ c. search (lost, kick-momentum-lost, vector-stop)) (λ c κs. search rules)

@@ -6,26 +6,19 @@ use borrow.Author.Rules.{rules}
 use Rattle.rows.proofs.body.MomentumBody.new.Statement.{statement}
 use Rattle.rows.proofs.body.MomentumBody.new.Tie as tie
 
-returns-3 : tie.Need-returns-3
+returns-3 : tie.Need-returns-in_default-finite
 returns-3 c =
-    let at-standing3 = c.before in let at_told = at-standing3.before in let at-finite = at_told.before.before in
-    let at-scale = at-finite.before in let at-spin = at-scale.before.before in let at-in-frame = at-spin.before.before in
-    let at_unit = at-in-frame.before.before in let at-try-normalize = at_unit.before.before in
-    lost _ c.overflow3.ensures at-standing3.standing3.ensures
-    (new-momentum-lost _ _ at-try-normalize.try-normalize.ensures at_unit.unit.given.1
-    at-in-frame.in_frame.ensures at-spin.spin.given.1 at-scale.scale.ensures
-    (vector-stop at-finite.finite.ensures at_told.enum-told3.given.1))
+    lost _ c.overflow-in_default-finite.ensures c.standing-in_default-finite.ensures
+    (new-momentum-lost _ _ c.try_normalize.ensures c.in-Some.is
+    c.in_frame.ensures c.in-Some-in_frame.is c.scale.ensures
+    (vector-stop c.finite.ensures c.in_default-finite.is))
 
-returns-4 : tie.Need-returns-4
+returns-4 : tie.Need-returns-in_default-world_center_of_mass
 returns-4 c =
-    let at-standing4 = c.before in let at_told = at-standing4.before in let at-world-center-of-mass = at_told.before.before in
-    let at-momentum = at-world-center-of-mass.before.before in let at-finite = at-momentum.before.before in
-    let at-scale = at-finite.before in let at-spin = at-scale.before.before in let at-in-frame = at-spin.before.before in
-    let at_unit = at-in-frame.before.before in let at-try-normalize = at_unit.before.before in
-    lost _ c.overflow4.ensures at-standing4.standing4.ensures
-    (new-center-lost _ _ at-try-normalize.try-normalize.ensures at_unit.unit.given.1
-    at-in-frame.in_frame.ensures at-spin.spin.given.1 at-scale.scale.ensures at-finite.finite.ensures at-momentum.momentum.given.1
-    (vector-stop at-world-center-of-mass.world-center-of-mass.ensures at_told.enum-told4.given.1))
+    lost _ c.overflow-in_default-world_center_of_mass.ensures c.standing-in_default-world_center_of_mass.ensures
+    (new-center-lost _ _ c.try_normalize.ensures c.in-Some.is
+    c.in_frame.ensures c.in-Some-in_frame.is c.scale.ensures c.finite.ensures c.in-Some-finite.is
+    (vector-stop c.world_center_of_mass.ensures c.in_default-world_center_of_mass.is))
 
 pub new_spec : {M : Type 1} → statement M
 new_spec =

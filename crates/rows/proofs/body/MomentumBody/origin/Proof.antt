@@ -5,11 +5,11 @@ use borrow.Author.Rules.{rules}
 use Rattle.rows.proofs.body.MomentumBody.origin.Statement.{statement}
 use Rattle.rows.proofs.body.MomentumBody.origin.Tie as tie
 
-returns-5 : tie.Need-returns-5
+returns-5 : tie.Need-returns-in-None
 returns-5 c = search (origin-center-lost, some_go, vector-stop)
 
-pub origin-spec : {M : Type 1} → statement M
-origin-spec =
+pub origin_spec : {M : Type 1} → statement M
+origin_spec =
     tie.close (tie.spec
     (λ c κs. search rules) (λ c. search rules) (λ c. search rules) (λ c. search (origin-turn-lost, none-stop))
     (λ c κs. search rules) (λ c κs. search rules) (λ c. search rules) (λ c. search rules)

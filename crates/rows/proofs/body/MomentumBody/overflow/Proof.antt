@@ -8,5 +8,5 @@ returns : tie.Need-returns
 unfolding answer_of
 returns c = refl
 
-pub overflow-spec : {M : Type 1} → statement M
-overflow-spec = tie.close (tie.spec returns)
+pub overflow_spec : {M : Type 1} → statement M
+overflow_spec = tie.close (tie.spec returns)

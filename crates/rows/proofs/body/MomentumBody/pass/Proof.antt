@@ -5,19 +5,19 @@ use borrow.Author.Rules.{rules}
 use Rattle.rows.proofs.body.MomentumBody.pass.Statement.{statement}
 use Rattle.rows.proofs.body.MomentumBody.pass.Tie as tie
 
-returns-2 : tie.Need-returns-2
+returns-2 : tie.Need-returns-in_default-omega
 returns-2 c = search (pass-omega-lost, half-turn, quat-go, vector-stop)
 
-returns-3 : tie.Need-returns-3
+returns-3 : tie.Need-returns-in_default-checked_length
 returns-3 c = search (pass-residual-lost, half-turn, quat-go, vector-go, number-stop)
 
-returns-4 : tie.Need-returns-4
+returns-4 : tie.Need-returns-in_default-checked_length-2
 returns-4 c = search (pass-size-lost, half-turn, quat-go, vector-go, number-stop)
 
-returns-5 : tie.Need-returns-5
+returns-5 : tie.Need-returns-then-residual-size
 returns-5 c = search (pass-settles, half-turn, quat-go, vector-go, number-go)
 
-returns-6 : tie.Need-returns-6
+returns-6 : tie.Need-returns
 returns-6 c = search (pass-goes-on, half-turn, quat-go, vector-go, number-go)
 
 pub pass_spec : {M : Type 1} → statement M

@@ -10,30 +10,26 @@ use native.Mathlib.Omega.{arith}
 use Rattle.rows.proofs.body.MomentumBody.passes.Statement.{statement}
 use Rattle.rows.proofs.body.MomentumBody.passes.Tie as tie
 
-abbrev invariant-loop : tie.invariant-loop
+abbrev invariant-loop : tie.invariant-loop-k
 invariant-loop self unit dt omega₀ k₀ omega k = (k ≤ 32) × (go omega ≡ loop k (λ (j : ℕ). pass_of self dt) omega₀)
 
-abbrev decreases-loop : tie.decreases-loop
+abbrev decreases-loop : tie.decreases-loop-k
 decreases-loop self unit dt omega₀ k₀ omega k = 32 - k
 
-returns : tie.Need-returns invariant-loop decreases-loop
+returns : tie.Need-returns-in-Settled invariant-loop decreases-loop
 returns c =
-    let at-rotation = c.before in let at-pass = at-rotation.before.before in let at_test = at-pass.before in
-    let at-loop = at_test.before in
-    loop-stop _ _ 32 at_test.loop-test.true at-loop.loop.invariant.1 (pass-as at-pass.pass.ensures at-rotation.rotation.given.1)
+    loop-stop _ _ 32 c.loop-k-test.true c.loop-k.invariant.1 (pass-as c.pass.ensures c.in-Settled.is)
 
-returns-2 : tie.Need-returns-2 invariant-loop decreases-loop
+returns-2 : tie.Need-returns-in-ArithmeticOverflow invariant-loop decreases-loop
 returns-2 c =
-    let at-pass = c.before.before in let at_test = at-pass.before in let at-loop = at_test.before in
-    loop-stop _ _ 32 at_test.loop-test.true at-loop.loop.invariant.1 (pass-as at-pass.pass.ensures c.enum_told.given.1)
+    loop-stop _ _ 32 c.loop-k-test.true c.loop-k.invariant.1 (pass-as c.pass.ensures c.in-ArithmeticOverflow.is)
 
-loop-again : tie.Need-loop-preserved invariant-loop decreases-loop
+loop-again : tie.Need-loop-k-preserved invariant-loop decreases-loop
 loop-again c =
-    let at_next = c.before in let at-pass = at_next.before.before in let at-loop = at-pass.before.before in
-    (omega arith, loop-more _ _ at-loop.loop.invariant.1 (pass-as at-pass.pass.ensures at_next.next.given.1))
+    (omega arith, loop-more _ _ c.loop-k.invariant.1 (pass-as c.pass.ensures c.in-Next.is))
 
-pub passes-spec : {M : Type 1} → statement M
-passes-spec =
+pub passes_spec : {M : Type 1} → statement M
+passes_spec =
     tie.close (tie.spec
     invariant-loop decreases-loop (λ c. (omega arith, loop-none _ _)) (λ c κs. search rules) (λ c. search rules)
     (λ c. search rules) returns (λ c. search rules) returns-2 (λ c. omega arith) (λ c. omega arith) loop-again

@@ -6,10 +6,7 @@ use Rattle.rows.proofs.geometry.EqualityRow.store.Tie as tie
 
 returns : tie.Need-returns
 returns c =
-    let at_five = c.before.before in let at-four = at_five.before.before.before.before in
-    let at-three = at-four.before.before.before.before in let at-two = at-three.before.before.before.before in
-    let at_one = at-two.before.before.before.before in
-    stored_row _ at_one.store3.ensures at-two.store32.ensures at-three.store33.ensures at-four.store34.ensures at_five.store2.ensures
+    stored_row _ c.store3.ensures c.store3-2.ensures c.store3-3.ensures c.store3-4.ensures c.store2.ensures
 
 pub store_spec : {M : Type 1} → statement M
 store_spec =
