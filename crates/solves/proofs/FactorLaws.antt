@@ -162,20 +162,20 @@ module _ {s : List Float} {ia ib order : List ℕ} {place n body-count i j : ℕ
       unfolding path_entry
       refused q = record { kept = kept_refl _ s; is = cond_yes _ _ q ∙ cond_yes _ _ (eq-eqb j i same) ∙ then-go _ e }
 
-      pub entry-wild : not f ≡ true → Does Banded s s (stop non_convergent) Entry
-      entry-wild q = refused (λ x. (ap not finite-is ∙ q) x || Ieee.le Val (ratio 0 1))
+      pub entry-wild : f ≡ false → Does Banded s s (stop non_convergent) Entry
+      entry-wild q = refused (λ x. ap not (finite-is ∙ q) x || Ieee.le Val (ratio 0 1))
 
-      pub entry-low : not f ≡ false → Ieee.le value zero ≡ true → Does Banded s s (stop non_convergent) Entry
-      entry-low q w = refused ((λ x. (ap not finite-is ∙ q) x || Ieee.le Val (ratio 0 1)) ∙ low-is ∙ w)
+      pub entry-low : f ≡ true → Ieee.le value zero ≡ true → Does Banded s s (stop non_convergent) Entry
+      entry-low q w = refused ((λ x. ap not (finite-is ∙ q) x || Ieee.le Val (ratio 0 1)) ∙ low-is ∙ w)
 
-      pub entry-pivot : not f ≡ false → Ieee.le value zero ≡ false → {root : Float} → root ≡ sqrt binary64 value
+      pub entry-pivot : f ≡ true → Ieee.le value zero ≡ false → {root : Float} → root ≡ sqrt binary64 value
           → Does Banded s (set s (PATH_BAND + 12 * i) root) (go (band_at (set s (PATH_BAND + 12 * i) root) n)) Entry
       unfolding path_entry
       entry-pivot q w {root} er = record {
         kept = kept_more (kept_set s (PATH_BAND + 12 * i) root) (λ k x. omega (arith, pre.0.rows.most));
         is = ap go (vec-set s PATH_BAND (12 * n) (12 * i) root (omega arith) (omega (arith, pre.0.rows.whole, pre.0.rows.most))
             ∙ ap (set (band_at s n) (12 * i)) (er ∙ ap (sqrt binary64) value-is))
-            ∙ cond_no _ _ ((λ x. (ap not finite-is ∙ q) x || Ieee.le Val (ratio 0 1)) ∙ low-is ∙ w) ∙ cond_yes _ _ (eq-eqb j i same) ∙ then-go _ e;
+            ∙ cond_no _ _ ((λ x. ap not (finite-is ∙ q) x || Ieee.le Val (ratio 0 1)) ∙ low-is ∙ w) ∙ cond_yes _ _ (eq-eqb j i same) ∙ then-go _ e;
       }
 
     abbrev side : Float

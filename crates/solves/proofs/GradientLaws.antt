@@ -117,11 +117,11 @@ module _ {z : List Float} {ia ib : List ℕ} {place n body-count : ℕ} (pre : R
     abbrev D : Float
     D = diagonal_of (row_in R k) (mass_in M (row_in R k).a) (mass_in M (row_in R k).b)
 
-    wild : not f ≡ true → not (is_finite D) || Ieee.le D (ratio 0 1) ≡ true
-    wild q = either _ (sym (ap not (ef ∙ ap is_finite d-is)) ∙ q)
+    wild : f ≡ false → not (is_finite D) || Ieee.le D (ratio 0 1) ≡ true
+    wild q = either _ (ap not (sym (ef ∙ ap is_finite d-is) ∙ q))
 
-    small : (b : Bool) → not f ≡ false → Ieee.le d zero ≡ b → not (is_finite D) || Ieee.le D (ratio 0 1) ≡ b
-    small b q w = other _ (sym (ap not (ef ∙ ap is_finite d-is)) ∙ q) ∙ sym (λ j. Ieee.le (d-is j) (ez j)) ∙ w
+    small : (b : Bool) → f ≡ true → Ieee.le d zero ≡ b → not (is_finite D) || Ieee.le D (ratio 0 1) ≡ b
+    small b q w = other _ (ap not (sym (ef ∙ ap is_finite d-is) ∙ q)) ∙ sym (λ j. Ieee.le (d-is j) (ez j)) ∙ w
 
     refused : not (is_finite D) || Ieee.le D (ratio 0 1) ≡ true → Does Preparing s₀ s (stop non_convergent) (loop n (prepare_row S E) nothing)
     unfolding prepare_row
@@ -131,10 +131,10 @@ module _ {z : List Float} {ia ib : List ℕ} {place n body-count : ℕ} (pre : R
     unfolding prepare
     whole d = record { kept = d.kept; is = d.is ∙ ap (λ (m : ℕ). loop m (prepare_row S E) nothing) (sym (tab-length n (row_on ia ib s₀ place))) }
 
-    pub prepared-wild : not f ≡ true → Does Preparing s₀ s (stop non_convergent) (prepare S E)
+    pub prepared-wild : f ≡ false → Does Preparing s₀ s (stop non_convergent) (prepare S E)
     prepared-wild q = whole (refused (wild q))
 
-    pub prepared-small : not f ≡ false → Ieee.le d zero ≡ true → Does Preparing s₀ s (stop non_convergent) (prepare S E)
+    pub prepared-small : f ≡ true → Ieee.le d zero ≡ true → Does Preparing s₀ s (stop non_convergent) (prepare S E)
     prepared-small q w = whole (refused (small true q w))
 
     abbrev x : Float
@@ -157,7 +157,7 @@ module _ {z : List Float} {ia ib : List ℕ} {place n body-count : ℕ} (pre : R
         ∙ ap (λ (y : List Float). y ++ (x ∷ [])) (kept-vec (kept_set s (DIAGONAL + k) d) DIRECTION k (λ i a b. omega (arith, pre.most)))
         ∙ ap (λ (y : Float). vec_at s DIRECTION k ++ (y ∷ [])) x-is
 
-    pub prepared_again : not f ≡ false → Ieee.le d zero ≡ false → PreparedSo (k + 1) t (rho ⊕ at s (RESIDUAL + k) ⊗ x)
+    pub prepared_again : f ≡ true → Ieee.le d zero ≡ false → PreparedSo (k + 1) t (rho ⊕ at s (RESIDUAL + k) ⊗ x)
     unfolding prepare_row
     prepared_again q w = record {
       kept =
@@ -301,14 +301,14 @@ module _ {s : List Float} {ia ib : List ℕ} (table : Table) (pre : Rows s ia ib
       advance-flat g = record { kept = k₁; is = then-stop _ (returns-if _ (either _ (sym flat-is ∙ g))) ∙ then-go _ (e₁ ∙ curve) ∙ then-go _ d₁.is }
 
       module _ (h₁ : Ieee.le y zero ≡ false) {f : Bool} (ef : f ≡ is_finite rho) where
-        pub advance-wild : not f ≡ true → Does Passing s s₁ (stop non_convergent) Advanced
+        pub advance-wild : f ≡ false → Does Passing s s₁ (stop non_convergent) Advanced
         unfolding advance
         advance-wild g = record {
           kept = k₁;
-          is = then-stop _ (returns-if _ (other _ (sym flat-is ∙ h₁) ∙ sym (ap not ef) ∙ g)) ∙ then-go _ (e₁ ∙ curve) ∙ then-go _ d₁.is;
+          is = then-stop _ (returns-if _ (other _ (sym flat-is ∙ h₁) ∙ ap not (sym ef ∙ g))) ∙ then-go _ (e₁ ∙ curve) ∙ then-go _ d₁.is;
         }
 
-        module _ (h₂ : not f ≡ false) {s₂ s₃ : List Float}
+        module _ (h₂ : f ≡ true) {s₂ s₃ : List Float}
             (d₂ : Does (Beside SOLUTION) s₁ s₂ (vec_at s₂ SOLUTION n₂) (plus (vec_at s₁ SOLUTION n₂) (rho ⊘ y) (vec_at s₁ DIRECTION n₂)))
             (d₃ : Does (Beside RESIDUAL) s₂ s₃ (vec_at s₃ RESIDUAL n₂) (plus (vec_at s₂ RESIDUAL n₂) (Ieee.neg (rho ⊘ y)) (vec_at s₂ PRODUCT n₂))) where
           sol₃ : vec_at s₃ SOLUTION n₂ ≡ plus (vec_at s SOLUTION n₂) (rho ⊘ y) (vec_at s DIRECTION n₂)
@@ -337,7 +337,7 @@ module _ {s : List Float} {ia ib : List ℕ} (table : Table) (pre : Rows s ia ib
             kept = kept_then (kept_then k₁ d₂.kept (passing-vector SOLUTION (omega arith) (omega arith)))
                 d₃.kept (passing-vector RESIDUAL (omega arith) (omega arith));
             is = (λ j. go (record { solution = sol₃ j; residual = res₃ j; direction = dir₃ j; rho = rho }))
-                ∙ then-go _ (goes_on _ (other _ (sym flat-is ∙ h₁) ∙ sym (ap not ef) ∙ h₂)) ∙ then-go _ (e₁ ∙ curve) ∙ then-go _ d₁.is;
+                ∙ then-go _ (goes_on _ (other _ (sym flat-is ∙ h₁) ∙ ap not (sym ef ∙ h₂))) ∙ then-go _ (e₁ ∙ curve) ∙ then-go _ d₁.is;
           }
 
 -- settle

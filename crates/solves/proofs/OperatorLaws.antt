@@ -95,16 +95,16 @@ module _ (s : List Float) (body-count : ℕ) where
     share-is : finite_share g ≡ share_test k
     share-is = ap finite_share (eg ∙ sym (tab-at body-count (generalized_at s GENERALIZED) no_generalized k h))
 
-    pub linear-wild : {b : Bool} → b ≡ finite_of g.linear → not b ≡ true → share_test k ≡ false
-    linear-wild {b} e n = sym share-is ∙ ap (λ (x : Bool). x && finite_of g.angular) (sym e ∙ not_yes b n)
+    pub linear-wild : {b : Bool} → b ≡ finite_of g.linear → b ≡ false → share_test k ≡ false
+    linear-wild {b} e n = sym share-is ∙ ap (λ (x : Bool). x && finite_of g.angular) (sym e ∙ n)
 
-    pub angular-wild : {a b : Bool} → a ≡ finite_of g.linear → not a ≡ false → b ≡ finite_of g.angular → not b ≡ true → share_test k ≡ false
+    pub angular-wild : {a b : Bool} → a ≡ finite_of g.linear → a ≡ true → b ≡ finite_of g.angular → b ≡ false → share_test k ≡ false
     angular-wild {a} {b} f m e n =
-        sym share-is ∙ ap (λ (x : Bool). x && finite_of g.angular) (sym f ∙ not-no a m) ∙ sym e ∙ not_yes b n
+        sym share-is ∙ ap (λ (x : Bool). x && finite_of g.angular) (sym f ∙ m) ∙ sym e ∙ n
 
-    pub share-fine : {a b : Bool} → a ≡ finite_of g.linear → not a ≡ false → b ≡ finite_of g.angular → not b ≡ false → share_test k ≡ true
+    pub share-fine : {a b : Bool} → a ≡ finite_of g.linear → a ≡ true → b ≡ finite_of g.angular → b ≡ true → share_test k ≡ true
     share-fine {a} {b} f m e n =
-        sym share-is ∙ ap (λ (x : Bool). x && finite_of g.angular) (sym f ∙ not-no a m) ∙ sym e ∙ not-no b n
+        sym share-is ∙ ap (λ (x : Bool). x && finite_of g.angular) (sym f ∙ m) ∙ sym e ∙ n
 
   pub all_of : {r : Bool} → r ≡ every body-count share_test → r ≡ all_finite (shares_in s body-count)
   all_of e = e ∙ ap (λ (m : ℕ). every m share_test) (sym (tab-length body-count (generalized_at s GENERALIZED)))

@@ -27,7 +27,6 @@ use Rattle.solves.specs.System.{System, Counting}
 use Rattle.solves.specs.Solver.{Search, Prepared, Tested}
 use Rattle.solves.specs.Path.{Seen}
 use Rattle.solves.specs.Search.{least_most, gradient_most, least_pass, gradient_pass}
-use Rattle.solves.specs.Lent.{Lent, came, left}
 use Rattle.solves.specs.Region.{vec_at, Does}
 use Rattle.solves.specs.View.{search_at, prepared_at, list_of_first, rows_on, shares_in, system_in, Shares, Work, SOLUTION}
 
@@ -99,16 +98,16 @@ order_in (stop _) = stop tt
 
 -- ---- what the two calls say that the step takes, each with the number of its answer
 -- `transpose`: the bodies' shares of the rows at entry, as f says, or the fault; no more than the shares is touched
-abbrev pub Pushes : Lent Float → Lent ℕ → Lent ℕ → Table → End → (List EqualityRow → Result (List Generalized)) → Type 0
-Pushes s ia ib t r f =
-    let defined = f (rows_on (came ia) (came ib) (came s) t.place t.rows) in
-    (Does Shares (came s) (left s) (ran_as r (shares_in (left s) t.bodies)) defined) × (Numbered r defined)
+abbrev pub Pushes : List Float → List Float → List ℕ → List ℕ → Table → End → (List EqualityRow → Result (List Generalized)) → Type 0
+Pushes s s' ia ib t r f =
+    let defined = f (rows_on ia ib s t.place t.rows) in
+    (Does Shares s s' (ran_as r (shares_in s' t.bodies)) defined) × (Numbered r defined)
 
 -- a linear solve: the system at entry is solved as f says, the solution stands at exit, and no more than `Work` is touched
-abbrev pub Solves : Lent Float → Lent ℕ → Lent ℕ → Table → Ended → (System → Counting (List Float)) → Type 0
-Solves s ia ib t r f =
-    Does Work (came s) (left s) (ended_as r (vec_at (left s) SOLUTION t.rows)) (f (system_in s ia ib t))
+abbrev pub Solves : List Float → List Float → List ℕ → List ℕ → Table → Ended → (System → Counting (List Float)) → Type 0
+Solves s s' ia ib t r f =
+    Does Work s s' (ended_as r (vec_at s' SOLUTION t.rows)) (f (system_in s ia ib t))
 
 -- `linear_solve`
-abbrev pub SolvesNumbered : Lent Float → Lent ℕ → Lent ℕ → Table → Ended → (System → Counting (List Float)) → Type 0
-SolvesNumbered s ia ib t r f = (Solves s ia ib t r f) × (Numbered r.end (f (system_in s ia ib t)).ends)
+abbrev pub SolvesNumbered : List Float → List Float → List ℕ → List ℕ → Table → Ended → (System → Counting (List Float)) → Type 0
+SolvesNumbered s s' ia ib t r f = (Solves s s' ia ib t r f) × (Numbered r.end (f (system_in s ia ib t)).ends)

@@ -72,18 +72,18 @@ module _ {A : Type 0} {P : ℕ → Type 0} {s t : List Float} (x : A) where
 -- the code asked `done`, which answered b
 module _ {A : Type 0} (x : A) (r : End) {b : Bool} (eb : b ≡ is_done r)
     {P : ℕ → Type 0} {s t : List Float} {R : Result A} (d : Does P s t (ran_as r x) R) where
-  pub went : not b ≡ false → Does P s t (go x) R
+  pub went : b ≡ true → Does P s t (go x) R
   went h = record { kept = d.kept; is = end_goes x r eb d.is h }
 
-  pub failed : not b ≡ true → Does P s t (stop (fault_of r)) R
+  pub failed : b ≡ false → Does P s t (stop (fault_of r)) R
   failed h = record { kept = d.kept; is = end-stops x r eb d.is h }
 
 -- the same fault, in the answer of the caller
-pub fails-over : {A B : Type 0} (x : A) (r : End) {b : Bool} → b ≡ is_done r → not b ≡ true → over {A = B} (ran_as r x) ≡ stop (fault_of r)
+pub fails-over : {A B : Type 0} (x : A) (r : End) {b : Bool} → b ≡ is_done r → b ≡ false → over {A = B} (ran_as r x) ≡ stop (fault_of r)
 fails-over {A} {B} x r eb h = ap (over {A = B}) (fails x r eb h)
 
 -- the caller's answer is that end: a result, one with its passes, or one of a search's pass
-module _ {A : Type 0} {P : ℕ → Type 0} {s t : List Float} (x : A) (r : End) {b : Bool} (eb : b ≡ is_done r) (h : not b ≡ true) where
+module _ {A : Type 0} {P : ℕ → Type 0} {s t : List Float} (x : A) (r : End) {b : Bool} (eb : b ≡ is_done r) (h : b ≡ false) where
   pub does-fails : {R : Result A} → Does P s t (stop (fault_of r)) R → Does P s t (ran_as r x) R
   does-fails d = record { kept = d.kept; is = fails x r eb h ∙ d.is }
 

@@ -12,7 +12,6 @@ use Rattle.solves.specs.declared.path.Walked.{Walked}
 use Rattle.solves.specs.declared.path.Line.{Line}
 use Rattle.solves.specs.Path.{none, path_starts, block_edges, Seen, run, walk, walk_from, is_end, path_walks}
 use Rattle.solves.specs.Answer.{ran_as, edges_as, order_as, order_in}
-use Rattle.solves.specs.Lent.{Slice, Lent, came, left}
 use Rattle.solves.specs.Region.{vec_at, Does}
 use Rattle.solves.specs.View.{rows_on, masses_at, list_of_first, Along, Blank, no_path, band_at, MASSES, PATH_BAND, BAND, PATH_SCALE, PATH_RHS, END}
 
@@ -74,8 +73,8 @@ pub record Graph (ia ib : List ℕ) (blocks : Blocks) (edges : List ℕ) : Type 
   pub blocked : Blocked ia ib blocks
   pub linking : Linking blocks.number edges
 
-abbrev pub OnGraph : Slice ℕ → Slice ℕ → Slice ℕ → ℕ → Slice ℕ → Type 0
-OnGraph ia ib starts blocks edges = Graph ia.now ib.now (blocks_at starts.now blocks) edges.now
+abbrev pub OnGraph : List ℕ → List ℕ → List ℕ → ℕ → List ℕ → Type 0
+OnGraph ia ib starts blocks edges = Graph ia ib (blocks_at starts blocks) edges
 
 -- `path_edges`
 pub record Edged (m : ℕ) (noted : Bool) (edges : List ℕ) (defined : Turn (List ℕ) (Unit {0})) : Type 0 where
@@ -153,10 +152,10 @@ abbrev pub walked_with : Bool → ℕ → Walked
 walked_with found listed = record { found = found; listed = listed }
 
 -- the same on the lent arrays, where f is what is defined
-abbrev pub WalksOn : Lent ℕ → ℕ → Lent Bool → Lent ℕ → ℕ → Walked → (Blocks → Seen → Turn Seen (Unit {0})) → Type 0
-WalksOn starts blocks visited rows listed r f =
-    let at_entry = blocks_at (came starts) blocks in
-    Walks at_entry r.found (order_at (left rows) r.listed) (left visited) (f at_entry (seen_of (order_at (came rows) listed) (came visited)))
+abbrev pub WalksOn : List ℕ → ℕ → List Bool → List Bool → List ℕ → List ℕ → ℕ → Walked → (Blocks → Seen → Turn Seen (Unit {0})) → Type 0
+WalksOn starts blocks visited visited' rows rows' listed r f =
+    let at_entry = blocks_at starts blocks in
+    Walks at_entry r.found (order_at rows' r.listed) visited' (f at_entry (seen_of (order_at rows listed) visited))
 
 -- All walks. Where one declines, the order is free for the same reason.
 pub record Orders (blocks : Blocks) (found : Bool) (order : Order) (defined : Turn Seen (Unit {0})) : Type 0 where
@@ -171,20 +170,20 @@ pub record Ordered (n : ℕ) (r : PathOrder) (defined : Turn (List ℕ) (Unit {0
   pub none : r.found ≡ false → r ≡ no_path
 
 -- ---- the factor's definitions on the scratch and the order at entry
-abbrev pub on_path : {A : Type 0} → Lent Float → Lent ℕ → Lent ℕ → Table → Lent ℕ → (List EqualityRow → List MassResponse → List ℕ → A) → A
+abbrev pub on_path : {A : Type 0} → List Float → List ℕ → List ℕ → Table → List ℕ → (List EqualityRow → List MassResponse → List ℕ → A) → A
 on_path s ia ib t order f =
-    f (rows_on (came ia) (came ib) (came s) t.place t.rows) (masses_at (came s) MASSES t.bodies) (list_of_first (came order) t.rows)
+    f (rows_on ia ib s t.place t.rows) (masses_at s MASSES t.bodies) (list_of_first order t.rows)
 
 -- the band at exit is what f says of the scales and the band at entry, and no more than the band is touched
-abbrev pub BandAs : Lent Float → Lent ℕ → Lent ℕ → Table → Lent ℕ → End
+abbrev pub BandAs : List Float → List Float → List ℕ → List ℕ → Table → List ℕ → End
     → (List EqualityRow → List MassResponse → List ℕ → List Float → List Float → Result (List Float)) → Type 0
-BandAs s ia ib t order r f =
-    Does (Out PATH_BAND BAND) (came s) (left s) (ran_as r (band_at (left s) t.rows))
-    (on_path s ia ib t order f (vec_at (came s) PATH_SCALE t.rows) (band_at (came s) t.rows))
+BandAs s s' ia ib t order r f =
+    Does (Out PATH_BAND BAND) s s' (ran_as r (band_at s' t.rows))
+    (on_path s ia ib t order f (vec_at s PATH_SCALE t.rows) (band_at s t.rows))
 
 -- a sweep of the factor at entry
-abbrev pub by_factor : {A : Type 0} → Lent Float → Lent ℕ → ℕ → (ℕ → List ℕ → List Float → List Float → A) → A
-by_factor s order n f = f n (list_of_first (came order) n) (vec_at (came s) PATH_SCALE n) (band_at (came s) n)
+abbrev pub by_factor : {A : Type 0} → List Float → List ℕ → ℕ → (ℕ → List ℕ → List Float → List Float → A) → A
+by_factor s order n f = f n (list_of_first order n) (vec_at s PATH_SCALE n) (band_at s n)
 
 -- ---- the doubles of a sum
 -- where number t of a line stands

@@ -11,7 +11,6 @@ use Rattle.solves.specs.declared.path.PathOrder.{PathOrder}
 use Rattle.solves.specs.declared.Table.{Table}
 pub use Rattle.solves.specs.Layout.{ROWS_MOST, BODIES_MOST, VECTOR, SHARES, BAND, START_ROWS, ROWS, MASSES, RHS, SOLUTION, RESIDUAL, DIRECTION}
 pub use Rattle.solves.specs.Layout.{PRODUCT, DIAGONAL, NORMAL, GENERALIZED, PATH_BAND, PATH_SCALE, PATH_RHS, END}
-use Rattle.solves.specs.Lent.{Slice, Lent, came}
 use Rattle.solves.specs.Region.{vec_at}
 use Rattle.solves.specs.System.{System}
 use Rattle.solves.specs.Solver.{row_in, generalized_in, mass_in, Search, Prepared}
@@ -58,20 +57,20 @@ abbrev pub system_on : List ℕ → List ℕ → List Float → Table → System
 system_on ia ib s t = record { rows = rows_on ia ib s t.place t.rows; masses = masses_at s MASSES t.bodies }
 
 -- the same at entry, and the right side, the diagonal and the solution
-abbrev pub system_in : Lent Float → Lent ℕ → Lent ℕ → Table → System
-system_in s ia ib t = system_on (came ia) (came ib) (came s) t
+abbrev pub system_in : List Float → List ℕ → List ℕ → Table → System
+system_in s ia ib t = system_on ia ib s t
 
-abbrev pub rhs_on : Lent Float → Table → List Float
-rhs_on s t = vec_at (came s) RHS t.rows
+abbrev pub rhs_on : List Float → Table → List Float
+rhs_on s t = vec_at s RHS t.rows
 
-abbrev pub diagonal_on : Lent Float → Table → List Float
-diagonal_on s t = vec_at (came s) DIAGONAL t.rows
+abbrev pub diagonal_on : List Float → Table → List Float
+diagonal_on s t = vec_at s DIAGONAL t.rows
 
-abbrev pub solution_on : Lent Float → Table → List Float
-solution_on s t = vec_at (came s) SOLUTION t.rows
+abbrev pub solution_on : List Float → Table → List Float
+solution_on s t = vec_at s SOLUTION t.rows
 
-abbrev pub residual_on : Lent Float → Table → List Float
-residual_on s t = vec_at (came s) RESIDUAL t.rows
+abbrev pub residual_on : List Float → Table → List Float
+residual_on s t = vec_at s RESIDUAL t.rows
 
 abbrev pub search_at : List Float → ℕ → Float → Search
 search_at s n rho = record {
@@ -81,8 +80,8 @@ search_at s n rho = record {
   rho = rho;
 }
 
-abbrev pub search_on : Lent Float → Table → Float → Search
-search_on s t rho = search_at (came s) t.rows rho
+abbrev pub search_on : List Float → Table → Float → Search
+search_on s t rho = search_at s t.rows rho
 
 abbrev pub prepared_at : List Float → ℕ → Float → Prepared
 prepared_at s n rho = record { diagonal = vec_at s DIAGONAL n; direction = vec_at s DIRECTION n; rho = rho }
@@ -141,8 +140,8 @@ pub record Rows (s : List Float) (ia ib : List ℕ) (place n body-count : ℕ) :
   pub b_there : (k : ℕ) → k < n → get_or ib k 0 < body-count
 
 -- what every solve requires
-abbrev pub Ready : Slice Float → Slice ℕ → Slice ℕ → Table → Type 0
-Ready s ia ib t = Rows s.now ia.now ib.now t.place t.rows t.bodies
+abbrev pub Ready : List Float → List ℕ → List ℕ → Table → Type 0
+Ready s ia ib t = Rows s ia ib t.place t.rows t.bodies
 
 -- a vector's place: behind rows and masses, and apart from the bodies' shares
 pub record VectorPlace (s : List Float) (place : ℕ) : Type 0 where
@@ -155,8 +154,8 @@ abbrev pub Ahead : ℕ → ℕ → Type 0
 Ahead to from = min (to - from) (from + VECTOR - to) ≡ 0
 
 -- a loop over n doubles can write a vector from another
-abbrev pub Onto : Slice Float → ℕ → ℕ → ℕ → Type 0
-Onto s n to from = (n ≤ ROWS_MOST) × (to + VECTOR ≤ length s.now) × (from + VECTOR ≤ length s.now) × (Ahead to from)
+abbrev pub Onto : List Float → ℕ → ℕ → ℕ → Type 0
+Onto s n to from = (n ≤ ROWS_MOST) × (to + VECTOR ≤ length s) × (from + VECTOR ≤ length s) × (Ahead to from)
 
 -- ---- the path's integers, in arrays beside the scratch
 -- the first n of an array
@@ -176,8 +175,8 @@ pub record RowsAlong (s : List Float) (ia ib order : List ℕ) (place n body-cou
   pub rows : Rows s ia ib place n body-count
   pub along : Along order n
 
-abbrev pub ReadyAlong : Slice Float → Slice ℕ → Slice ℕ → Table → Slice ℕ → Type 0
-ReadyAlong s ia ib t order = RowsAlong s.now ia.now ib.now order.now t.place t.rows t.bodies
+abbrev pub ReadyAlong : List Float → List ℕ → List ℕ → Table → List ℕ → Type 0
+ReadyAlong s ia ib t order = RowsAlong s ia ib order t.place t.rows t.bodies
 
 -- no path
 abbrev pub no_path : PathOrder
@@ -194,8 +193,8 @@ abbrev pub refined_at : List Float → ℕ → Refined
 refined_at s n = record { solution = vec_at s SOLUTION n; residual = vec_at s RESIDUAL n }
 
 -- an order of the rows, from an array
-abbrev pub order_on : Lent ℕ → Table → List ℕ
-order_on order t = list_of_first (came order) t.rows
+abbrev pub order_on : List ℕ → Table → List ℕ
+order_on order t = list_of_first order t.rows
 
 -- outside of what the factor and a refinement write
 abbrev pub Factoring : ℕ → Type 0

@@ -3,7 +3,6 @@ ghost use Rattle.std.specs.Prelude.{◌≡◌, ◌+◌, ◌≤◌, length};
 ghost use Rattle.solves.specs.Solver.{within, diagonal_of, prepare as prepare_of, true_residual, scaled_square, next_direction, advance as advance_of};
 ghost use Rattle.solves.specs.Search.{settle as settle_of, gradient_pass, gradients as gradients_of};
 ghost use Rattle.solves.specs.Answer.{ran_as, test_as, prepared_as, true_as, search_as, Solves};
-ghost use Rattle.solves.specs.Lent.{came, left};
 ghost use Rattle.solves.specs.Region.{vec_at, Does};
 ghost use Rattle.solves.specs.View.{search_at, system_in, rhs_on, diagonal_on, solution_on, residual_on, search_on, Ready, Passing, Preparing, Testing, Beside};
 ghost use Rattle.solves.specs.View.{ROWS_MOST, RESIDUAL, DIRECTION, DIAGONAL, END};
@@ -28,7 +27,7 @@ pub(crate) enum Begun {
 // Over where the residual is within the tolerance.
 pub(crate) fn residual_test(s: &[f64], n: usize, tolerance: f64) -> Pass
     requires { (END ≤ length s.now) × (n ≤ ROWS_MOST) }
-    ensures { test_as result ≡ within (vec_at (came s) RESIDUAL n) tolerance }
+    ensures { test_as result ≡ within (vec_at s.now RESIDUAL n) tolerance }
 {
     let Sum::Value(square) = dot(s, RESIDUAL, RESIDUAL, n) else {
         return Pass::Over(End::ArithmeticOverflow);
@@ -51,8 +50,8 @@ fn diagonal_entry(row: EqualityRow, ma: MassResponse, mb: MassResponse) -> f64
 
 // The diagonal, the first direction, and rho.
 fn prepare(s: &mut [f64], ia: &PerRow, ib: &PerRow, t: Table) -> Begun
-    requires { Ready s ia ib t }
-    ensures { Does Preparing (came s) (left s) (prepared_as result (left s) t.rows) (prepare_of (system_in s ia ib t) (residual_on s t)) }
+    requires { Ready s.old ia.now ib.now t }
+    ensures { Does Preparing s.old s.new (prepared_as result s.new t.rows) (prepare_of (system_in s.old ia.now ib.now t) (residual_on s.old t)) }
 {
     let n = t.rows;
     let mut rho = 0.0;
@@ -79,7 +78,7 @@ fn prepare(s: &mut [f64], ia: &PerRow, ib: &PerRow, t: Table) -> Begun
 // The sum of r * r / d over the residual and the diagonal.
 fn scaled_square(s: &[f64], n: usize) -> f64
     requires { (END ≤ length s.now) × (n ≤ ROWS_MOST) }
-    ensures { result ≡ scaled_square (vec_at (came s) RESIDUAL n) (vec_at (came s) DIAGONAL n) }
+    ensures { result ≡ scaled_square (vec_at s.now RESIDUAL n) (vec_at s.now DIAGONAL n) }
 {
     let mut total = 0.0;
     for k in 0..n {
@@ -91,8 +90,8 @@ fn scaled_square(s: &[f64], n: usize) -> f64
 
 fn next_direction(s: &mut [f64], beta: f64, n: usize)
     requires { (END ≤ length s.old) × (n ≤ ROWS_MOST) }
-    ensures { Does (Beside DIRECTION) (came s) (left s) (vec_at (left s) DIRECTION n)
-        (next_direction (vec_at (came s) RESIDUAL n) (vec_at (came s) DIAGONAL n) beta (vec_at (came s) DIRECTION n)) }
+    ensures { Does (Beside DIRECTION) s.old s.new (vec_at s.new DIRECTION n)
+        (next_direction (vec_at s.old RESIDUAL n) (vec_at s.old DIAGONAL n) beta (vec_at s.old DIRECTION n)) }
 {
     for k in 0..n {
         s[DIRECTION + k] = s[RESIDUAL + k] / s[DIAGONAL + k] + beta * s[DIRECTION + k];
@@ -101,9 +100,9 @@ fn next_direction(s: &mut [f64], beta: f64, n: usize)
 
 // Recomputes the residual, to prevent a success of the recurrence only. Over where it is within the tolerance still.
 fn true_residual(s: &mut [f64], ia: &PerRow, ib: &PerRow, t: Table, tolerance: f64) -> Pass
-    requires { Ready s ia ib t }
-    ensures { Does Testing (came s) (left s) (true_as result (vec_at (left s) RESIDUAL t.rows))
-        (true_residual (system_in s ia ib t) (rhs_on s t) tolerance (solution_on s t) (residual_on s t)) }
+    requires { Ready s.old ia.now ib.now t }
+    ensures { Does Testing s.old s.new (true_as result (vec_at s.new RESIDUAL t.rows))
+        (true_residual (system_in s.old ia.now ib.now t) (rhs_on s.old t) tolerance (solution_on s.old t) (residual_on s.old t)) }
 {
     let n = t.rows;
     let Pass::Over(near) = residual_test(s, n, tolerance) else {
@@ -122,8 +121,8 @@ fn true_residual(s: &mut [f64], ia: &PerRow, ib: &PerRow, t: Table, tolerance: f
 
 // The first half of a pass: along the direction as far as the curvature says.
 fn advance(s: &mut [f64], ia: &PerRow, ib: &PerRow, t: Table, rho: f64) -> End
-    requires { Ready s ia ib t }
-    ensures { Does Passing (came s) (left s) (ran_as result (search_at (left s) t.rows rho)) (advance_of (system_in s ia ib t) (search_on s t rho)) }
+    requires { Ready s.old ia.now ib.now t }
+    ensures { Does Passing s.old s.new (ran_as result (search_at s.new t.rows rho)) (advance_of (system_in s.old ia.now ib.now t) (search_on s.old t rho)) }
 {
     let n = t.rows;
     let end = operator(s, ia, ib, t, DIRECTION, PRODUCT);
@@ -148,9 +147,9 @@ fn advance(s: &mut [f64], ia: &PerRow, ib: &PerRow, t: Table, rho: f64) -> End
 
 // The second half: done, or the next direction.
 fn settle(s: &mut [f64], ia: &PerRow, ib: &PerRow, t: Table, tolerance: f64, rho: f64) -> Next
-    requires { Ready s ia ib t }
-    ensures { Does Passing (came s) (left s) (search_as result (left s) t.rows)
-        (settle_of (system_in s ia ib t) (rhs_on s t) (diagonal_on s t) tolerance (search_on s t rho)) }
+    requires { Ready s.old ia.now ib.now t }
+    ensures { Does Passing s.old s.new (search_as result s.new t.rows)
+        (settle_of (system_in s.old ia.now ib.now t) (rhs_on s.old t) (diagonal_on s.old t) tolerance (search_on s.old t rho)) }
 {
     let n = t.rows;
     if let Pass::Over(end) = true_residual(s, ia, ib, t, tolerance) {
@@ -170,9 +169,9 @@ pub(crate) fn gradient_pass(
     tolerance: f64,
     rho: f64,
 ) -> Next
-    requires { Ready s ia ib t }
-    ensures { Does Passing (came s) (left s) (search_as result (left s) t.rows)
-        (gradient_pass (system_in s ia ib t) (rhs_on s t) (diagonal_on s t) tolerance (search_on s t rho)) }
+    requires { Ready s.old ia.now ib.now t }
+    ensures { Does Passing s.old s.new (search_as result s.new t.rows)
+        (gradient_pass (system_in s.old ia.now ib.now t) (rhs_on s.old t) (diagonal_on s.old t) tolerance (search_on s.old t rho)) }
 {
     if let Pass::Over(end) = residual_test(s, t.rows, tolerance) {
         return Next::Over(end);
@@ -186,8 +185,8 @@ pub(crate) fn gradient_pass(
 
 // The diagonal-scaled conjugate gradients.
 pub(crate) fn gradients(s: &mut [f64], ia: &PerRow, ib: &PerRow, t: Table) -> Ended
-    requires { Ready s ia ib t }
-    ensures { Solves s ia ib t result (λ system. gradients_of system (rhs_on s t) (solution_on s t) (residual_on s t)) }
+    requires { Ready s.old ia.now ib.now t }
+    ensures { Solves s.old s.new ia.now ib.now t result (λ system. gradients_of system (rhs_on s.old t) (solution_on s.old t) (residual_on s.old t)) }
 {
     let Begun::Rho(rho) = prepare(s, ia, ib, t) else {
         return Ended::new(End::NonConvergent, 0);

@@ -2,7 +2,6 @@
 // a reaction of least residual. It stops on the normal residual, so its success does not mean that the rows are solved.
 ghost use Rattle.solves.specs.Search.{least_pass, least_squares};
 ghost use Rattle.solves.specs.Answer.{search_as, Solves};
-ghost use Rattle.solves.specs.Lent.{came, left};
 ghost use Rattle.solves.specs.Region.{Does};
 ghost use Rattle.solves.specs.View.{system_in, rhs_on, solution_on, residual_on, search_on, Ready, Passing};
 
@@ -22,8 +21,8 @@ pub(crate) fn least_pass(
     tolerance: f64,
     norm: f64,
 ) -> Next
-    requires { Ready s ia ib t }
-    ensures { Does Passing (came s) (left s) (search_as result (left s) t.rows) (least_pass (system_in s ia ib t) tolerance (search_on s t norm)) }
+    requires { Ready s.old ia.now ib.now t }
+    ensures { Does Passing s.old s.new (search_as result s.new t.rows) (least_pass (system_in s.old ia.now ib.now t) tolerance (search_on s.old t norm)) }
 {
     let n = t.rows;
     if sqrt(norm) <= tolerance {
@@ -55,8 +54,8 @@ pub(crate) fn least_pass(
 }
 
 pub(crate) fn least_squares(s: &mut [f64], ia: &PerRow, ib: &PerRow, t: Table) -> Ended
-    requires { Ready s ia ib t }
-    ensures { Solves s ia ib t result (λ system. least_squares system (rhs_on s t) (solution_on s t) (residual_on s t)) }
+    requires { Ready s.old ia.now ib.now t }
+    ensures { Solves s.old s.new ia.now ib.now t result (λ system. least_squares system (rhs_on s.old t) (solution_on s.old t) (residual_on s.old t)) }
 {
     let n = t.rows;
     let end = operator(s, ia, ib, t, RESIDUAL, NORMAL);

@@ -1,7 +1,6 @@
 // `dot`, `transpose`, `operator` and `cross_mass` of solver.rs.
 ghost use Rattle.std.specs.Prelude.{◌≡◌, ◌+◌, ◌≤◌, ◌<◌, length};
 ghost use Rattle.solves.specs.Answer.{sum_as, share_as, ran_as, Pushes};
-ghost use Rattle.solves.specs.Lent.{came, left};
 ghost use Rattle.solves.specs.Region.{vec_at, Does};
 ghost use Rattle.solves.specs.Solver.{sum_products, dot as dot_of, tolerance_for, push_into, push_row, transpose as transpose_of};
 ghost use Rattle.solves.specs.Checked.{added, all_finite, checked, checked_then};
@@ -29,7 +28,7 @@ pub(crate) enum Share {
 
 fn products(s: &[f64], a: usize, b: usize, n: usize) -> f64
     requires { (a + n ≤ length s.now) × (b + n ≤ length s.now) }
-    ensures { result ≡ sum_products (vec_at (came s) a n) (vec_at (came s) b n) n }
+    ensures { result ≡ sum_products (vec_at s.now a n) (vec_at s.now b n) n }
 {
     let mut total = 0.0;
     for k in 0..n {
@@ -40,7 +39,7 @@ fn products(s: &[f64], a: usize, b: usize, n: usize) -> f64
 
 pub(crate) fn dot(s: &[f64], a: usize, b: usize, n: usize) -> Sum
     requires { (a + n ≤ length s.now) × (b + n ≤ length s.now) }
-    ensures { sum_as result ≡ dot_of (vec_at (came s) a n) (vec_at (came s) b n) }
+    ensures { sum_as result ≡ dot_of (vec_at s.now a n) (vec_at s.now b n) }
 {
     let total = products(s, a, b, n);
     if is_finite(total) {
@@ -52,7 +51,7 @@ pub(crate) fn dot(s: &[f64], a: usize, b: usize, n: usize) -> Sum
 // The tolerance of a solve: `scale` times one more than the length of the right side.
 pub(crate) fn tolerance_for(s: &[f64], scale: f64, n: usize) -> Sum
     requires { (END ≤ length s.now) × (n ≤ ROWS_MOST) }
-    ensures { sum_as result ≡ tolerance_for scale (vec_at (came s) RHS n) }
+    ensures { sum_as result ≡ tolerance_for scale (vec_at s.now RHS n) }
 {
     let Sum::Value(square) = dot(s, RHS, RHS, n) else {
         return Sum::ArithmeticOverflow;
@@ -79,8 +78,8 @@ fn push_into(
     body_count: usize,
 )
     requires { (END ≤ length s.old) × (index < body_count) × (body_count ≤ BODIES_MOST) }
-    ensures { Does Shares (came s) (left s) (checked (shares_in (left s) body_count))
-        (checked_then (push_into index linear angular value) (shares_in (came s) body_count)) }
+    ensures { Does Shares s.old s.new (checked (shares_in s.new body_count))
+        (checked_then (push_into index linear angular value) (shares_in s.old body_count)) }
 {
     let body = load_generalized(s, GENERALIZED, index);
     let share = pushed(body, linear, angular, value);
@@ -89,8 +88,8 @@ fn push_into(
 
 fn push_row(s: &mut [f64], row: EqualityRow, value: f64, body_count: usize)
     requires { (END ≤ length s.old) × (row.a < body_count) × (row.b < body_count) × (body_count ≤ BODIES_MOST) }
-    ensures { Does Shares (came s) (left s) (checked (shares_in (left s) body_count))
-        (checked_then (push_row row value) (shares_in (came s) body_count)) }
+    ensures { Does Shares s.old s.new (checked (shares_in s.new body_count))
+        (checked_then (push_row row value) (shares_in s.old body_count)) }
 {
     push_into(s, row.a, row.linear_a, row.angular_a, value, body_count);
     push_into(s, row.b, row.linear_b, row.angular_b, value, body_count);
@@ -99,7 +98,7 @@ fn push_row(s: &mut [f64], row: EqualityRow, value: f64, body_count: usize)
 // Whether every body's share is finite.
 fn shares_finite(s: &[f64], body_count: usize) -> bool
     requires { (END ≤ length s.now) × (body_count ≤ BODIES_MOST) }
-    ensures { result ≡ all_finite (shares_in (came s) body_count) }
+    ensures { result ≡ all_finite (shares_in s.now body_count) }
 {
     for k in 0..body_count {
         let share = load_generalized(s, GENERALIZED, k);
@@ -115,8 +114,8 @@ fn shares_finite(s: &[f64], body_count: usize) -> bool
 
 // Each body's share of the rows times their values.
 pub fn transpose(s: &mut [f64], ia: &PerRow, ib: &PerRow, t: Table, values: usize) -> End
-    requires { (Ready s ia ib t) × (VectorPlace s.old values) }
-    ensures { Pushes s ia ib t result (λ rows. transpose_of rows (vec_at (came s) values t.rows) t.bodies) }
+    requires { (Ready s.old ia.now ib.now t) × (VectorPlace s.old values) }
+    ensures { Pushes s.old s.new ia.now ib.now t result (λ rows. transpose_of rows (vec_at s.old values t.rows) t.bodies) }
 {
     let n = t.rows;
     let body_count = t.bodies;
@@ -151,8 +150,8 @@ fn scaled(value: Generalized, mass: MassResponse) -> Share
 
 fn scale_all(s: &mut [f64], body_count: usize) -> End
     requires { (END ≤ length s.old) × (body_count ≤ BODIES_MOST) }
-    ensures { Does Shares (came s) (left s) (ran_as result (shares_in (left s) body_count))
-        (scale_all (shares_in (came s) body_count) (masses_at (came s) MASSES body_count) body_count) }
+    ensures { Does Shares s.old s.new (ran_as result (shares_in s.new body_count))
+        (scale_all (shares_in s.old body_count) (masses_at s.old MASSES body_count) body_count) }
 {
     for k in 0..body_count {
         let value = load_generalized(s, GENERALIZED, k);
@@ -177,9 +176,9 @@ fn rate(row: EqualityRow, a: Generalized, b: Generalized) -> f64
 }
 
 fn rates(s: &mut [f64], ia: &PerRow, ib: &PerRow, t: Table, out: usize) -> End
-    requires { (Ready s ia ib t) × (VectorPlace s.old out) }
-    ensures { Does (Beside out) (came s) (left s) (ran_as result (vec_at (left s) out t.rows))
-        (rates_of (system_in s ia ib t).rows t.rows (shares_in (came s) t.bodies)) }
+    requires { (Ready s.old ia.now ib.now t) × (VectorPlace s.old out) }
+    ensures { Does (Beside out) s.old s.new (ran_as result (vec_at s.new out t.rows))
+        (rates_of (system_in s.old ia.now ib.now t).rows t.rows (shares_in s.old t.bodies)) }
 {
     let n = t.rows;
     for k in 0..n {
@@ -204,9 +203,9 @@ pub(crate) fn operator(
     input: usize,
     out: usize,
 ) -> End
-    requires { (Ready s ia ib t) × (VectorPlace s.old input) × (VectorPlace s.old out) }
-    ensures { Does (Operating out) (came s) (left s) (ran_as result (vec_at (left s) out t.rows))
-        (operator_of (system_in s ia ib t) (vec_at (came s) input t.rows)) }
+    requires { (Ready s.old ia.now ib.now t) × (VectorPlace s.old input) × (VectorPlace s.old out) }
+    ensures { Does (Operating out) s.old s.new (ran_as result (vec_at s.new out t.rows))
+        (operator_of (system_in s.old ia.now ib.now t) (vec_at s.old input t.rows)) }
 {
     let pushed = transpose(s, ia, ib, t, input);
     if !done(pushed) {
@@ -239,7 +238,7 @@ fn add_through(
     ba: Vec3,
 ) -> f64
     requires { (END ≤ length s.now) × (ai < body_count) × (body_count ≤ BODIES_MOST) }
-    ensures { result ≡ add_through (masses_at (came s) MASSES body_count) ai al aa bi bl ba value }
+    ensures { result ≡ add_through (masses_at s.now MASSES body_count) ai al aa bi bl ba value }
 {
     if ai == bi {
         let mass = load_mass(s, MASSES, ai);
@@ -259,7 +258,7 @@ fn cross_end(
     b: EqualityRow,
 ) -> f64
     requires { (END ≤ length s.now) × (ai < body_count) × (body_count ≤ BODIES_MOST) }
-    ensures { result ≡ cross_end (masses_at (came s) MASSES body_count) ai al aa b value }
+    ensures { result ≡ cross_end (masses_at s.now MASSES body_count) ai al aa b value }
 {
     let half = add_through(
         s,
@@ -288,7 +287,7 @@ fn cross_end(
 // The entry of the rows' Schur matrix.
 pub(crate) fn cross_mass(s: &[f64], a: EqualityRow, b: EqualityRow, body_count: usize) -> Sum
     requires { (END ≤ length s.now) × (a.a < body_count) × (a.b < body_count) × (body_count ≤ BODIES_MOST) }
-    ensures { sum_as result ≡ cross_mass a b (masses_at (came s) MASSES body_count) }
+    ensures { sum_as result ≡ cross_mass a b (masses_at s.now MASSES body_count) }
 {
     let half = cross_end(s, body_count, 0.0, a.a, a.linear_a, a.angular_a, b);
     let value = cross_end(s, body_count, half, a.b, a.linear_b, a.angular_b, b);

@@ -10,7 +10,6 @@ ghost use Rattle.solves.specs.Path.{path_order, row_of, path_scale, less_product
 ghost use Rattle.solves.specs.Path.{path_factor, path_factored, forward_sum, forward as forward_of, backward_sum};
 ghost use Rattle.solves.specs.Path.{backward as backward_of, refine as refine_of};
 ghost use Rattle.solves.specs.Answer.{sum_as, ran_as, edges_as, Solves};
-ghost use Rattle.solves.specs.Lent.{came, left};
 ghost use Rattle.solves.specs.PathView.{Bodies, blocks_at, rows_of, Noted, Parted, OnGraph, Edged, order_at, Listed, Appended, Free};
 ghost use Rattle.solves.specs.PathView.{edges_on, walk_on, end_on, from_on, walks_on, walked_with, WalksOn, Orders, Ordered, on_path, BandAs, by_factor};
 ghost use Rattle.solves.specs.PathView.{place_of, line_at, InLine, LinesIn, row_line, column_line, side_line};
@@ -60,7 +59,7 @@ impl Walked {
 // How many runs of rows on one pair of bodies there are: block k is the rows from `starts[k]` to before `starts[k + 1]`.
 fn path_blocks(ia: &PerRow, ib: &PerRow, n: usize, starts: &mut [usize; 97]) -> usize
     requires { (n ≤ 96) × (Bodies ia.now n) × (Bodies ib.now n) × (length starts.old ≡ 97) }
-    ensures { Parted (came ia) (came ib) n (came starts) (left starts) result }
+    ensures { Parted ia.now ib.now n starts.old starts.new result }
 {
     let mut blocks = 0;
     for i in 0..n {
@@ -73,7 +72,7 @@ fn path_blocks(ia: &PerRow, ib: &PerRow, n: usize, starts: &mut [usize; 97]) -> 
 // Whether row i joins another pair than the row before it.
 fn begins(ia: &PerRow, ib: &PerRow, i: usize) -> bool
     requires { i < 96 }
-    ensures { result ≡ begins_of (came ia) (came ib) i }
+    ensures { result ≡ begins_of ia.now ib.now i }
 {
     if i == 0 {
         return true;
@@ -89,7 +88,7 @@ fn begins(ia: &PerRow, ib: &PerRow, i: usize) -> bool
 // Notes row i where a block begins with it, and how many blocks there are then.
 fn note_start(ia: &PerRow, ib: &PerRow, starts: &mut [usize; 97], blocks: usize, i: usize) -> usize
     requires { (i < 96) × (blocks < 97) }
-    ensures { Noted (begins_of (came ia) (came ib) i) (came starts) blocks i (left starts) result }
+    ensures { Noted (begins_of ia.now ib.now i) starts.old blocks i starts.new result }
 {
     if begins(ia, ib, i) {
         starts[blocks] = i;
@@ -101,7 +100,7 @@ fn note_start(ia: &PerRow, ib: &PerRow, starts: &mut [usize; 97], blocks: usize,
 // Notes a block on a body, which has room for two.
 fn add_edge(edges: &mut [usize; 32], body: usize, block: usize) -> bool
     requires { body < 16 }
-    ensures { edges_as result (left edges) ≡ add_edge body block (came edges) }
+    ensures { edges_as result edges.new ≡ add_edge body block edges.old }
 {
     if edges[2 * body] == NONE {
         edges[2 * body] = block;
@@ -121,8 +120,8 @@ fn path_edges(
     blocks: usize,
     edges: &mut [usize; 32],
 ) -> bool
-    requires { OnGraph ia ib starts blocks edges }
-    ensures { Edged blocks result (left edges) (loop blocks (edges_on (came ia) (came ib) (blocks_at (came starts) blocks)) (came edges)) }
+    requires { OnGraph ia.now ib.now starts.now blocks edges.old }
+    ensures { Edged blocks result edges.new (loop blocks (edges_on ia.now ib.now (blocks_at starts.now blocks)) edges.old) }
 {
     for k in 0..blocks {
         let row = starts[k];
@@ -139,7 +138,7 @@ fn path_edges(
 // The other block of a body.
 fn neighbor(edges: &[usize; 32], body: usize, block: usize) -> usize
     requires { body < 16 }
-    ensures { result ≡ neighbor_of (came edges) body block }
+    ensures { result ≡ neighbor_of edges.now body block }
 {
     if edges[2 * body] == block {
         return edges[2 * body + 1];
@@ -173,7 +172,7 @@ fn next_block(a: usize, b: usize, previous: usize) -> usize
 // The rows of a block at the end of the order, and how many stand there then.
 fn append(rows: &mut PerRow, listed: usize, from: usize, to: usize) -> usize
     requires { (from ≤ to) × (to ≤ 96) × (listed + (to - from) ≤ 96) × (length rows.old ≡ 96) }
-    ensures { Appended (order_at (came rows) listed) from to to (order_at (left rows) result) }
+    ensures { Appended (order_at rows.old listed) from to to (order_at rows.new result) }
 {
     let mut listed = listed;
     for i in from..to {
@@ -195,8 +194,8 @@ fn walk(
     rows: &mut PerRow,
     listed: usize,
 ) -> Walked
-    requires { (OnGraph ia ib starts blocks edges) × (first < blocks) × (Free (blocks_at starts.now blocks) (order_at rows.old listed) visited.old) }
-    ensures { WalksOn starts blocks visited rows listed result (λ b. walk_on (came ia) (came ib) b (came edges) first) }
+    requires { (OnGraph ia.now ib.now starts.now blocks edges.now) × (first < blocks) × (Free (blocks_at starts.now blocks) (order_at rows.old listed) visited.old) }
+    ensures { WalksOn starts.now blocks visited.old visited.new rows.old rows.new listed result (λ b. walk_on ia.now ib.now b edges.now first) }
 {
     let mut listed = listed;
     let mut current = first;
@@ -232,8 +231,8 @@ fn is_end(
     visited: &[bool; 96],
     block: usize,
 ) -> bool
-    requires { (OnGraph ia ib starts blocks edges) × (block < blocks) }
-    ensures { result ≡ end_on (came ia) (came ib) (blocks_at (came starts) blocks) (came edges) (came visited) block }
+    requires { (OnGraph ia.now ib.now starts.now blocks edges.now) × (block < blocks) }
+    ensures { result ≡ end_on ia.now ib.now (blocks_at starts.now blocks) edges.now visited.now block }
 {
     if visited[block] {
         return false;
@@ -257,8 +256,8 @@ fn walk_from(
     rows: &mut PerRow,
     listed: usize,
 ) -> Walked
-    requires { (OnGraph ia ib starts blocks edges) × (first < blocks) × (Free (blocks_at starts.now blocks) (order_at rows.old listed) visited.old) }
-    ensures { WalksOn starts blocks visited rows listed result (λ b. from_on (came ia) (came ib) b (came edges) first) }
+    requires { (OnGraph ia.now ib.now starts.now blocks edges.now) × (first < blocks) × (Free (blocks_at starts.now blocks) (order_at rows.old listed) visited.old) }
+    ensures { WalksOn starts.now blocks visited.old visited.new rows.old rows.new listed result (λ b. from_on ia.now ib.now b edges.now first) }
 {
     if is_end(ia, ib, starts, blocks, edges, visited, first) {
         return walk(ia, ib, starts, blocks, edges, visited, first, rows, listed);
@@ -275,9 +274,9 @@ fn path_walks(
     edges: &[usize; 32],
     rows: &mut PerRow,
 ) -> Walked
-    requires { (OnGraph ia ib starts blocks edges) × (Listed (order_at rows.old 0) (rows_of (blocks_at starts.now blocks))) }
-    ensures { Orders (blocks_at (came starts) blocks) result.found (order_at (left rows) result.listed)
-        (walks_on (came ia) (came ib) (blocks_at (came starts) blocks) (came edges)) }
+    requires { (OnGraph ia.now ib.now starts.now blocks edges.now) × (Listed (order_at rows.old 0) (rows_of (blocks_at starts.now blocks))) }
+    ensures { Orders (blocks_at starts.now blocks) result.found (order_at rows.new result.listed)
+        (walks_on ia.now ib.now (blocks_at starts.now blocks) edges.now) }
 {
     let mut visited = [false; 96];
     let mut listed = 0;
@@ -313,7 +312,7 @@ fn no_path() -> PathOrder
 // The rows along the path, if the graph is one.
 pub(crate) fn path_order(ia: &PerRow, ib: &PerRow, n: usize) -> PathOrder
     requires { (n ≤ 96) × (Bodies ia.now n) × (Bodies ib.now n) }
-    ensures { Ordered n result (path_order (list_of_first (came ia) n) (list_of_first (came ib) n) n) }
+    ensures { Ordered n result (path_order (list_of_first ia.now n) (list_of_first ib.now n) n) }
 {
     let mut starts = [0usize; 97];
     let blocks = path_blocks(ia, ib, n, &mut starts);
@@ -386,7 +385,7 @@ fn place(line: Line, k: usize) -> usize
 // `start` less the products of two lines, one after the other: the three sums of the Rust.
 fn less_products(s: &[f64], start: f64, a: Line, b: Line, terms: usize) -> f64
     requires { LinesIn s.now a b terms }
-    ensures { result ≡ less_products (line_at (came s) a) (line_at (came s) b) terms start }
+    ensures { result ≡ less_products (line_at s.now a) (line_at s.now b) terms start }
 {
     let mut value = start;
     for k in 0..terms {
@@ -415,8 +414,8 @@ fn cross_at(
     i: usize,
     j: usize,
 ) -> Sum
-    requires { (ReadyAlong s ia ib t order) × (i < t.rows) × (j < t.rows) }
-    ensures* { λ r. ⌜ sum_as r ≡ on_path s ia ib t order (λ r m o. cross_mass (row_of r m o i) (row_of r m o j) m) ⌝ }
+    requires { (ReadyAlong s.now ia.now ib.now t order.now) × (i < t.rows) × (j < t.rows) }
+    ensures { sum_as result ≡ on_path s.now ia.now ib.now t order.now (λ r m o. cross_mass (row_of r m o i) (row_of r m o j) m) }
 {
     let a = load_row(s, ia, ib, t.place, order[i]);
     let b = load_row(s, ia, ib, t.place, order[j]);
@@ -424,9 +423,9 @@ fn cross_at(
 }
 
 fn path_scale(s: &mut [f64], ia: &PerRow, ib: &PerRow, t: Table, order: &PerRow) -> End
-    requires { ReadyAlong s ia ib t order }
-    ensures { Does (Beside PATH_SCALE) (came s) (left s) (ran_as result (vec_at (left s) PATH_SCALE t.rows))
-        (on_path s ia ib t order path_scale t.rows) }
+    requires { ReadyAlong s.old ia.now ib.now t order.now }
+    ensures { Does (Beside PATH_SCALE) s.old s.new (ran_as result (vec_at s.new PATH_SCALE t.rows))
+        (on_path s.old ia.now ib.now t order.now path_scale t.rows) }
 {
     for i in 0..t.rows {
         let Sum::Value(value) = cross_at(s, ia, ib, t, order, i, i) else {
@@ -443,7 +442,7 @@ fn path_scale(s: &mut [f64], ia: &PerRow, ib: &PerRow, t: Table, order: &PerRow)
 // The entry less the products of the columns before it.
 fn reduced(s: &[f64], entry: f64, i: usize, j: usize, n: usize) -> f64
     requires { (END ≤ length s.now) × (n ≤ 96) × (i < n) × (j ≤ i) × (i ≤ j + 11) }
-    ensures { result ≡ reduced_of (band_at (came s) n) i j entry }
+    ensures { result ≡ reduced_of (band_at s.now n) i j entry }
 {
     let from = band_start(i);
     less_products(s, entry, row_line(i, from), row_line(j, from), j - from)
@@ -458,8 +457,8 @@ fn path_entry(
     i: usize,
     j: usize,
 ) -> End
-    requires { (ReadyAlong s ia ib t order) × (i < t.rows) × (j ≤ i) × (i ≤ j + 11) }
-    ensures { BandAs s ia ib t order result (λ rows masses order scale. path_entry rows masses order scale i j) }
+    requires { (ReadyAlong s.old ia.now ib.now t order.now) × (i < t.rows) × (j ≤ i) × (i ≤ j + 11) }
+    ensures { BandAs s.old s.new ia.now ib.now t order.now result (λ rows masses order scale. path_entry rows masses order scale i j) }
 {
     let Sum::Value(entry) = cross_at(s, ia, ib, t, order, i, j) else {
         return End::ArithmeticOverflow;
@@ -486,8 +485,8 @@ fn path_entry(
 }
 
 fn path_row(s: &mut [f64], ia: &PerRow, ib: &PerRow, t: Table, order: &PerRow, i: usize) -> End
-    requires { (ReadyAlong s ia ib t order) × (i < t.rows) }
-    ensures { BandAs s ia ib t order result (λ rows masses order scale. path_row rows masses order scale i) }
+    requires { (ReadyAlong s.old ia.now ib.now t order.now) × (i < t.rows) }
+    ensures { BandAs s.old s.new ia.now ib.now t order.now result (λ rows masses order scale. path_row rows masses order scale i) }
 {
     for j in band_start(i)..i + 1 {
         let end = path_entry(s, ia, ib, t, order, i, j);
@@ -499,8 +498,8 @@ fn path_row(s: &mut [f64], ia: &PerRow, ib: &PerRow, t: Table, order: &PerRow, i
 }
 
 fn path_factor(s: &mut [f64], ia: &PerRow, ib: &PerRow, t: Table, order: &PerRow) -> End
-    requires { ReadyAlong s ia ib t order }
-    ensures { BandAs s ia ib t order result (λ rows masses order scale _. path_factor rows masses order scale t.rows) }
+    requires { ReadyAlong s.old ia.now ib.now t order.now }
+    ensures { BandAs s.old s.new ia.now ib.now t order.now result (λ rows masses order scale _. path_factor rows masses order scale t.rows) }
 {
     clear(s, PATH_BAND, BAND_WIDTH * t.rows);
     for i in 0..t.rows {
@@ -514,7 +513,7 @@ fn path_factor(s: &mut [f64], ia: &PerRow, ib: &PerRow, t: Table, order: &PerRow
 
 fn forward_sum(s: &[f64], start: f64, i: usize, n: usize) -> f64
     requires { (END ≤ length s.now) × (n ≤ 96) × (i < n) }
-    ensures { result ≡ forward_sum (band_at (came s) n) (vec_at (came s) PATH_RHS i) i start }
+    ensures { result ≡ forward_sum (band_at s.now n) (vec_at s.now PATH_RHS i) i start }
 {
     let from = band_start(i);
     less_products(s, start, row_line(i, from), side_line(from), i - from)
@@ -522,7 +521,7 @@ fn forward_sum(s: &[f64], start: f64, i: usize, n: usize) -> f64
 
 fn forward(s: &mut [f64], order: &PerRow, n: usize)
     requires { (END ≤ length s.old) × (n ≤ 96) × (Along order.now n) }
-    ensures { Does (Beside PATH_RHS) (came s) (left s) (vec_at (left s) PATH_RHS n) (by_factor s order n forward_of (vec_at (came s) RESIDUAL n)) }
+    ensures { Does (Beside PATH_RHS) s.old s.new (vec_at s.new PATH_RHS n) (by_factor s.old order.now n forward_of (vec_at s.old RESIDUAL n)) }
 {
     for i in 0..n {
         let start = s[RESIDUAL + order[i]] / s[PATH_SCALE + i];
@@ -543,7 +542,7 @@ fn band_end(i: usize, n: usize) -> usize
 
 fn backward_sum(s: &[f64], start: f64, i: usize, n: usize) -> f64
     requires { (END ≤ length s.now) × (n ≤ 96) × (i < n) }
-    ensures { result ≡ backward_sum n (band_at (came s) n) (vec_at (came s) PATH_RHS n) i start }
+    ensures { result ≡ backward_sum n (band_at s.now n) (vec_at s.now PATH_RHS n) i start }
 {
     let from = i + 1;
     less_products(
@@ -558,8 +557,8 @@ fn backward_sum(s: &[f64], start: f64, i: usize, n: usize) -> f64
 // From the last row to the first, with the correction added to the solution.
 fn backward(s: &mut [f64], order: &PerRow, n: usize)
     requires { (END ≤ length s.old) × (n ≤ 96) × (Along order.now n) }
-    ensures { Does (λ i. (Beside PATH_RHS i) × (Beside SOLUTION i)) (came s) (left s) (vec_at (left s) SOLUTION n)
-        (by_factor s order n backward_of (vec_at (came s) PATH_RHS n) (vec_at (came s) SOLUTION n)) }
+    ensures { Does (λ i. (Beside PATH_RHS i) × (Beside SOLUTION i)) s.old s.new (vec_at s.new SOLUTION n)
+        (by_factor s.old order.now n backward_of (vec_at s.old PATH_RHS n) (vec_at s.old SOLUTION n)) }
 {
     for k in 0..n {
         let i = n - 1 - k;
@@ -571,8 +570,8 @@ fn backward(s: &mut [f64], order: &PerRow, n: usize)
 }
 
 fn path_factored(s: &mut [f64], ia: &PerRow, ib: &PerRow, t: Table, order: &PerRow) -> End
-    requires { ReadyAlong s ia ib t order }
-    ensures { Does Factoring (came s) (left s) (ran_as result (factor_at (left s) t.rows)) (on_path s ia ib t order path_factored t.rows) }
+    requires { ReadyAlong s.old ia.now ib.now t order.now }
+    ensures { Does Factoring s.old s.new (ran_as result (factor_at s.new t.rows)) (on_path s.old ia.now ib.now t order.now path_factored t.rows) }
 {
     let end = path_scale(s, ia, ib, t, order);
     if !done(end) {
@@ -583,9 +582,9 @@ fn path_factored(s: &mut [f64], ia: &PerRow, ib: &PerRow, t: Table, order: &PerR
 
 // One refinement, up to the new residual.
 fn refine(s: &mut [f64], ia: &PerRow, ib: &PerRow, t: Table, order: &PerRow) -> End
-    requires { ReadyAlong s ia ib t order }
-    ensures { Does Refining (came s) (left s) (ran_as result (refined_at (left s) t.rows))
-        (refine_of (system_in s ia ib t) (rhs_on s t) (order_on order t) (factor_at (came s) t.rows) (refined_at (came s) t.rows)) }
+    requires { ReadyAlong s.old ia.now ib.now t order.now }
+    ensures { Does Refining s.old s.new (ran_as result (refined_at s.new t.rows))
+        (refine_of (system_in s.old ia.now ib.now t) (rhs_on s.old t) (order_on order.now t) (factor_at s.old t.rows) (refined_at s.old t.rows)) }
 {
     let n = t.rows;
     forward(s, order, n);
@@ -607,9 +606,9 @@ fn refinements(
     order: &PerRow,
     tolerance: f64,
 ) -> Ended
-    requires { ReadyAlong s ia ib t order }
-    ensures { Solves s ia ib t result (λ system.
-        up_to 4 non_convergent (refinement system (rhs_on s t) (order_on order t) (factor_at (came s) t.rows) tolerance) (refined_at (came s) t.rows)) }
+    requires { ReadyAlong s.old ia.now ib.now t order.now }
+    ensures { Solves s.old s.new ia.now ib.now t result (λ system.
+        up_to 4 non_convergent (refinement system (rhs_on s.old t) (order_on order.now t) (factor_at s.old t.rows) tolerance) (refined_at s.old t.rows)) }
 {
     for k in 0..4usize {
         let refined = refine(s, ia, ib, t, order);
@@ -625,8 +624,8 @@ fn refinements(
 
 // The path's solve along an order of the rows, from the right side as residual.
 pub(crate) fn path_along(s: &mut [f64], ia: &PerRow, ib: &PerRow, t: Table, order: &PerRow) -> Ended
-    requires { ReadyAlong s ia ib t order }
-    ensures { Solves s ia ib t result (λ system. path_along system (rhs_on s t) (solution_on s t) (order_on order t)) }
+    requires { ReadyAlong s.old ia.now ib.now t order.now }
+    ensures { Solves s.old s.new ia.now ib.now t result (λ system. path_along system (rhs_on s.old t) (solution_on s.old t) (order_on order.now t)) }
 {
     let n = t.rows;
     let factored = path_factored(s, ia, ib, t, order);

@@ -1,7 +1,6 @@
 // Loads and stores of the scratch: a body's share of the rows, and its mass response.
 ghost use Rattle.std.specs.Prelude.{◌≡◌, ◌+◌, ◌*◌, ◌≤◌, ◌<◌, length};
 ghost use Rattle.rows.specs.View.{Out, Kept};
-ghost use Rattle.solves.specs.Lent.{came, left};
 ghost use Rattle.solves.specs.View.{row_on, generalized_at, mass_at, mass_of};
 
 use crate::PerRow;
@@ -25,14 +24,14 @@ pub struct MassResponse {
 
 pub fn load_row(s: &[f64], ia: &PerRow, ib: &PerRow, place: usize, k: usize) -> EqualityRow
     requires { (place + 14 * k + 14 ≤ length s.now) × (k < 96) }
-    ensures { result ≡ row_on (came ia) (came ib) (came s) place k }
+    ensures { result ≡ row_on ia.now ib.now s.now place k }
 {
     EqualityRow::load(s, place + ROW * k, ia[k], ib[k])
 }
 
 pub fn load_generalized(s: &[f64], place: usize, k: usize) -> Generalized
     requires { place + 6 * k + 6 ≤ length s.now }
-    ensures { result ≡ generalized_at (came s) place k }
+    ensures { result ≡ generalized_at s.now place k }
 {
     let i = place + SHARE * k;
     Generalized {
@@ -43,7 +42,7 @@ pub fn load_generalized(s: &[f64], place: usize, k: usize) -> Generalized
 
 pub(crate) fn store_generalized(s: &mut [f64], place: usize, k: usize, g: Generalized)
     requires { place + 6 * k + 6 ≤ length s.old }
-    ensures { (Kept (λ j. Out (place + 6 * k) 6 j) (came s) (left s)) × (generalized_at (left s) place k ≡ g) }
+    ensures { (Kept (λ j. Out (place + 6 * k) 6 j) s.old s.new) × (generalized_at s.new place k ≡ g) }
 {
     let i = place + SHARE * k;
     store3(s, i, g.linear);
@@ -52,7 +51,7 @@ pub(crate) fn store_generalized(s: &mut [f64], place: usize, k: usize, g: Genera
 
 pub(crate) fn load_mass(s: &[f64], place: usize, k: usize) -> MassResponse
     requires { place + 10 * k + 10 ≤ length s.now }
-    ensures { result ≡ mass_at (came s) place k }
+    ensures { result ≡ mass_at s.now place k }
 {
     let i = place + MASS * k;
     let x = load3(s, i + 1);
@@ -66,7 +65,7 @@ pub(crate) fn load_mass(s: &[f64], place: usize, k: usize) -> MassResponse
 
 pub fn store_mass(s: &mut [f64], place: usize, k: usize, linear: f64, x: Vec3, y: Vec3, z: Vec3)
     requires { place + 10 * k + 10 ≤ length s.old }
-    ensures { (Kept (λ j. Out (place + 10 * k) 10 j) (came s) (left s)) × (mass_at (left s) place k ≡ mass_of linear x y z) }
+    ensures { (Kept (λ j. Out (place + 10 * k) 10 j) s.old s.new) × (mass_at s.new place k ≡ mass_of linear x y z) }
 {
     let i = place + MASS * k;
     s[i] = linear;

@@ -3,7 +3,6 @@ ghost use Rattle.std.specs.Prelude.{◌≡◌, ◌≤◌};
 ghost use Rattle.arith.specs.Run.{up_to};
 ghost use Rattle.rows.specs.Fault.{non_convergent};
 ghost use Rattle.solves.specs.Answer.{search_as, pass_of, limit_of, Solves};
-ghost use Rattle.solves.specs.Lent.{came, left};
 ghost use Rattle.solves.specs.Region.{Does};
 ghost use Rattle.solves.specs.View.{system_in, rhs_on, diagonal_on, search_on, Ready, Passing, ROWS_MOST};
 
@@ -37,9 +36,9 @@ fn search_pass(
     tolerance: f64,
     rho: f64,
 ) -> Next
-    requires { Ready s ia ib t }
-    ensures { Does Passing (came s) (left s) (search_as result (left s) t.rows)
-        (pass_of which (system_in s ia ib t) (rhs_on s t) (diagonal_on s t) tolerance (search_on s t rho)) }
+    requires { Ready s.old ia.now ib.now t }
+    ensures { Does Passing s.old s.new (search_as result s.new t.rows)
+        (pass_of which (system_in s.old ia.now ib.now t) (rhs_on s.old t) (diagonal_on s.old t) tolerance (search_on s.old t rho)) }
 {
     match which {
         Which::LeastSquares => least_pass(s, ia, ib, t, tolerance, rho),
@@ -57,9 +56,9 @@ pub(crate) fn search(
     tolerance: f64,
     start: f64,
 ) -> Ended
-    requires { Ready s ia ib t }
-    ensures { Solves s ia ib t result (λ system.
-        up_to (limit_of which t.rows) non_convergent (pass_of which system (rhs_on s t) (diagonal_on s t) tolerance) (search_on s t start)) }
+    requires { Ready s.old ia.now ib.now t }
+    ensures { Solves s.old s.new ia.now ib.now t result (λ system.
+        up_to (limit_of which t.rows) non_convergent (pass_of which system (rhs_on s.old t) (diagonal_on s.old t) tolerance) (search_on s.old t start)) }
 {
     let most = limit(which, t.rows);
     let mut rho = start;

@@ -12,8 +12,8 @@ use crate::{Ended, PerRow, Table};
 use rows::geometry::clear;
 
 pub fn linear_solve(s: &mut [f64], ia: &PerRow, ib: &PerRow, t: Table, cyclic: bool) -> Ended
-    requires { Ready s ia ib t }
-    ensures { SolvesNumbered s ia ib t result (λ system. linear_solve cyclic system (rhs_on s t)) }
+    requires { Ready s.old ia.now ib.now t }
+    ensures { SolvesNumbered s.old s.new ia.now ib.now t result (λ system. linear_solve cyclic system (rhs_on s.old t)) }
 {
     let n = t.rows;
     clear(s, SOLUTION, n);

@@ -16,7 +16,6 @@ use Rattle.rows.specs.Fault.{Fault, non_convergent}
 use Rattle.rows.specs.Region.{tab-length}
 use Rattle.solves.specs.declared.Table.{Table}
 use Rattle.solves.specs.Region.{Does}
-use Rattle.solves.specs.Lent.{Slice}
 use Rattle.solves.specs.View.{ROWS_MOST, ROWS, row_on, rows_on}
 use Rattle.step.specs.declared.passes.Stage.{Stage}
 use Rattle.step.specs.declared.passes.Stage.TheVariants as Stages
@@ -68,12 +67,12 @@ module _ (ia ib : List ℕ) (s : List Float) (table : Table) (few : table.rows �
   rows_few place = omega (arith, tab-length table.rows (row_on ia ib s place))
 
 -- of a pass
-pub pass-few : (stage : Stage) (job : Job) {S : Slice Float} {IA IB : Slice ℕ} {table : Table} → Ours S IA IB table → (s : List Float) (v : Given stage)
-    {x : Turn (Turn (Given stage) (Gained stage)) Fault} {m l : ℕ} → ran x m l ≡ pass_at stage job IA.now IB.now table s v → l ≤ LIMIT
+pub pass-few : (stage : Stage) (job : Job) {S : List Float} {IA IB : List ℕ} {table : Table} → Ours S IA IB table → (s : List Float) (v : Given stage)
+    {x : Turn (Turn (Given stage) (Gained stage)) Fault} {m l : ℕ} → ran x m l ≡ pass_at stage job IA IB table s v → l ≤ LIMIT
 pass-few Stages.Nonlinear job {IA = IA} {IB} {table} pre s v e =
-    omega (arith, counted-most e (nonlinear-most job _ v), rows_few IA.now IB.now s table pre.ready.most table.place)
+    omega (arith, counted-most e (nonlinear-most job _ v), rows_few IA IB s table pre.ready.most table.place)
 pass-few Stages.Velocity job {IA = IA} {IB} {table} pre s v e =
-    omega (arith, counted-most e (velocity-most job _ v), rows_few IA.now IB.now s table pre.ready.most table.place)
+    omega (arith, counted-most e (velocity-most job _ v), rows_few IA IB s table pre.ready.most table.place)
 
 -- of the rows of a run
 module _ {joints : List Joint} {count : ℕ} {ia ib : List ℕ} (sides : Sides joints count ia ib) (table : Table) (few : table.rows ≤ ROWS_MOST)

@@ -24,7 +24,6 @@ use Rattle.rows.specs.declared.End.TheVariants as Ends
 use Rattle.solves.specs.declared.Ended.{Ended}
 use Rattle.solves.specs.declared.Table.{Table}
 use Rattle.solves.specs.Layout.{MASS_TABLE, ROW_TABLE}
-use Rattle.solves.specs.Lent.{Slice}
 use Rattle.solves.specs.Region.{Filled, Does}
 use Rattle.solves.specs.System.{Counting}
 use Rattle.solves.specs.Answer.{ran_as, is_done, ended_as}
@@ -48,11 +47,11 @@ use Rattle.step.proofs.PassLaws.{failed-as}
 use Rattle.step.proofs.NonlinearLaws.{from-none}
 
 -- ---- finish_run
-module _ (job : Job) (bodies : List RigidBody) {S : Slice Float} {IA IB : Slice ℕ} {t : Table} (pre : Ours S IA IB t) {s s₁ : List Float} (r₁ : End)
+module _ (job : Job) (bodies : List RigidBody) {S : List Float} {IA IB : List ℕ} {t : Table} (pre : Ours S IA IB t) {s s₁ : List Float} (r₁ : End)
     (d₁ : Does (Out MASSES MASS_TABLE) s s₁ (ran_as r₁ (masses_at s₁ MASSES t.bodies)) (prepare_masses (candidates_at s t.bodies)))
     {b : Bool} (eb : b ≡ is_done r₁) where
   abbrev Finishes : List Float → Counting (List BodyState) → Type 0
-  Finishes u x = Does (Out MASSES (USED - MASSES)) s u x (finish_of job bodies (found_at IA.now IB.now s t))
+  Finishes u x = Does (Out MASSES (USED - MASSES)) s u x (finish_of job bodies (found_at IA IB s t))
 
   pub not-weighed : not b ≡ true → Finishes s₁ (ran (ran_as r₁ (states_at s₁ t.bodies)) 0 0)
   unfolding finish_of
@@ -63,19 +62,19 @@ module _ (job : Job) (bodies : List RigidBody) {S : Slice Float} {IA IB : Slice 
 
   module _ (h : not b ≡ false) {s₂ : List Float} (r₂ : Looped)
       (d₂ : Does Correcting s₁ s₂ (ran (ran_as r₂.end (candidates_at s₂ t.bodies)) 0 r₂.linear)
-      (up_to 3 non_convergent (velocity_pass job (system_on IA.now IB.now s₁ (candidate_table t))) (candidates_at s₁ t.bodies)))
+      (up_to 3 non_convergent (velocity_pass job (system_on IA IB s₁ (candidate_table t))) (candidates_at s₁ t.bodies)))
       {c : Bool} (ec : c ≡ is_done r₂.end) where
     weighed : go (masses_at s₁ MASSES t.bodies) ≡ prepare_masses (candidates_at s t.bodies)
     weighed = sym (ran-done (masses_at s₁ MASSES t.bodies) r₁ (sym eb ∙ not-no b h)) ∙ d₁.is
 
     abbrev loop : Counting (List MomentumBody)
-    loop = velocity_loop job (record { rows = rows_on IA.now IB.now s ROWS t.rows; masses = masses_at s₁ MASSES t.bodies })
+    loop = velocity_loop job (record { rows = rows_on IA IB s ROWS t.rows; masses = masses_at s₁ MASSES t.bodies })
         (candidates_at s t.bodies)
 
     loop-is : ran (ran_as r₂.end (candidates_at s₂ t.bodies)) 0 r₂.linear ≡ loop
     unfolding velocity_loop
     loop-is = d₂.is ∙ λ j. velocity_loop job
-        (record { rows = kept-rows d₁.kept IA.now IB.now ROWS t.rows (λ i a b. omega arith) j; masses = masses_at s₁ MASSES t.bodies })
+        (record { rows = kept-rows d₁.kept IA IB ROWS t.rows (λ i a b. omega arith) j; masses = masses_at s₁ MASSES t.bodies })
         (kept-candidates d₁.kept t.bodies (λ i a b. omega arith) (λ i a b. omega arith) j)
 
     kept₂ : Kept (Out MASSES (USED - MASSES)) s s₂
@@ -100,7 +99,7 @@ module _ (job : Job) (bodies : List RigidBody) {S : Slice Float} {IA IB : Slice 
       is = run_is refl (let z : r₂.linear ≡ r₂.linear + 0 = omega arith in z)
           ∙ ap (λ (t : Result (List BodyState)). after 0 r₂.linear (try t)) d₃.is
           ∙ then-go (λ candidate. try (states_of bodies candidate)) rested
-          ∙ try-go (λ masses. velocity_loop job (record { rows = rows_on IA.now IB.now s ROWS t.rows; masses = masses }) (candidates_at s t.bodies)
+          ∙ try-go (λ masses. velocity_loop job (record { rows = rows_on IA IB s ROWS t.rows; masses = masses }) (candidates_at s t.bodies)
           >>= λ candidate. try (states_of bodies candidate)) weighed;
     }
       where

@@ -18,7 +18,6 @@ use Rattle.solves.specs.declared.Table.{Table}
 use Rattle.solves.specs.declared.places.Generalized.{Generalized}
 use Rattle.solves.specs.declared.places.MassResponse.{MassResponse}
 use Rattle.solves.specs.Layout.{ROW_TABLE, MASS_TABLE}
-use Rattle.solves.specs.Lent.{Slice}
 use Rattle.solves.specs.Region.{Does}
 use Rattle.solves.specs.RegionLaws.{kept-vec}
 use Rattle.solves.specs.Solver.{transpose}
@@ -111,9 +110,9 @@ module _ (job : Job) (bodies : List Float) (g : count_of_bodies bodies ≤ 16) (
         }
 
 -- ---- candidate
-module _ (job : Job) {S : Slice Float} {IA IB : Slice ℕ} {table : Table} (pre : Ours S IA IB table) (s s₁ : List Float) where
+module _ (job : Job) {S : List Float} {IA IB : List ℕ} {table : Table} (pre : Ours S IA IB table) (s s₁ : List Float) where
   abbrev Tried : List Float → Result Found → Type 0
-  Tried t x = (Does Trying s t x (candidate_of job (started_at IA.now IB.now s table) (impulses_at s table))) × (impulses_at t table ≡ impulses_at s table)
+  Tried t x = (Does Trying s t x (candidate_of job (started_at IA IB s table) (impulses_at s table))) × (impulses_at t table ≡ impulses_at s table)
 
   abbrev on_moved : List MomentumBody → Result Found
   on_moved candidate = write_rows job.joints job.count candidate >>= λ rows. go (record { candidate = candidate; rows = rows })
@@ -122,14 +121,14 @@ module _ (job : Job) {S : Slice Float} {IA IB : Slice ℕ} {table : Table} (pre 
   on_shares shares = move_bodies job.dt (start_bodies_at s table.bodies) shares >>= on_moved
 
   abbrev Pushed : Result (List Generalized) → Type 0
-  Pushed x = Does Shares s s₁ x (transpose (rows_on IA.now IB.now s table.place table.rows) (impulses_at s table) table.bodies)
+  Pushed x = Does Shares s s₁ x (transpose (rows_on IA IB s table.place table.rows) (impulses_at s table) table.bodies)
 
   -- `length start` is the number of bodies
   counted : {x : Result (List Generalized)} → Pushed x
       → Does Shares s s₁ x
-      (transpose (rows_on IA.now IB.now s table.place table.rows) (impulses_at s table) (length (start_bodies_at s table.bodies)))
+      (transpose (rows_on IA IB s table.place table.rows) (impulses_at s table) (length (start_bodies_at s table.bodies)))
   counted d =
-      does-is d (ap (transpose (rows_on IA.now IB.now s table.place table.rows) (impulses_at s table))
+      does-is d (ap (transpose (rows_on IA IB s table.place table.rows) (impulses_at s table))
       (sym (tab-length table.bodies (start_body_at s))))
 
   pub not-pushed : (r : End) {b : Bool} → b ≡ is_done r → not b ≡ true → Pushed (ran_as r (shares_in s₁ table.bodies)) → (y : Found)
@@ -164,9 +163,9 @@ module _ (job : Job) {S : Slice Float} {IA IB : Slice ℕ} {table : Table} (pre 
     )
 
     pub all-tried : Moved (go (candidates_at s₂ table.bodies)) → {n : ℕ} → table.rows ≡ n → {s₃ : List Float} (r : End)
-        → Does (Out ROWS ROW_TABLE) s₂ s₃ (ran_as r (rows_on IA.now IB.now s₃ ROWS n))
+        → Does (Out ROWS ROW_TABLE) s₂ s₃ (ran_as r (rows_on IA IB s₃ ROWS n))
         (write_rows job.joints job.count (candidates_at s₂ table.bodies))
-        → Tried s₃ (ran_as r (found_at IA.now IB.now s₃ table))
+        → Tried s₃ (ran_as r (found_at IA IB s₃ table))
     unfolding candidate_of
     all-tried d₂ {n} en {s₃} r d₃ = (
       does-then on_shares (λ i x. omega (arith, x.1)) {T = λ i. (Out CANDIDATE STATES i) × (Out ROWS ROW_TABLE i)} (λ i x. (x.2, x.0)) (counted d₁)
@@ -180,16 +179,16 @@ module _ (job : Job) {S : Slice Float} {IA IB : Slice ℕ} {table : Table} (pre 
         found : List EqualityRow → Found
         found rows = record { candidate = candidates_at s₂ table.bodies; rows = rows }
 
-        there : found_at IA.now IB.now s₃ table ≡ found (rows_on IA.now IB.now s₃ ROWS n)
+        there : found_at IA IB s₃ table ≡ found (rows_on IA IB s₃ ROWS n)
         there = λ j. record {
           candidate = kept-candidates d₃.kept table.bodies (λ i a b. omega arith) (λ i a b. omega arith) j;
-          rows = rows_on IA.now IB.now s₃ ROWS (en j);
+          rows = rows_on IA IB s₃ ROWS (en j);
         }
 
-        last : Does (Out ROWS ROW_TABLE) s₂ s₃ (ran_as r (found_at IA.now IB.now s₃ table)) (on_moved (candidates_at s₂ table.bodies))
+        last : Does (Out ROWS ROW_TABLE) s₂ s₃ (ran_as r (found_at IA IB s₃ table)) (on_moved (candidates_at s₂ table.bodies))
         last = record {
           kept = d₃.kept;
           is =
-              ap (ran_as r) there ∙ ran_then r (rows_on IA.now IB.now s₃ ROWS n) found
+              ap (ran_as r) there ∙ ran_then r (rows_on IA IB s₃ ROWS n) found
               ∙ ap (λ (x : Result (List EqualityRow)). x >>= λ rows. go (found rows)) d₃.is;
         }

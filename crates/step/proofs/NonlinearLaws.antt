@@ -26,48 +26,47 @@ use Rattle.step.specs.Layout.{IMPULSES}
 use Rattle.step.specs.Bodies.{Job, Found, rows_met, rhs_of, add_impulses, candidate_of}
 use Rattle.step.specs.TurnLaws.{correction}
 use Rattle.step.specs.Step.{nonlinear_pass, nonlinear_loop}
-use Rattle.solves.specs.Lent.{Slice}
 use Rattle.step.specs.RunView.{impulses_at, started_at, found_at, Ours, Trying}
 use Rattle.step.proofs.LoopLaws.{kept-started}
 use Rattle.step.proofs.PassLaws.{begun, pass-fails, pass-met, pass-corrects}
 
 -- ---- nonlinear_pass
-module _ (job : Job) {S : Slice Float} {IA IB : Slice ℕ} {table : Table} (pre : Ours S IA IB table) (apart : table.place + ROW_TABLE ≤ ROWS)
-    {s s₁ : List Float} (r : End) (d : (Does Trying s s₁ (ran_as r (found_at IA.now IB.now s₁ table))
-    (candidate_of job (started_at IA.now IB.now s table) (impulses_at s table))) × (impulses_at s₁ table ≡ impulses_at s table))
+module _ (job : Job) {S : List Float} {IA IB : List ℕ} {table : Table} (pre : Ours S IA IB table) (apart : table.place + ROW_TABLE ≤ ROWS)
+    {s s₁ : List Float} (r : End) (d : (Does Trying s s₁ (ran_as r (found_at IA IB s₁ table))
+    (candidate_of job (started_at IA IB s table) (impulses_at s table))) × (impulses_at s₁ table ≡ impulses_at s table))
     {b : Bool} (eb : b ≡ is_done r) where
   abbrev Turns : List Float → Counting (Turn (List Float) Found) → Type 0
-  Turns t x = Does Trying s t x (nonlinear_pass job (started_at IA.now IB.now s table) (impulses_at s table))
+  Turns t x = Does Trying s t x (nonlinear_pass job (started_at IA IB s table) (impulses_at s table))
 
-  pub not_found : not b ≡ true → Turns s₁ (ran (over (ran_as r (found_at IA.now IB.now s₁ table))) 1 0)
+  pub not_found : not b ≡ true → Turns s₁ (ran (over (ran_as r (found_at IA IB s₁ table))) 1 0)
   unfolding nonlinear_pass
   not_found h = begun (pass-fails (λ (f : Found). rows_met f.rows) (λ f. f) _ _ r d.0 eb _ h)
 
   module _ (h : not b ≡ false) {c : Bool} (ec : (ia ib : List ℕ) → c ≡ rows_met (rows_on ia ib s₁ ROWS table.rows)) where
-    pub found-met : c ≡ true → Turns s₁ (ran (go (stop (found_at IA.now IB.now s₁ table))) 1 0)
+    pub found-met : c ≡ true → Turns s₁ (ran (go (stop (found_at IA IB s₁ table))) 1 0)
     unfolding nonlinear_pass
-    found-met k = begun (pass-met (λ (f : Found). rows_met f.rows) (λ f. f) _ _ r d.0 eb h (ec IA.now IB.now) k)
+    found-met k = begun (pass-met (λ (f : Found). rows_met f.rows) (λ f. f) _ _ r d.0 eb h (ec IA IB) k)
 
     pub found-unmet : c ≡ false → {s₂ : List Float}
         → ((ia ib : List ℕ) → Does (Beside RHS) s₁ s₂ (vec_at s₂ RHS table.rows) (rhs_of job.dt (rows_on ia ib s₁ ROWS table.rows)))
         → {u : List Float} {t : Result (Turn (List Float) Found)} {n : ℕ} → Does Trying s₂ u (ran t 0 n)
-        (correction (linear_solve job.cyclic (system_on IA.now IB.now s₂ table) (vec_at s₂ RHS table.rows)) (add_impulses (impulses_at s₂ table)))
+        (correction (linear_solve job.cyclic (system_on IA IB s₂ table) (vec_at s₂ RHS table.rows)) (add_impulses (impulses_at s₂ table)))
         → Turns u (ran t 1 n)
     unfolding nonlinear_pass
-    found-unmet k {s₂} f e = begun (pass-corrects (λ (f : Found). rows_met f.rows) (λ f. f) _ _ r d.0 eb h (ec IA.now IB.now) k (record {
+    found-unmet k {s₂} f e = begun (pass-corrects (λ (f : Found). rows_met f.rows) (λ f. f) _ _ r d.0 eb h (ec IA IB) k (record {
       kept = kept_then filled e.kept (λ i x. x);
       is = e.is ∙ λ j. correction (linear_solve job.cyclic (same j).system (d₁.is j))
           (add_impulses ((kept-vec d₁.kept IMPULSES table.rows (λ i a b. omega (arith, pre.ready.most)) ∙ d.1) j));
     }))
       where
-        d₁ : Does (Beside RHS) s₁ s₂ (vec_at s₂ RHS table.rows) (rhs_of job.dt (rows_on IA.now IB.now s₁ ROWS table.rows))
-        d₁ = f IA.now IB.now
+        d₁ : Does (Beside RHS) s₁ s₂ (vec_at s₂ RHS table.rows) (rhs_of job.dt (rows_on IA IB s₁ ROWS table.rows))
+        d₁ = f IA IB
 
         filled : Kept Trying s₁ s₂
         filled = kept_more d₁.kept (λ i x. omega (arith, x.1))
 
-        same : started_at IA.now IB.now s₂ table ≡ started_at IA.now IB.now s table
-        same = kept-started (kept_then d.0.kept filled (λ i x. x)) IA.now IB.now table apart pre.ready.most
+        same : started_at IA IB s₂ table ≡ started_at IA IB s table
+        same = kept-started (kept_then d.0.kept filled (λ i x. x)) IA IB table apart pre.ready.most
             pre.ready.bodies (λ i x. x)
 
 -- ---- the nonlinear loop: from no impulse

@@ -20,7 +20,6 @@ use Rattle.solves.specs.declared.Ended.{Ended}
 use Rattle.solves.specs.declared.Pass.{Pass}
 use Rattle.solves.specs.declared.Pass.TheVariants as Pass
 use Rattle.solves.specs.declared.Table.{Table}
-use Rattle.solves.specs.Lent.{Slice}
 use Rattle.solves.specs.Region.{Does}
 use Rattle.solves.specs.RegionLaws.{kept-vec}
 use Rattle.solves.specs.System.{Counting}
@@ -140,22 +139,22 @@ pub solve-inside : (stage : Stage) (i : ℕ) → Outside stage i → Work i
 solve-inside Stages.Nonlinear i x = omega (arith, x.1)
 solve-inside Stages.Velocity i x = omega (arith, x.0)
 
-pub same-make : (stage : Stage) {S : Slice Float} {IA IB : Slice ℕ} {table : Table} → Ours S IA IB table → {s u : List Float} → Kept Work s u
-    → (x : List Float) → make_at stage IA.now IB.now table u x ≡ make_at stage IA.now IB.now table s x
+pub same-make : (stage : Stage) {S : List Float} {IA IB : List ℕ} {table : Table} → Ours S IA IB table → {s u : List Float} → Kept Work s u
+    → (x : List Float) → make_at stage IA IB table u x ≡ make_at stage IA IB table s x
 same-make Stages.Nonlinear {table = table} pre kept x =
     ap (λ (v : List Float). add_impulses v x) (kept-vec kept IMPULSES table.rows (λ i a b. omega (arith, pre.ready.most)))
 same-make Stages.Velocity {IA = IA} {IB} {table} pre kept x = λ j. reaction_of
-    (kept-rows kept IA.now IB.now table.place table.rows (λ i a b. omega (arith, pre.ready.table, pre.ready.most)) j)
+    (kept-rows kept IA IB table.place table.rows (λ i a b. omega (arith, pre.ready.table, pre.ready.most)) j)
     (kept-candidates kept table.bodies (λ i a b. omega (arith, pre.ready.bodies)) (λ i a b. omega (arith, pre.ready.bodies)) j) x
 
 -- a pass is over the same, however far the loop has come
-same-pass : (stage : Stage) (job : Job) (joints : List Joint) (count : ℕ) {S : Slice Float} {IA IB : Slice ℕ} {table : Table} → Ours S IA IB table
+same-pass : (stage : Stage) (job : Job) (joints : List Joint) (count : ℕ) {S : List Float} {IA IB : List ℕ} {table : Table} → Ours S IA IB table
     → Besides stage joints count IA IB table → {s t : List Float} → Kept (Outside stage) s t
-    → (x : Given stage) → pass_at stage job IA.now IB.now table t x ≡ pass_at stage job IA.now IB.now table s x
+    → (x : Given stage) → pass_at stage job IA IB table t x ≡ pass_at stage job IA IB table s x
 same-pass Stages.Nonlinear job joints count {IA = IA} {IB} {table} pre also kept x = λ j. nonlinear_pass job
-    (kept-started kept IA.now IB.now table also.apart pre.ready.most pre.ready.bodies (λ i x. x) j) x
+    (kept-started kept IA IB table also.apart pre.ready.most pre.ready.bodies (λ i x. x) j) x
 same-pass Stages.Velocity job joints count {IA = IA} {IB} {table} pre also kept x = λ j. velocity_pass job
-    (system-kept IA.now IB.now table (λ i a b. omega arith) pre.ready.table pre.ready.most pre.ready.bodies kept j) x
+    (system-kept IA IB table (λ i a b. omega arith) pre.ready.table pre.ready.most pre.ready.bodies kept j) x
 
 none-begun : (stage : Stage) → 0 ≡ nonlinear_of stage 0
 none-begun Stages.Nonlinear = refl
@@ -188,29 +187,29 @@ module _ (stage : Stage) (job : Job) (ia ib : List ℕ) (table : Table) (most : 
     is = run_is (ap (nonlinear_of stage) e) refl ∙ reached-spent most non_convergent _ _ inv.reached (omega arith);
   })
 
-module _ (stage : Stage) (job : Job) (joints : List Joint) (count : ℕ) {S : Slice Float} {IA IB : Slice ℕ} {table : Table} (pre : Ours S IA IB table)
+module _ (stage : Stage) (job : Job) (joints : List Joint) (count : ℕ) {S : List Float} {IA IB : List ℕ} {table : Table} (pre : Ours S IA IB table)
     (also : Besides stage joints count IA IB table) {most : ℕ} {s₀ s t : List Float} {k l : ℕ}
-    (inv : Looping stage job IA.now IB.now table most s₀ s k l) (r : Passed) (d : Passes stage IA.now IB.now table s t job r) (h : k < most) where
+    (inv : Looping stage job IA IB table most s₀ s k l) (r : Passed) (d : Passes stage IA IB table s t job r) (h : k < most) where
   keeps : Kept (Outside stage) s₀ t
   keeps = kept_then inv.kept d.kept (λ i x. x)
 
   case : {q : Pass} → r.pass ≡ q
-      → ran (pass_as q (given_at stage t table) (gained_at stage IA.now IB.now t table)) (nonlinear_of stage 1) r.linear
-      ≡ pass_at stage job IA.now IB.now table s₀ (given_at stage s table)
+      → ran (pass_as q (given_at stage t table) (gained_at stage IA IB t table)) (nonlinear_of stage 1) r.linear
+      ≡ pass_at stage job IA IB table s₀ (given_at stage s table)
   case e =
-      sym (ap (λ (q : Pass). ran (pass_as q (given_at stage t table) (gained_at stage IA.now IB.now t table)) (nonlinear_of stage 1) r.linear) e)
+      sym (ap (λ (q : Pass). ran (pass_as q (given_at stage t table) (gained_at stage IA IB t table)) (nonlinear_of stage 1) r.linear) e)
       ∙ d.is ∙ same-pass stage job joints count pre also inv.kept (given_at stage s table)
 
-  pub loop-again : r.pass ≡ Pass.Again → Looping stage job IA.now IB.now table most s₀ t (k + 1) (l + r.linear)
+  pub loop-again : r.pass ≡ Pass.Again → Looping stage job IA IB table most s₀ t (k + 1) (l + r.linear)
   loop-again e = record {
     kept = keeps;
-    reached = subst (λ (n : ℕ). Reaches stage job IA.now IB.now table most s₀ (k + 1) t n (l + r.linear)) (one_more stage k)
+    reached = subst (λ (n : ℕ). Reaches stage job IA IB table most s₀ (k + 1) t n (l + r.linear)) (one_more stage k)
         (reached-again most non_convergent _ _ inv.reached h (case e));
   }
 
   pub loop-over : {end : End} → r.pass ≡ Pass.Over end → {a : Looped} → a ≡ record { end = end; passes = k + 1; linear = l + r.linear }
-      → Loops stage IA.now IB.now table s₀ t job most a
-  loop-over {end} e f = subst (Loops stage IA.now IB.now table s₀ t job most) (sym f) (record {
+      → Loops stage IA IB table s₀ t job most a
+  loop-over {end} e f = subst (Loops stage IA IB table s₀ t job most) (sym f) (record {
     kept = keeps;
     is = run_is (sym (one_more stage k)) refl ∙ reached-over most non_convergent _ _ inv.reached h (ran_as end _) (case e);
   })

@@ -3,15 +3,14 @@ use Rattle.std.specs.Prelude.{ℕ, ◌≡◌, List, Float}
 use Rattle.arith.specs.Run.{ran}
 use Rattle.rows.specs.declared.body.BodyState.{BodyState}
 use Rattle.rows.specs.Fault.{Result}
-use Rattle.solves.specs.Lent.{Lent, came, left}
 use Rattle.step.specs.declared.Outcome.{Outcome}
 use Rattle.step.specs.declared.Report.{Report}
 use Rattle.step.specs.Step.{Stepped, stepped, concluded}
 
 -- the outcome of a run that ended so, whatever it counted and whatever becomes of the scratch
-abbrev pub Concludes : Lent Float → Outcome → Result (List BodyState) → Type 0
-Concludes bodies outcome ends = (nonlinear linear : ℕ) (scratch : List Float)
-    → stepped outcome nonlinear linear (left bodies) scratch ≡ concluded (came bodies) scratch (ran ends nonlinear linear)
+abbrev pub Concludes : List Float → List Float → Outcome → Result (List BodyState) → Type 0
+Concludes bodies bodies' outcome ends = (nonlinear linear : ℕ) (scratch : List Float)
+    → stepped outcome nonlinear linear bodies' scratch ≡ concluded bodies scratch (ran ends nonlinear linear)
 
-abbrev pub Reports : Lent Float → Lent Float → Report → Stepped → Type 0
-Reports bodies work r defined = stepped r.outcome r.nonlinear r.linear (left bodies) (left work) ≡ defined
+abbrev pub Reports : List Float → List Float → Report → Stepped → Type 0
+Reports bodies' work' r defined = stepped r.outcome r.nonlinear r.linear bodies' work' ≡ defined

@@ -14,7 +14,6 @@ use Rattle.solves.specs.declared.Pass.TheVariants as Passes
 use Rattle.solves.specs.declared.Table.{Table}
 use Rattle.solves.specs.declared.places.MassResponse.{MassResponse}
 use Rattle.solves.specs.Layout.{ROW_TABLE}
-use Rattle.solves.specs.Lent.{Slice}
 use Rattle.solves.specs.Region.{vec_at}
 use Rattle.solves.specs.System.{Counting}
 use Rattle.solves.specs.Answer.{ran_as, pass_as, is_done}
@@ -84,14 +83,14 @@ pub record Remembers (s : List Float) (motion : Motion) : Type 0 where
 
 -- ---- what a run asks for
 -- rows in a table, and a scratch as long as a step's
-pub record Ours (s : Slice Float) (ia ib : Slice ℕ) (t : Table) : Type 0 where
+pub record Ours (s : List Float) (ia ib : List ℕ) (t : Table) : Type 0 where
   pub ready : Ready s ia ib t
-  pub long : USED ≤ length s.now
+  pub long : USED ≤ length s
 
 -- the table is that of the starting rows: they are those of the joints, apart from the rows that a pass writes
-pub record Joins (joints : List Joint) (count : ℕ) (ia ib : Slice ℕ) (t : Table) : Type 0 where
+pub record Joins (joints : List Joint) (count : ℕ) (ia ib : List ℕ) (t : Table) : Type 0 where
   pub joined : Joined joints count t.bodies
-  pub sides : Sides joints count ia.now ib.now
+  pub sides : Sides joints count ia ib
   pub rows_are : t.rows ≡ rows_before joints count
   pub apart : t.place + ROW_TABLE ≤ ROWS
 
@@ -146,7 +145,7 @@ Outside Stages.Nonlinear = Trying
 Outside Stages.Velocity = Correcting
 
 -- what is asked for besides rows in a table
-abbrev pub Besides : Stage → List Joint → ℕ → Slice ℕ → Slice ℕ → Table → Type 0
+abbrev pub Besides : Stage → List Joint → ℕ → List ℕ → List ℕ → Table → Type 0
 Besides Stages.Nonlinear joints count ia ib t = Joins joints count ia ib t
 Besides Stages.Velocity joints count ia ib t = Unit {0}
 

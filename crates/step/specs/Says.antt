@@ -8,7 +8,6 @@ use Rattle.rows.specs.View.{Out}
 use Rattle.rows.specs.declared.End.{End}
 use Rattle.solves.specs.declared.Ended.{Ended}
 use Rattle.solves.specs.declared.Table.{Table}
-use Rattle.solves.specs.Lent.{Lent, came, left}
 use Rattle.solves.specs.Region.{vec_at, Does}
 use Rattle.solves.specs.System.{Counting}
 use Rattle.solves.specs.Search.{linear_solve}
@@ -29,20 +28,20 @@ use Rattle.step.specs.RunView.{impulses_at, started_at, found_at, job_for, rows_
 use Rattle.step.specs.RunView.{given_at, gained_at, pass_at, make_at, nonlinear_of, Outside}
 
 -- a function that leaves a list in the scratch, or fails: what it touches, and what it left
-abbrev pub Leaves : {A : Type 0} → (ℕ → Type 0) → Lent Float → End → (List Float → A) → Result A → Type 0
-Leaves P s r view defined = Does P (came s) (left s) (ran_as r (view (left s))) defined
+abbrev pub Leaves : {A : Type 0} → (ℕ → Type 0) → List Float → List Float → End → (List Float → A) → Result A → Type 0
+Leaves P s s' r view defined = Does P s s' (ran_as r (view s')) defined
 
 -- `write_rows`, of the rows of the joints, on whatever bodies two lists say that they are
-abbrev pub WritesRows : Lent Float → List Joint → ℕ → ℕ → Bool → End → Type 0
-WritesRows s joints count place moved r = (body-count : ℕ) → Joined joints count body-count → (ia ib : List ℕ) → Sides joints count ia ib
-    → Leaves (Out place ROW_TABLE) s r (λ u. rows_on ia ib u place (rows_before joints count)) (write_rows joints count (bodies_at moved (came s) body-count))
+abbrev pub WritesRows : List Float → List Float → List Joint → ℕ → ℕ → Bool → End → Type 0
+WritesRows s s' joints count place moved r = (body-count : ℕ) → Joined joints count body-count → (ia ib : List ℕ) → Sides joints count ia ib
+    → Leaves (Out place ROW_TABLE) s s' r (λ u. rows_on ia ib u place (rows_before joints count)) (write_rows joints count (bodies_at moved s body-count))
 
 -- `start`, of the rows of the joints, on whatever bodies two lists say that they are
-abbrev pub Starts : Lent Float → Lent Float → List Joint → Task → End → Type 0
-Starts s bodies joints task r = (ia ib : List ℕ) → Sides joints task.count ia ib
-    → Does (Out 0 USED) (came s) (left s)
-    (ran_as r (started_at ia ib (left s) (record { place = START_ROWS; rows = rows_before joints task.count; bodies = count_of_bodies (came bodies) })))
-    (start_of (job_for joints task) (records_of (came bodies)))
+abbrev pub Starts : List Float → List Float → List Float → List Joint → Task → End → Type 0
+Starts s s' bodies joints task r = (ia ib : List ℕ) → Sides joints task.count ia ib
+    → Does (Out 0 USED) s s'
+    (ran_as r (started_at ia ib s' (record { place = START_ROWS; rows = rows_before joints task.count; bodies = count_of_bodies bodies })))
+    (start_of (job_for joints task) (records_of bodies))
 
 -- both stages, from s to u: `correct`; `stage_pass`, `nonlinear_pass` and `velocity_pass`; `stage_loop`
 module _ (stage : Stage) (ia ib : List ℕ) (t : Table) (s u : List Float) where
@@ -58,18 +57,18 @@ module _ (stage : Stage) (ia ib : List ℕ) (t : Table) (s u : List Float) where
   Loops job most r = Does (Outside stage) s u (ran (ran_as r.end (gained_at stage ia ib u t)) (nonlinear_of stage r.passes) r.linear)
       (up_to most non_convergent (pass_at stage job ia ib t s) (given_at stage s t))
 
-module _ (s : Lent Float) (ia ib : Lent ℕ) (t : Table) where
+module _ (s s' : List Float) (ia ib : List ℕ) (t : Table) where
   abbrev start : Started
-  start = started_at (came ia) (came ib) (came s) t
+  start = started_at ia ib s t
 
   abbrev found : Found
-  found = found_at (came ia) (came ib) (left s) t
+  found = found_at ia ib s' t
 
   -- `candidate`
   abbrev pub Finds : End → (Started → List Float → Result Found) → Type 0
-  Finds r f = Does Trying (came s) (left s) (ran_as r found) (f start (impulses_at (came s) t))
+  Finds r f = Does Trying s s' (ran_as r found) (f start (impulses_at s t))
 
   -- `finish_run`
   abbrev pub Finishes : Ended → (Found → Counting (List BodyState)) → Type 0
   Finishes r f =
-      Does (Out MASSES (USED - MASSES)) (came s) (left s) (ended_as r (states_at (left s) t.bodies)) (f (found_at (came ia) (came ib) (came s) t))
+      Does (Out MASSES (USED - MASSES)) s s' (ended_as r (states_at s' t.bodies)) (f (found_at ia ib s t))

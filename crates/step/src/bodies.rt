@@ -3,7 +3,6 @@ ghost use Rattle.std.specs.Prelude.{◌≡◌, ◌+◌, ◌*◌, ◌≤◌, ◌<
 ghost use Rattle.arith.specs.Real.{ratio};
 ghost use Rattle.arith.specs.Flow.{every};
 ghost use Rattle.rows.specs.View.{vec3_at, Out, Kept};
-ghost use Rattle.solves.specs.Lent.{came, left};
 ghost use Rattle.solves.specs.System.{BODIES_MOST};
 ghost use Rattle.step.specs.Layout.{START, CANDIDATE, USED};
 ghost use Rattle.step.specs.Records.{RECORD, MOVING, quat_at, mat_at, record_at};
@@ -20,7 +19,7 @@ use vectors::vector::Vec3;
 
 fn load4(s: &[f64], place: usize) -> Quat
     requires { place + 4 ≤ length s.now }
-    ensures { result ≡ quat_at (came s) place }
+    ensures { result ≡ quat_at s.now place }
 {
     Quat {
         x: s[place],
@@ -32,7 +31,7 @@ fn load4(s: &[f64], place: usize) -> Quat
 
 fn store4(s: &mut [f64], place: usize, q: Quat)
     requires { place + 4 ≤ length s.old }
-    ensures { (Kept (λ j. Out place 4 j) (came s) (left s)) × (quat_at (left s) place ≡ q) }
+    ensures { (Kept (λ j. Out place 4 j) s.old s.new) × (quat_at s.new place ≡ q) }
 {
     s[place] = q.x;
     s[place + 1] = q.y;
@@ -42,7 +41,7 @@ fn store4(s: &mut [f64], place: usize, q: Quat)
 
 fn load_mat3(s: &[f64], place: usize) -> Mat3
     requires { place + 9 ≤ length s.now }
-    ensures { result ≡ mat_at (came s) place }
+    ensures { result ≡ mat_at s.now place }
 {
     let x = load3(s, place);
     let y = load3(s, place + 3);
@@ -52,7 +51,7 @@ fn load_mat3(s: &[f64], place: usize) -> Mat3
 
 fn store_mat3(s: &mut [f64], place: usize, m: Mat3)
     requires { place + 9 ≤ length s.old }
-    ensures { (Kept (λ j. Out place 9 j) (came s) (left s)) × (mat_at (left s) place ≡ cols_of m) }
+    ensures { (Kept (λ j. Out place 9 j) s.old s.new) × (mat_at s.new place ≡ cols_of m) }
 {
     let c = m.to_columns();
     store3(s, place, Vec3::new(c[0][0], c[0][1], c[0][2]));
@@ -63,7 +62,7 @@ fn store_mat3(s: &mut [f64], place: usize, m: Mat3)
 // Record k of a body slice.
 pub(crate) fn load_record(bodies: &[f64], k: usize) -> RigidBody
     requires { RECORD * k + RECORD ≤ length bodies.now }
-    ensures { result ≡ record_at (came bodies) k }
+    ensures { result ≡ record_at bodies.now k }
 {
     let place = RECORD * k;
     RigidBody {
@@ -80,7 +79,7 @@ pub(crate) fn load_record(bodies: &[f64], k: usize) -> RigidBody
 // The 13 numbers at a place as a state.
 pub(crate) fn load_state(s: &[f64], place: usize) -> BodyState
     requires { place + MOVING ≤ length s.now }
-    ensures { result ≡ state_at (came s) place }
+    ensures { result ≡ state_at s.now place }
 {
     BodyState {
         origin: load3(s, place),
@@ -92,7 +91,7 @@ pub(crate) fn load_state(s: &[f64], place: usize) -> BodyState
 
 pub(crate) fn store_state(s: &mut [f64], place: usize, state: BodyState)
     requires { place + MOVING ≤ length s.old }
-    ensures { (Kept (λ j. Out place MOVING j) (came s) (left s)) × (state_at (left s) place ≡ state) }
+    ensures { (Kept (λ j. Out place MOVING j) s.old s.new) × (state_at s.new place ≡ state) }
 {
     store3(s, place, state.origin);
     store4(s, place + 3, state.rotation);
@@ -102,7 +101,7 @@ pub(crate) fn store_state(s: &mut [f64], place: usize, state: BodyState)
 
 fn store_moving(s: &mut [f64], place: usize, body: MomentumBody)
     requires { place + MOVING ≤ length s.old }
-    ensures { (Kept (λ j. Out place MOVING j) (came s) (left s)) × (moving_at (left s) place ≡ moving_of body) }
+    ensures { (Kept (λ j. Out place MOVING j) s.old s.new) × (moving_at s.new place ≡ moving_of body) }
 {
     store3(s, place, body.center);
     store4(s, place + 3, body.rotation);
@@ -113,7 +112,7 @@ fn store_moving(s: &mut [f64], place: usize, body: MomentumBody)
 // What does not move: mass, local centre and inverse inertia.
 fn store_fixed(s: &mut [f64], place: usize, body: MomentumBody)
     requires { place + MOVING ≤ length s.old }
-    ensures { (Kept (λ j. Out place MOVING j) (came s) (left s)) × (fixed_at (left s) place ≡ fixed_of body) }
+    ensures { (Kept (λ j. Out place MOVING j) s.old s.new) × (fixed_at s.new place ≡ fixed_of body) }
 {
     store3(s, place + 1, body.center_of_mass);
     store_mat3(s, place + 4, body.inverse_inertia);
@@ -122,7 +121,7 @@ fn store_fixed(s: &mut [f64], place: usize, body: MomentumBody)
 
 pub(crate) fn store_start(s: &mut [f64], k: usize, body: MomentumBody)
     requires { (USED ≤ length s.old) × (k < BODIES_MOST) }
-    ensures { (Kept (λ j. Out (START + RECORD * k) RECORD j) (came s) (left s)) × (start_body_at (left s) k ≡ held_of body) }
+    ensures { (Kept (λ j. Out (START + RECORD * k) RECORD j) s.old s.new) × (start_body_at s.new k ≡ held_of body) }
 {
     let place = START + RECORD * k;
     store_moving(s, place, body);
@@ -131,8 +130,8 @@ pub(crate) fn store_start(s: &mut [f64], k: usize, body: MomentumBody)
 
 pub(crate) fn store_candidate(s: &mut [f64], k: usize, body: MomentumBody)
     requires { (USED ≤ length s.old) × (k < BODIES_MOST) }
-    ensures { (Kept (λ j. Out (CANDIDATE + MOVING * k) MOVING j) (came s) (left s))
-        × (candidate_at (left s) k ≡ moved_to body (start_body_at (came s) k)) }
+    ensures { (Kept (λ j. Out (CANDIDATE + MOVING * k) MOVING j) s.old s.new)
+        × (candidate_at s.new k ≡ moved_to body (start_body_at s.old k)) }
 {
     store_moving(s, CANDIDATE + MOVING * k, body);
 }
@@ -140,7 +139,7 @@ pub(crate) fn store_candidate(s: &mut [f64], k: usize, body: MomentumBody)
 // The body whose moving numbers stand at `place`; mass and inertia are those of the start.
 fn load_body(s: &[f64], place: usize, k: usize) -> MomentumBody
     requires { (place + MOVING ≤ length s.now) × (USED ≤ length s.now) × (k < BODIES_MOST) }
-    ensures { result ≡ body_from (came s) place (START + RECORD * k) }
+    ensures { result ≡ body_from s.now place (START + RECORD * k) }
 {
     let j = START + RECORD * k;
     MomentumBody {
@@ -156,14 +155,14 @@ fn load_body(s: &[f64], place: usize, k: usize) -> MomentumBody
 
 pub(crate) fn load_start(s: &[f64], k: usize) -> MomentumBody
     requires { (USED ≤ length s.now) × (k < BODIES_MOST) }
-    ensures { result ≡ start_body_at (came s) k }
+    ensures { result ≡ start_body_at s.now k }
 {
     load_body(s, START + RECORD * k, k)
 }
 
 pub(crate) fn load_candidate(s: &[f64], k: usize) -> MomentumBody
     requires { (USED ≤ length s.now) × (k < BODIES_MOST) }
-    ensures { result ≡ candidate_at (came s) k }
+    ensures { result ≡ candidate_at s.now k }
 {
     load_body(s, CANDIDATE + MOVING * k, k)
 }
@@ -171,7 +170,7 @@ pub(crate) fn load_candidate(s: &[f64], k: usize) -> MomentumBody
 // Whether every resulting origin is on the plan's ground. The states stand where the candidates were.
 pub(crate) fn in_ground(s: &[f64], body_count: usize) -> bool
     requires { (USED ≤ length s.now) × (body_count ≤ BODIES_MOST) }
-    ensures { result ≡ every body_count (λ k. within_of (vec3_at (came s) (CANDIDATE + MOVING * k)) (ratio 8192 1)) }
+    ensures { result ≡ every body_count (λ k. within_of (vec3_at s.now (CANDIDATE + MOVING * k)) (ratio 8192 1)) }
 {
     for k in 0..body_count {
         if !within(load3(s, CANDIDATE + MOVING * k), 8192.0) {
@@ -184,7 +183,7 @@ pub(crate) fn in_ground(s: &[f64], body_count: usize) -> bool
 // Hands the states back: the first 13 numbers of each record.
 pub(crate) fn write_states(bodies: &mut [f64], s: &[f64], body_count: usize)
     requires { (RECORD * body_count ≤ length bodies.old) × (USED ≤ length s.now) × (body_count ≤ BODIES_MOST) }
-    ensures { Handed body_count (came s) (came bodies) (left bodies) }
+    ensures { Handed body_count s.now bodies.old bodies.new }
 {
     for k in 0..body_count {
         store_state(bodies, RECORD * k, load_state(s, CANDIDATE + MOVING * k));

@@ -3,7 +3,6 @@ ghost use Rattle.std.specs.Prelude.{◌≡◌, ℕ, ◌+◌, ◌*◌, ◌≤◌,
 ghost use Rattle.arith.specs.Flow.{tab};
 ghost use Rattle.rows.specs.View.{Out};
 ghost use Rattle.rows.specs.Answer.{body_as};
-ghost use Rattle.solves.specs.Lent.{came, left};
 ghost use Rattle.solves.specs.Region.{vec_at, Does};
 ghost use Rattle.solves.specs.View.{ROWS, MASSES, RHS, SOLUTION, GENERALIZED, rows_on, mass_at, masses_at, Beside, shares_in};
 ghost use Rattle.solves.specs.Layout.{ROWS_MOST, BODIES_MOST, MASS_TABLE};
@@ -45,7 +44,7 @@ pub(crate) struct MassAnswer {
 
 fn start_bodies(s: &mut [f64], bodies: &[f64], body_count: usize) -> End
     requires { (USED ≤ length s.old) × (RECORD * body_count ≤ length bodies.now) × (body_count ≤ BODIES_MOST) }
-    ensures { Leaves (Out START BODIES) s result (λ u. start_bodies_at u body_count) (start_bodies (tab body_count (record_at (came bodies)))) }
+    ensures { Leaves (Out START BODIES) s.old s.new result (λ u. start_bodies_at u body_count) (start_bodies (tab body_count (record_at bodies.now))) }
 {
     for k in 0..body_count {
         let record = load_record(bodies, k);
@@ -63,7 +62,7 @@ fn start_bodies(s: &mut [f64], bodies: &[f64], body_count: usize) -> End
 
 fn fill(index: &mut [usize], from: usize, n: usize, body: usize)
     requires { from + n ≤ length index.old }
-    ensures { Spread from n body (came index) (left index) }
+    ensures { Spread from n body index.old index.new }
 {
     for k in from..from + n {
         index[k] = body;
@@ -73,7 +72,7 @@ fn fill(index: &mut [usize], from: usize, n: usize, body: usize)
 // The bodies of every row, and how many rows there are.
 fn row_bodies(ia: &mut [usize], ib: &mut [usize], joints: [Joint; 16], count: usize) -> usize
     requires { (count ≤ 16) × (length ia.old ≡ ROWS_MOST) × (length ib.old ≡ ROWS_MOST) }
-    ensures { (RowBodies joints count result (left ia) (left ib)) × (Sides joints count (left ia) (left ib)) × (result ≡ rows_before joints count) }
+    ensures { (RowBodies joints count result ia.new ib.new) × (Sides joints count ia.new ib.new) × (result ≡ rows_before joints count) }
 {
     let mut n = 0;
     for k in 0..count {
@@ -89,7 +88,7 @@ fn row_bodies(ia: &mut [usize], ib: &mut [usize], joints: [Joint; 16], count: us
 
 fn load_moved(s: &[f64], k: usize, moved: bool) -> MomentumBody
     requires { (USED ≤ length s.now) × (k < BODIES_MOST) }
-    ensures { result ≡ cond moved (candidate_at (came s) k) (start_body_at (came s) k) }
+    ensures { result ≡ cond moved (candidate_at s.now k) (start_body_at s.now k) }
 {
     if moved {
         return load_candidate(s, k);
@@ -100,7 +99,7 @@ fn load_moved(s: &[f64], k: usize, moved: bool) -> MomentumBody
 // The rows of all joints, of the bodies at the start or of the candidates.
 fn write_rows(s: &mut [f64], joints: [Joint; 16], count: usize, place: usize, moved: bool) -> End
     requires { (USED ≤ length s.old) × (place ≤ ROWS) × (Joined joints count BODIES_MOST) }
-    ensures { WritesRows s joints count place moved result }
+    ensures { WritesRows s.old s.new joints count place moved result }
 {
     let mut n = 0;
     for k in 0..count {
@@ -150,7 +149,7 @@ fn all_three(a: bool, b: bool, c: bool) -> bool
 
 fn prepare_mass(s: &mut [f64], k: usize, body: MomentumBody) -> End
     requires { (USED ≤ length s.old) × (k < BODIES_MOST) }
-    ensures { Leaves (Out (MASSES + 10 * k) 10) s result (λ u. mass_at u MASSES k) (mass_response body) }
+    ensures { Leaves (Out (MASSES + 10 * k) 10) s.old s.new result (λ u. mass_at u MASSES k) (mass_response body) }
 {
     let answer = mass_response(body);
     if !answer.some {
@@ -167,7 +166,7 @@ fn prepare_mass(s: &mut [f64], k: usize, body: MomentumBody) -> End
 
 fn prepare_masses(s: &mut [f64], body_count: usize, moved: bool) -> End
     requires { (USED ≤ length s.old) × (body_count ≤ BODIES_MOST) }
-    ensures { Leaves (Out MASSES MASS_TABLE) s result (λ u. masses_at u MASSES body_count) (prepare_masses (bodies_at moved (came s) body_count)) }
+    ensures { Leaves (Out MASSES MASS_TABLE) s.old s.new result (λ u. masses_at u MASSES body_count) (prepare_masses (bodies_at moved s.old body_count)) }
 {
     for k in 0..body_count {
         let body = load_moved(s, k, moved);
@@ -194,8 +193,8 @@ fn kick_and_drift(body: MomentumBody, linear: Vec3, angular: Vec3, dt: f64) -> B
 // The candidates: each pass restarts from the starting bodies with the summed impulses.
 fn move_bodies(s: &mut [f64], body_count: usize, dt: f64) -> End
     requires { (USED ≤ length s.old) × (body_count ≤ BODIES_MOST) }
-    ensures { Leaves (Out CANDIDATE STATES) s result (λ u. candidates_at u body_count)
-        (move_bodies dt (start_bodies_at (came s) body_count) (shares_in (came s) body_count)) }
+    ensures { Leaves (Out CANDIDATE STATES) s.old s.new result (λ u. candidates_at u body_count)
+        (move_bodies dt (start_bodies_at s.old body_count) (shares_in s.old body_count)) }
 {
     for k in 0..body_count {
         let share = load_generalized(s, GENERALIZED, k);
@@ -211,7 +210,7 @@ fn move_bodies(s: &mut [f64], body_count: usize, dt: f64) -> End
 
 fn rows_met(s: &[f64], n: usize) -> bool
     requires { (USED ≤ length s.now) × (n ≤ ROWS_MOST) }
-    ensures { (ia ib : List ℕ) → result ≡ rows_met (rows_on ia ib (came s) ROWS n) }
+    ensures { (ia ib : List ℕ) → result ≡ rows_met (rows_on ia ib s.now ROWS n) }
 {
     for k in 0..n {
         let value = s[ROWS + ROW * k + VALUE];
@@ -224,7 +223,7 @@ fn rows_met(s: &[f64], n: usize) -> bool
 
 fn fill_rhs(s: &mut [f64], dt: f64, n: usize)
     requires { (USED ≤ length s.old) × (n ≤ ROWS_MOST) }
-    ensures { (ia ib : List ℕ) → Does (Beside RHS) (came s) (left s) (vec_at (left s) RHS n) (rhs_of dt (rows_on ia ib (came s) ROWS n)) }
+    ensures { (ia ib : List ℕ) → Does (Beside RHS) s.old s.new (vec_at s.new RHS n) (rhs_of dt (rows_on ia ib s.old ROWS n)) }
 {
     for k in 0..n {
         s[RHS + k] = -s[ROWS + ROW * k + VALUE] / dt;
@@ -233,7 +232,7 @@ fn fill_rhs(s: &mut [f64], dt: f64, n: usize)
 
 pub(crate) fn add_impulses(s: &mut [f64], n: usize) -> End
     requires { (USED ≤ length s.old) × (n ≤ ROWS_MOST) }
-    ensures { Leaves (Beside IMPULSES) s result (λ u. vec_at u IMPULSES n) (add_impulses (vec_at (came s) IMPULSES n) (vec_at (came s) SOLUTION n)) }
+    ensures { Leaves (Beside IMPULSES) s.old s.new result (λ u. vec_at u IMPULSES n) (add_impulses (vec_at s.old IMPULSES n) (vec_at s.old SOLUTION n)) }
 {
     for k in 0..n {
         let sum = s[IMPULSES + k] + s[SOLUTION + k];
@@ -254,8 +253,8 @@ fn candidate(
     joints: [Joint; 16],
     task: Task,
 ) -> End
-    requires { (Ours s ia ib t) × (Joins joints task.count ia ib t) }
-    ensures { Finds s ia ib t result (candidate_of (job_for joints task)) × (impulses_at (left s) t ≡ impulses_at (came s) t) }
+    requires { (Ours s.old ia.now ib.now t) × (Joins joints task.count ia.now ib.now t) }
+    ensures { Finds s.old s.new ia.now ib.now t result (candidate_of (job_for joints task)) × (impulses_at s.new t ≡ impulses_at s.old t) }
 {
     let pushed = transpose(s, ia, ib, t, IMPULSES);
     if !done(pushed) {
@@ -277,8 +276,8 @@ pub(crate) fn nonlinear_pass(
     joints: [Joint; 16],
     task: Task,
 ) -> Passed
-    requires { (Ours s ia ib t) × (Joins joints task.count ia ib t) }
-    ensures { Passes Nonlinear (came ia) (came ib) t (came s) (left s) (job_for joints task) result }
+    requires { (Ours s.old ia.now ib.now t) × (Joins joints task.count ia.now ib.now t) }
+    ensures { Passes Nonlinear ia.now ib.now t s.old s.new (job_for joints task) result }
 {
     let found = candidate(s, ia, ib, t, joints, task);
     if !done(found) {
@@ -294,8 +293,8 @@ pub(crate) fn nonlinear_pass(
 // The states of the candidates, in their places.
 fn make_states(s: &mut [f64], bodies: &[f64], body_count: usize) -> End
     requires { (USED ≤ length s.old) × (body_count ≤ count_of_bodies bodies.now) × (body_count ≤ BODIES_MOST) }
-    ensures { Leaves (Out CANDIDATE STATES) s result (λ u. states_at u body_count)
-        (states_of (records_of (came bodies)) (candidates_at (came s) body_count)) }
+    ensures { Leaves (Out CANDIDATE STATES) s.old s.new result (λ u. states_at u body_count)
+        (states_of (records_of bodies.now) (candidates_at s.old body_count)) }
 {
     for k in 0..body_count {
         let body = load_candidate(s, k);
@@ -319,8 +318,8 @@ fn finish_run(
     joints: [Joint; 16],
     task: Task,
 ) -> Ended
-    requires { (Ours s ia ib (candidate_table t)) × (t.bodies ≤ count_of_bodies bodies.now) }
-    ensures { Finishes s ia ib t result (finish_of (job_for joints task) (records_of (came bodies))) }
+    requires { (Ours s.old ia.now ib.now (candidate_table t)) × (t.bodies ≤ count_of_bodies bodies.now) }
+    ensures { Finishes s.old s.new ia.now ib.now t result (finish_of (job_for joints task) (records_of bodies.now)) }
 {
     let weighed = prepare_masses(s, t.bodies, true);
     if !done(weighed) {
@@ -344,7 +343,7 @@ fn finish_run(
 // What stands before the first pass: starting bodies, rows and masses.
 fn start(s: &mut [f64], bodies: &[f64], joints: [Joint; 16], task: Task) -> End
     requires { (USED ≤ length s.old) × (Joined joints task.count (count_of_bodies bodies.now)) }
-    ensures { Starts s bodies joints task result }
+    ensures { Starts s.old s.new bodies.now joints task result }
 {
     let body_count = bodies.len() / RECORD;
     let made = start_bodies(s, bodies, body_count);
@@ -361,7 +360,7 @@ fn start(s: &mut [f64], bodies: &[f64], joints: [Joint; 16], task: Task) -> End
 // From the starting bodies to the states.
 pub(crate) fn run(bodies: &[f64], joints: [Joint; 16], count: usize, dt: f64, s: &mut [f64]) -> Ran
     requires { (USED ≤ length s.old) × (Joined joints count (count_of_bodies bodies.now)) }
-    ensures { Does (Out 0 USED) (came s) (left s) (left_as result (states_at (left s) (count_of_bodies (came bodies)))) (run_for (came bodies) joints count dt) }
+    ensures { Does (Out 0 USED) s.old s.new (left_as result (states_at s.new (count_of_bodies bodies.now))) (run_for bodies.now joints count dt) }
 {
     let body_count = bodies.len() / RECORD;
     let task = Task {

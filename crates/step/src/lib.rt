@@ -8,7 +8,6 @@ mod velocity;
 
 ghost use Rattle.std.specs.Prelude.{◌≡◌, ◌%◌, ◌≤◌, length, replicate};
 ghost use Rattle.arith.specs.Real.{ratio};
-ghost use Rattle.solves.specs.Lent.{came, left};
 ghost use Rattle.solves.specs.Answer.{ran_as};
 ghost use Rattle.solves.specs.Layout.{BODIES_MOST};
 ghost use Rattle.step.specs.Layout.{RECORD, SCRATCH, USED};
@@ -77,7 +76,7 @@ pub fn number(outcome: Outcome) -> usize
 // What the run's end is to the caller: its states are written where all stand on the plan's ground.
 fn conclude(bodies: &mut [f64], work: &[f64], body_count: usize, end: End) -> Outcome
     requires { (length bodies.old % RECORD ≡ 0) × (body_count ≡ count_of_bodies bodies.old) × (USED ≤ length work.now) × (body_count ≤ BODIES_MOST) }
-    ensures { Concludes bodies result (ran_as end (states_at (came work) body_count)) }
+    ensures { Concludes bodies.old bodies.new result (ran_as end (states_at work.now body_count)) }
 {
     match end {
         End::Done => {
@@ -101,7 +100,7 @@ fn solve_in(
     work: &mut [f64],
 ) -> Report
     requires { (length work.old ≡ SCRATCH) × (length bodies.old % RECORD ≡ 0) × (Joined joints count (count_of_bodies bodies.old)) }
-    ensures { Reports bodies work result (concluded (came bodies) (replicate SCRATCH (ratio 0 1)) (run_for (came bodies) joints count dt)) }
+    ensures { Reports bodies.new work.new result (concluded bodies.old (replicate SCRATCH (ratio 0 1)) (run_for bodies.old joints count dt)) }
 {
     let body_count = bodies.len() / RECORD;
     let ran = run(bodies, joints, count, dt, work);
@@ -122,7 +121,7 @@ pub fn solve(
     dt: f64,
     scratch: &mut [f64],
 ) -> Report
-    ensures { Answered (came bodies) (left bodies) joints count dt (came scratch) (left scratch) result }
+    ensures { Answered bodies.old bodies.new joints count dt scratch.old scratch.new result }
 {
     let outcome = refusal(bodies, joints, count, dt, scratch.len());
     if !accepted(outcome) {

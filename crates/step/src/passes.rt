@@ -1,7 +1,6 @@
 // What a run is about (`Task`), how a pass, a loop and the run end, and what both stages share: the second half of a pass (`correct`)
 // and the loop (`stage_loop`). The passes, which call `correct` and are called by the loop, are in integrator.rt and velocity.rt.
 ghost use Rattle.std.specs.Prelude.{◌≡◌, ◌≤◌};
-ghost use Rattle.solves.specs.Lent.{came, left};
 ghost use Rattle.solves.specs.View.{solution_on};
 ghost use Rattle.step.specs.RunView.{passed_after, job_for, Ours, Besides, Outside, given_at, make_at};
 ghost use Rattle.step.specs.Says.{Leaves, Corrects, Passes, Loops};
@@ -88,8 +87,8 @@ fn loop_ended(end: End, passes: usize, linear: usize) -> Looped
 
 // What is made of a solution: the impulses of the next pass, or the candidates kicked.
 fn use_solution(s: &mut [f64], ia: &PerRow, ib: &PerRow, t: Table, stage: Stage) -> End
-    requires { Ours s ia ib t }
-    ensures { Leaves (Outside stage) s result (λ u. given_at stage u t) (make_at stage (came ia) (came ib) t (came s) (solution_on s t)) }
+    requires { Ours s.old ia.now ib.now t }
+    ensures { Leaves (Outside stage) s.old s.new result (λ u. given_at stage u t) (make_at stage ia.now ib.now t s.old (solution_on s.old t)) }
 {
     match stage {
         Stage::Nonlinear => add_impulses(s, t.rows),
@@ -106,8 +105,8 @@ pub(crate) fn correct(
     cyclic: bool,
     stage: Stage,
 ) -> Passed
-    requires { Ours s ia ib t }
-    ensures { Corrects stage (came ia) (came ib) t (came s) (left s) cyclic result }
+    requires { Ours s.old ia.now ib.now t }
+    ensures { Corrects stage ia.now ib.now t s.old s.new cyclic result }
 {
     let solved = linear_solve(s, ia, ib, t, cyclic);
     let end = solved.end;
@@ -128,8 +127,8 @@ fn stage_pass(
     task: Task,
     stage: Stage,
 ) -> Passed
-    requires { (Ours s ia ib t) × (Besides stage joints task.count ia ib t) }
-    ensures { Passes stage (came ia) (came ib) t (came s) (left s) (job_for joints task) result }
+    requires { (Ours s.old ia.now ib.now t) × (Besides stage joints task.count ia.now ib.now t) }
+    ensures { Passes stage ia.now ib.now t s.old s.new (job_for joints task) result }
 {
     match stage {
         Stage::Nonlinear => nonlinear_pass(s, ia, ib, t, joints, task),
@@ -148,8 +147,8 @@ pub(crate) fn stage_loop(
     stage: Stage,
     most: usize,
 ) -> Looped
-    requires { (Ours s ia ib t) × (Besides stage joints task.count ia ib t) × (most ≤ 32) }
-    ensures { Loops stage (came ia) (came ib) t (came s) (left s) (job_for joints task) most result }
+    requires { (Ours s.old ia.now ib.now t) × (Besides stage joints task.count ia.now ib.now t) × (most ≤ 32) }
+    ensures { Loops stage ia.now ib.now t s.old s.new (job_for joints task) most result }
 {
     let mut linear = 0;
     for k in 0..most {

@@ -1,7 +1,6 @@
 // The velocity passes of `solve` in solver.rs, each tested before it is corrected.
 ghost use Rattle.std.specs.Prelude.{◌≡◌, List, ◌≤◌, ◌<◌, length};
 ghost use Rattle.rows.specs.View.{Out};
-ghost use Rattle.solves.specs.Lent.{came, left};
 ghost use Rattle.solves.specs.Region.{vec_at};
 ghost use Rattle.solves.specs.Answer.{sum_as};
 ghost use Rattle.solves.specs.View.{RHS, GENERALIZED, Beside, system_in, solution_on, shares_in};
@@ -48,7 +47,7 @@ fn no_motion() -> Motion
 
 fn motion_of(s: &[f64], k: usize) -> Motion
     requires { (USED ≤ length s.now) × (k < BODIES_MOST) }
-    ensures { MotionAt (came s) k result }
+    ensures { MotionAt s.now k result }
 {
     let body = load_candidate(s, k);
     Motion {
@@ -61,7 +60,7 @@ fn motion_of(s: &[f64], k: usize) -> Motion
 // The motion of candidate k: the one kept from the row before, where that row has the same body.
 fn motion_again(s: &[f64], k: usize, last: Motion) -> Motion
     requires { (USED ≤ length s.now) × (k < BODIES_MOST) × Remembers s.now last }
-    ensures { MotionAt (came s) k result }
+    ensures { MotionAt s.now k result }
 {
     if last.body == k {
         return last;
@@ -92,8 +91,8 @@ fn velocity(row: EqualityRow, a: Motion, b: Motion) -> Sum
 }
 
 fn velocity_rhs(s: &mut [f64], ia: &PerRow, ib: &PerRow, t: Table) -> End
-    requires { Ours s ia ib t }
-    ensures { Leaves (Beside RHS) s result (λ u. vec_at u RHS t.rows) (velocity_rhs (system_in s ia ib t).rows (candidates_of t (came s))) }
+    requires { Ours s.old ia.now ib.now t }
+    ensures { Leaves (Beside RHS) s.old s.new result (λ u. vec_at u RHS t.rows) (velocity_rhs (system_in s.old ia.now ib.now t).rows (candidates_of t s.old)) }
 {
     let n = t.rows;
     let mut a = no_motion();
@@ -112,7 +111,7 @@ fn velocity_rhs(s: &mut [f64], ia: &PerRow, ib: &PerRow, t: Table) -> End
 
 fn compatible(s: &[f64], n: usize) -> bool
     requires { (USED ≤ length s.now) × (n ≤ ROWS_MOST) }
-    ensures { result ≡ compatible_of (vec_at (came s) RHS n) }
+    ensures { result ≡ compatible_of (vec_at s.now RHS n) }
 {
     for k in 0..n {
         if abs(s[RHS + k]) <= 1.0e-12 {} else {
@@ -124,8 +123,8 @@ fn compatible(s: &[f64], n: usize) -> bool
 
 fn kick_candidates(s: &mut [f64], body_count: usize) -> End
     requires { (USED ≤ length s.old) × (body_count ≤ BODIES_MOST) }
-    ensures { Leaves (Out CANDIDATE STATES) s result (λ u. candidates_at u body_count)
-        (kick_bodies (candidates_at (came s) body_count) (shares_in (came s) body_count)) }
+    ensures { Leaves (Out CANDIDATE STATES) s.old s.new result (λ u. candidates_at u body_count)
+        (kick_bodies (candidates_at s.old body_count) (shares_in s.old body_count)) }
 {
     for k in 0..body_count {
         let share = load_generalized(s, GENERALIZED, k);
@@ -141,8 +140,8 @@ fn kick_candidates(s: &mut [f64], body_count: usize) -> End
 
 // A solve's reaction on the candidates.
 pub(crate) fn apply(s: &mut [f64], ia: &PerRow, ib: &PerRow, t: Table) -> End
-    requires { Ours s ia ib t }
-    ensures { Leaves Correcting s result (candidates_of t) (reaction_of (system_in s ia ib t).rows (candidates_of t (came s)) (solution_on s t)) }
+    requires { Ours s.old ia.now ib.now t }
+    ensures { Leaves Correcting s.old s.new result (candidates_of t) (reaction_of (system_in s.old ia.now ib.now t).rows (candidates_of t s.old) (solution_on s.old t)) }
 {
     let pushed = transpose(s, ia, ib, t, SOLUTION);
     if !done(pushed) {
@@ -153,8 +152,8 @@ pub(crate) fn apply(s: &mut [f64], ia: &PerRow, ib: &PerRow, t: Table) -> End
 
 // The rates of the rows, and where they are not near 0 a correction of the candidates' velocities.
 pub(crate) fn velocity_pass(s: &mut [f64], ia: &PerRow, ib: &PerRow, t: Table, task: Task) -> Passed
-    requires { Ours s ia ib t }
-    ensures { (joints : List Joint) → Passes Velocity (came ia) (came ib) t (came s) (left s) (job_for joints task) result }
+    requires { Ours s.old ia.now ib.now t }
+    ensures { (joints : List Joint) → Passes Velocity ia.now ib.now t s.old s.new (job_for joints task) result }
 {
     let rated = velocity_rhs(s, ia, ib, t);
     if !done(rated) {

@@ -10,26 +10,24 @@ use Rattle.solves.proofs.OperatorLaws.{place_of}
 use Rattle.solves.proofs.gradients.advance.Statement.{statement}
 use Rattle.solves.proofs.gradients.advance.Tie as tie
 
-operator-requires : tie.Need-operator-requires
+operator-requires : tie.Need-operator-end-requires
 operator-requires c κs =
-    let at_entry = c.before.before in (
-      at_entry.requires,
-      place_of DIRECTION (omega arith) (omega arith) (omega (arith, at_entry.requires.whole)),
+    (
+      c.requires,
+      place_of DIRECTION (omega arith) (omega arith) (omega (arith, c.requires.whole)),
       place_of PRODUCT (omega arith) (omega arith)
-          (omega (arith, at_entry.requires.whole)),
+          (omega (arith, c.requires.whole)),
     )
 
-returns : tie.Need-returns
+returns : tie.Need-returns-then-not-done
 returns c =
-    let at_done = c.before in let at-operator = at_done.before.before.before in
-    let at_entry = at-operator.before.before.before in
-    let end = at-operator.operator.result in
-    does-fails _ end at_done.done.ensures c.if1.true
-    (advance-unmoved _ at_entry.requires _
-    (failed _ end at_done.done.ensures at-operator.operator.ensures c.if1.true))
+    let end = c.operator-end.result in
+    does-fails _ end c.done.ensures c.if-not-done.true
+    (advance-unmoved _ c.requires _
+    (failed _ end c.done.ensures c.operator-end.ensures c.if-not-done.true))
 
-pub advance-spec : {M : Type 1} → statement M
-advance-spec =
+pub advance_spec : {M : Type 1} → statement M
+advance_spec =
     tie.close (tie.spec
     operator-requires (λ c κs. search rules) (λ c. omega arith) returns (λ c κs. omega arith) (λ c. search rules)
     (λ c. search rules) (λ c. omega arith) (λ c. search (advance-unmeasured, went, sum_over)) (λ c. omega arith)

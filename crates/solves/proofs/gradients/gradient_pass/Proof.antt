@@ -8,13 +8,12 @@ use Rattle.solves.proofs.OperatorLaws.{rows-kept}
 use Rattle.solves.proofs.gradients.gradient_pass.Statement.{statement}
 use Rattle.solves.proofs.gradients.gradient_pass.Tie as tie
 
-advance-requires : tie.Need-advance-requires
+advance-requires : tie.Need-advance-end-requires
 advance-requires c κs =
-    let at_entry = c.before.before.before.before.before.before in
-    at_entry.requires
+    c.requires
 
-pub gradient-pass-spec : {M : Type 1} → statement M
-gradient-pass-spec =
+pub gradient_pass_spec : {M : Type 1} → statement M
+gradient_pass_spec =
     tie.close (tie.spec
     (λ c κs. omega arith) (λ c. search rules) (λ c. search rules) (λ c. search pass-over) (λ c. search rules)
     advance-requires (λ c κs. search rules) (λ c. omega arith) (λ c. search (over-fails, pass-stuck, failed))

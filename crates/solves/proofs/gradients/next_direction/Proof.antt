@@ -10,24 +10,22 @@ use Rattle.solves.proofs.GradientLaws.{direct, direct-more, direct_is}
 use Rattle.solves.proofs.gradients.next_direction.Statement.{statement}
 use Rattle.solves.proofs.gradients.next_direction.Tie as tie
 
-abbrev invariant-loop : tie.invariant-loop
+abbrev invariant-loop : tie.invariant-loop-k
 invariant-loop s₀ beta n k₀ s k = (k ≤ n) × (length s ≡ length s₀) × (Filled DIRECTION k (direct s₀ beta) s₀ s)
 
-abbrev decreases-loop : tie.decreases-loop
+abbrev decreases-loop : tie.decreases-loop-k
 decreases-loop s₀ beta n k₀ s k = n - k
 
-loop-again : tie.Need-loop-preserved invariant-loop decreases-loop
+loop-again : tie.Need-loop-k-preserved invariant-loop decreases-loop
 loop-again c =
-    let at-loop = c.before.before.before.before in
-    (omega arith, simp length-set (omega arith), direct-more _ _ at-loop.loop.invariant.2 (omega arith) (omega arith))
+    (omega arith, simp length-set (omega arith), direct-more _ _ c.loop-k.invariant.2 (omega arith) (omega arith))
 
 returns : tie.Need-returns invariant-loop decreases-loop
 returns c =
-    let at-loop = c.before in
-    direct_is _ _ at-loop.loop.invariant.2 (omega arith) c.loop-test.false (omega arith)
+    direct_is _ _ c.loop-k.invariant.2 (omega arith) c.loop-k-test.false (omega arith)
 
-pub next-direction-spec : {M : Type 1} → statement M
-next-direction-spec =
+pub next_direction_spec : {M : Type 1} → statement M
+next_direction_spec =
     tie.close (tie.spec
     invariant-loop decreases-loop (λ c. (omega arith, refl, filled_none _ _)) (λ c. omega arith) (λ c. omega arith)
     (λ c. omega arith) (λ c. omega arith) (λ c. omega arith) (λ c. omega arith) (λ c. omega arith)

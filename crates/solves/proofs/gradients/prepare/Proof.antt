@@ -16,85 +16,68 @@ use Rattle.solves.proofs.OperatorLaws.{on-a, on-b}
 use Rattle.solves.proofs.gradients.prepare.Statement.{statement}
 use Rattle.solves.proofs.gradients.prepare.Tie as tie
 
-abbrev invariant-loop : tie.invariant-loop
+abbrev invariant-loop : tie.invariant-loop-k
 invariant-loop s₀ ia ib t n rho₀ k₀ s rho k =
     (k ≤ t.rows) × (length s ≡ length s₀)
     × (Does Preparing s₀ s (go (prepared_at s k rho)) (loop k (prepare_row (system_on ia ib s₀ t) (vec_at s₀ RESIDUAL t.rows))
     (record { diagonal = []; direction = []; rho = ratio 0 1 })))
 
-abbrev decreases-loop : tie.decreases-loop
+abbrev decreases-loop : tie.decreases-loop-k
 decreases-loop s₀ ia ib t n rho₀ k₀ s rho k = t.rows - k
 
-loop-holds : tie.Need-loop-init invariant-loop decreases-loop
+loop-holds : tie.Need-loop-k-init invariant-loop decreases-loop
 loop-holds c =
-    let at_entry = c.before in
-    (omega arith, refl, prepared-none at_entry.requires _ zero_is)
+    (omega arith, refl, prepared-none c.requires _ zero_is)
 
-load-mass-requires : tie.Need-load-mass-requires invariant-loop decreases-loop
+load-mass-requires : tie.Need-load_mass-ma-requires invariant-loop decreases-loop
 load-mass-requires c κs =
-    let at-load-row = c.before in let at_test = at-load-row.before.before in let at-loop = at_test.before in
-    let at_entry = at-loop.before.before in
-    omega (arith, on-a at_entry.requires at_test.loop-test.true at-loop.loop.s at-load-row.Load-row.ensures)
+    let at-load-row = c in omega (arith, on-a c.requires c.loop-k-test.true c.loop-k.s at-load-row.load_row-row.ensures)
 
-load-mass-requires-2 : tie.Need-load-mass-requires-2 invariant-loop decreases-loop
+load-mass-requires-2 : tie.Need-load_mass-mb-requires invariant-loop decreases-loop
 load-mass-requires-2 c κs =
-    let at-load-row = c.before.before.before in let at_test = at-load-row.before.before in let at-loop = at_test.before in
-    let at_entry = at-loop.before.before in
-    omega
-    (arith, on-b at_entry.requires at_test.loop-test.true at-loop.loop.s at-load-row.Load-row.ensures)
+    let at-load-row = c.before in omega
+    (arith, on-b c.requires c.loop-k-test.true c.loop-k.s at-load-row.load_row-row.ensures)
 
-returns : tie.Need-returns invariant-loop decreases-loop
+returns : tie.Need-returns-then-not-is_finite invariant-loop decreases-loop
 returns c =
-    let at-is-finite = c.before in let at-diagonal-entry = at-is-finite.before in let at-load-mass2 = at-diagonal-entry.before in
-    let at-load-mass = at-load-mass2.before.before in let at-load-row = at-load-mass.before.before in
-    let at_test = at-load-row.before.before in let at-loop = at_test.before in let at_entry = at-loop.before.before in
-    prepared-wild at_entry.requires _ at-loop.loop.invariant.2 at_test.loop-test.true at-loop.loop.invariant.1
-    at-load-row.Load-row.ensures
-    at-load-mass.load-mass.ensures at-load-mass2.load-mass2.ensures at-diagonal-entry.diagonal-entry.ensures
-    at-is-finite.is-finite.ensures zero_is c.if1.true
+    let at-load-row = c.before.before.before.before.before in
+    prepared-wild c.requires _ c.loop-k.invariant.2 c.loop-k-test.true c.loop-k.invariant.1
+    at-load-row.load_row-row.ensures
+    c.load_mass-ma.ensures c.load_mass-mb.ensures c.diagonal_entry-d.ensures
+    c.is_finite.ensures zero_is c.if-not-is_finite.true
 
-returns-2 : tie.Need-returns-2 invariant-loop decreases-loop
+returns-2 : tie.Need-returns-then-d invariant-loop decreases-loop
 returns-2 c =
-    let at-if1 = c.before in let at-is-finite = at-if1.before in let at-diagonal-entry = at-is-finite.before in
-    let at-load-mass2 = at-diagonal-entry.before in let at-load-mass = at-load-mass2.before.before in
-    let at-load-row = at-load-mass.before.before in let at_test = at-load-row.before.before in let at-loop = at_test.before in
-    let at_entry = at-loop.before.before in
-    prepared-small at_entry.requires _ at-loop.loop.invariant.2 at_test.loop-test.true at-loop.loop.invariant.1
-    at-load-row.Load-row.ensures
-    at-load-mass.load-mass.ensures at-load-mass2.load-mass2.ensures at-diagonal-entry.diagonal-entry.ensures
-    at-is-finite.is-finite.ensures zero_is at-if1.if1.false c.if2.true
+    let at-load-row = c.before.before.before.before.before.before in prepared-small c.requires _ c.loop-k.invariant.2 c.loop-k-test.true c.loop-k.invariant.1
+    at-load-row.load_row-row.ensures
+    c.load_mass-ma.ensures c.load_mass-mb.ensures c.diagonal_entry-d.ensures
+    c.is_finite.ensures zero_is c.if-not-is_finite.false c.if-d.true
 
-slice-write-s-2 : tie.Need-slice-write-s-2 invariant-loop decreases-loop
+slice-write-s-2 : tie.Need-bounds-s-k-in-loop-k-2 invariant-loop decreases-loop
 slice-write-s-2 c =
-    let at-load-mass-arg2 = c.before.before.before.before.before.before in
-    let at_test = at-load-mass-arg2.before.before.before.before.before in let at-loop = at_test.before in
-    let at_entry = at-loop.before.before in
-    simp length-set (omega (arith, at_entry.requires.whole, at_entry.requires.most, at-loop.loop.invariant.1, at_test.loop-test.true))
+    simp length-set (omega (arith, c.requires.whole, c.requires.most, c.loop-k.invariant.1, c.loop-k-test.true))
 
-loop-again : tie.Need-loop-preserved invariant-loop decreases-loop
+loop-again : tie.Need-loop-k-preserved invariant-loop decreases-loop
 loop-again c =
-    let at-if2 = c.before in let at-if1 = at-if2.before in let at-is-finite = at-if1.before in
-    let at-diagonal-entry = at-is-finite.before in let at-load-mass2 = at-diagonal-entry.before in
-    let at-load-mass = at-load-mass2.before.before in let at-load-row = at-load-mass.before.before in
-    let at_test = at-load-row.before.before in let at-loop = at_test.before in let at_entry = at-loop.before.before in (
-      omega (arith, at_test.loop-test.true),
-      simp length-set at-loop.loop.invariant.1,
-      prepared_again at_entry.requires _ at-loop.loop.invariant.2 at_test.loop-test.true at-loop.loop.invariant.1
-          at-load-row.Load-row.ensures
-          at-load-mass.load-mass.ensures at-load-mass2.load-mass2.ensures at-diagonal-entry.diagonal-entry.ensures
-          at-is-finite.is-finite.ensures zero_is at-if1.if1.false at-if2.if2.false,
+    let at-load-row = c.before.before.before.before.before.before.before in
+    (
+      omega (arith, c.loop-k-test.true),
+      simp length-set c.loop-k.invariant.1,
+      prepared_again c.requires _ c.loop-k.invariant.2 c.loop-k-test.true c.loop-k.invariant.1
+          at-load-row.load_row-row.ensures
+          c.load_mass-ma.ensures c.load_mass-mb.ensures c.diagonal_entry-d.ensures
+          c.is_finite.ensures zero_is c.if-not-is_finite.false c.if-d.false,
     )
 
-returns-3 : tie.Need-returns-3 invariant-loop decreases-loop
+returns-3 : tie.Need-returns invariant-loop decreases-loop
 returns-3 c =
-    let at-loop = c.before in let at_entry = at-loop.before.before in
-    prepared-ends at_entry.requires _ at-loop.loop.invariant.2 (omega arith) c.loop-test.false
+    prepared-ends c.requires _ c.loop-k.invariant.2 (omega arith) c.loop-k-test.false
 
-pub prepare-spec : {M : Type 1} → statement M
-prepare-spec =
+pub prepare_spec : {M : Type 1} → statement M
+prepare_spec =
     tie.close (tie.spec
     invariant-loop decreases-loop loop-holds (λ c κs. omega arith) load-mass-requires load-mass-requires-2
     (λ c κs. omega arith) (λ c κs. omega arith) (λ c. omega arith) returns (λ c. omega arith) returns-2 (λ c. omega arith)
     (λ c. omega arith) (λ c. omega arith) (λ c. omega arith) (λ c. omega arith) (λ c. omega arith)
     (λ c. omega arith) (λ c. omega arith) slice-write-s-2 (λ c. omega arith) (λ c. omega arith) loop-again
-    (λ c. let at-loop = c.before in at-loop.loop.invariant.1) returns-3)
+    (λ c. c.loop-k.invariant.1) returns-3)

@@ -6,8 +6,8 @@ use Rattle.solves.proofs.GradientLaws.{test-over, test-there}
 use Rattle.solves.proofs.gradients.residual_test.Statement.{statement}
 use Rattle.solves.proofs.gradients.residual_test.Tie as tie
 
-pub residual-test-spec : {M : Type 1} → statement M
-residual-test-spec =
+pub residual_test_spec : {M : Type 1} → statement M
+residual_test_spec =
     tie.close (tie.spec
     (λ c κs. search rules) (λ c. search rules) (λ c. search rules) (λ c. search (test-over, sum_over))
     (λ c κs. search rules) (λ c. search (test-there, sum-there)) (λ c. search (test-there, sum-there)))

@@ -12,14 +12,14 @@ use Rattle.solves.proofs.GradientLaws.{square_turn, square-more, square-ends}
 use Rattle.solves.proofs.gradients.scaled_square.Statement.{statement}
 use Rattle.solves.proofs.gradients.scaled_square.Tie as tie
 
-abbrev invariant-loop : tie.invariant-loop
+abbrev invariant-loop : tie.invariant-loop-k
 invariant-loop s n total₀ k₀ total k = (k ≤ n) × (total ≡ turns (square_turn (vec_at s RESIDUAL n) (vec_at s DIAGONAL n)) k (ratio 0 1))
 
-abbrev decreases-loop : tie.decreases-loop
+abbrev decreases-loop : tie.decreases-loop-k
 decreases-loop s n total₀ k₀ total k = n - k
 
-pub scaled-square-spec : {M : Type 1} → statement M
-scaled-square-spec =
+pub scaled_square_spec : {M : Type 1} → statement M
+scaled_square_spec =
     tie.close (tie.spec
     invariant-loop decreases-loop (λ c. (omega arith, zero_is ∙ turns-none _ _)) (λ c. omega arith) (λ c. omega arith) (λ c. omega arith)
     (λ c. omega arith) (λ c. omega arith) (λ c. omega arith) (λ c. omega arith) (λ c. omega arith)

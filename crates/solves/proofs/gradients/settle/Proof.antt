@@ -6,8 +6,8 @@ use Rattle.solves.proofs.GradientLaws.{settle-over, settle-next}
 use Rattle.solves.proofs.gradients.settle.Statement.{statement}
 use Rattle.solves.proofs.gradients.settle.Tie as tie
 
-pub settle-spec : {M : Type 1} → statement M
-settle-spec =
+pub settle_spec : {M : Type 1} → statement M
+settle_spec =
     tie.close (tie.spec
-    (λ c κs. let at_entry = c.before.before in at_entry.requires) (λ c. search rules) (λ c. omega arith) (λ c. search settle-over) (λ c. search rules)
+    (λ c κs. c.requires) (λ c. search rules) (λ c. omega arith) (λ c. search settle-over) (λ c. search rules)
     (λ c κs. omega arith) (λ c κs. omega arith) (λ c. omega arith) (λ c. search settle-next))

@@ -13,56 +13,45 @@ use Rattle.solves.proofs.OperatorLaws.{place_of}
 use Rattle.solves.proofs.gradients.true_residual.Statement.{statement}
 use Rattle.solves.proofs.gradients.true_residual.Tie as tie
 
-returns : tie.Need-returns
+returns : tie.Need-returns-in_default
 returns c =
-    let at-residual-test = c.before.before in let at_entry = at-residual-test.before.before.before in
-    true-beyond _ at_entry.requires _ (test-is at-residual-test.residual-test.ensures c.enum_told.given.1)
+    true-beyond _ c.requires _ (test-is c.residual_test.ensures c.in_default.is)
 
-returns-2 : tie.Need-returns-2
+returns-2 : tie.Need-returns-then-not-done
 returns-2 c =
-    let at_done = c.before in let at-near = at_done.before.before in let at-residual-test = at-near.before.before in
-    let at_entry = at-residual-test.before.before.before in
-    does-fails _ at-near.near.given.0.0 at_done.done.ensures c.if1.true
-    (true-wild _ at_entry.requires _
-    (sym (fails true at-near.near.given.0.0 at_done.done.ensures c.if1.true) ∙ test-is
-    at-residual-test.residual-test.ensures at-near.near.given.1))
+    does-fails _ c.in-Over.near c.done.ensures c.if-not-done.true
+    (true-wild _ c.requires _
+    (sym (fails true c.in-Over.near c.done.ensures c.if-not-done.true) ∙ test-is
+    c.residual_test.ensures c.in-Over.is))
 
-operator-requires : tie.Need-operator-requires
+operator-requires : tie.Need-operator-end-requires
 operator-requires c κs =
-    let at-residual-test = c.before.before.before.before.before.before in
-    let at_entry = at-residual-test.before.before.before in (
-      at_entry.requires,
-      place_of SOLUTION (omega arith) (omega arith) (omega (arith, at_entry.requires.whole)),
+    (
+      c.requires,
+      place_of SOLUTION (omega arith) (omega arith) (omega (arith, c.requires.whole)),
       place_of PRODUCT (omega arith) (omega arith)
-          (omega (arith, at_entry.requires.whole)),
+          (omega (arith, c.requires.whole)),
     )
 
-returns-3 : tie.Need-returns-3
+returns-3 : tie.Need-returns-then-not-done-2
 returns-3 c =
-    let at-done2 = c.before in let at-operator = at-done2.before.before.before in let at-if1 = at-operator.before.before in
-    let at_done = at-if1.before in let at-near = at_done.before.before in let at-residual-test = at-near.before.before in
-    let at_entry = at-residual-test.before.before.before in
-    let end = at-operator.operator.result in
-    does-fails _ end at-done2.done2.ensures c.if2.true
-    (true-unmoved _ at_entry.requires _
-    (sym (ran-done true at-near.near.given.0.0 (sym at_done.done.ensures ∙ not-no _ at-if1.if1.false))
-    ∙ test-is at-residual-test.residual-test.ensures at-near.near.given.1)
-    (failed _ end at-done2.done2.ensures at-operator.operator.ensures c.if2.true))
+    let end = c.operator-end.result in
+    does-fails _ end c.done-2.ensures c.if-not-done-2.true
+    (true-unmoved _ c.requires _
+    (sym (ran-done true c.in-Over.near (sym c.done.ensures ∙ c.if-not-done.false))
+    ∙ test-is c.residual_test.ensures c.in-Over.is)
+    (failed _ end c.done-2.ensures c.operator-end.ensures c.if-not-done-2.true))
 
-returns-4 : tie.Need-returns-4
+returns-4 : tie.Need-returns
 returns-4 c =
-    let at-difference = c.before.before.before.before in let at-if2 = at-difference.before.before in
-    let at-done2 = at-if2.before in let at-operator = at-done2.before.before.before in
-    let at-if1 = at-operator.before.before in let at_done = at-if1.before in let at-near = at_done.before.before in
-    let at-residual-test = at-near.before.before in let at_entry = at-residual-test.before.before.before in
-    true-again _ at_entry.requires _
-    (sym (ran-done true at-near.near.given.0.0 (sym at_done.done.ensures ∙ not-no _ at-if1.if1.false))
-    ∙ test-is at-residual-test.residual-test.ensures at-near.near.given.1)
-    (went _ at-operator.operator.result at-done2.done2.ensures at-operator.operator.ensures at-if2.if2.false)
-    at-difference.difference.ensures c.residual-test2.result c.residual-test2.ensures
+    true-again _ c.requires _
+    (sym (ran-done true c.in-Over.near (sym c.done.ensures ∙ c.if-not-done.false))
+    ∙ test-is c.residual_test.ensures c.in-Over.is)
+    (went _ c.operator-end.result c.done-2.ensures c.operator-end.ensures c.if-not-done-2.false)
+    c.difference.ensures c.residual_test-2.result c.residual_test-2.ensures
 
-pub true-residual-spec : {M : Type 1} → statement M
-true-residual-spec =
+pub true_residual_spec : {M : Type 1} → statement M
+true_residual_spec =
     tie.close (tie.spec
     (λ c κs. omega arith) (λ c. search rules) (λ c. search rules) (λ c. search rules) returns
     (λ c κs. search rules) (λ c. search rules) returns-2 operator-requires (λ c κs. search rules)

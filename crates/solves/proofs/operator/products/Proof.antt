@@ -10,14 +10,14 @@ use Rattle.solves.proofs.OperatorLaws.{products-more}
 use Rattle.solves.proofs.operator.products.Statement.{statement}
 use Rattle.solves.proofs.operator.products.Tie as tie
 
-abbrev invariant-loop : tie.invariant-loop
+abbrev invariant-loop : tie.invariant-loop-k
 invariant-loop s a b n total₀ k₀ total k = (k ≤ n) × (total ≡ sum_products (vec_at s a n) (vec_at s b n) k)
 
-abbrev decreases-loop : tie.decreases-loop
+abbrev decreases-loop : tie.decreases-loop-k
 decreases-loop s a b n total₀ k₀ total k = n - k
 
-pub products-spec : {M : Type 1} → statement M
-products-spec =
+pub products_spec : {M : Type 1} → statement M
+products_spec =
     tie.close (tie.spec
     invariant-loop decreases-loop (λ c. (omega arith, zero_is ∙ turns-none _ _)) (λ c. omega arith) (λ c. omega arith) (λ c. omega arith)
     (λ c. omega arith) (λ c. omega arith) (λ c. omega arith) (λ c. omega arith) (λ c. omega arith)

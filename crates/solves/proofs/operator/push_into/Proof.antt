@@ -4,7 +4,7 @@ use borrow.Author.Rules.{rules}
 use Rattle.solves.proofs.operator.push_into.Statement.{statement}
 use Rattle.solves.proofs.operator.push_into.Tie as tie
 
-pub push-into-spec : {M : Type 1} → statement M
-push-into-spec =
+pub push_into_spec : {M : Type 1} → statement M
+push_into_spec =
     tie.close (tie.spec
     (λ c κs. search rules) (λ c κs. search rules) (λ c κs. search rules) (λ c. search rules) (λ c. search into-done))

@@ -4,6 +4,6 @@ use borrow.Author.Rules.{rules}
 use Rattle.solves.proofs.operator.push_row.Statement.{statement}
 use Rattle.solves.proofs.operator.push_row.Tie as tie
 
-pub push-row-spec : {M : Type 1} → statement M
-push-row-spec =
+pub push_row_spec : {M : Type 1} → statement M
+push_row_spec =
     tie.close (tie.spec (λ c κs. search rules) (λ c κs. search rules) (λ c. search rules) (λ c. search row-then))

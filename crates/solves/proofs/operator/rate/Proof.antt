@@ -8,7 +8,7 @@ returns : tie.Need-returns
 unfolding rate
 returns c = cc
 
-pub rate-spec : {M : Type 1} → statement M
-rate-spec =
+pub rate_spec : {M : Type 1} → statement M
+rate_spec =
     tie.close (tie.spec
     (λ c κs. search rules) (λ c κs. search rules) (λ c κs. search rules) (λ c κs. search rules) returns)

@@ -15,39 +15,34 @@ use Rattle.solves.proofs.OperatorLaws.{scale-none, scale-stops, scale-again, sca
 use Rattle.solves.proofs.operator.scale_all.Statement.{statement}
 use Rattle.solves.proofs.operator.scale_all.Tie as tie
 
-abbrev invariant-loop : tie.invariant-loop
+abbrev invariant-loop : tie.invariant-loop-k
 invariant-loop s₀ body-count k₀ s k =
     (k ≤ body-count) × (length s ≡ length s₀)
     × (Does (λ i. Out GENERALIZED (6 * k) i) s₀ s (go (shares_in s k)) (scale_all (shares_in s₀ body-count) (masses_at s₀ MASSES body-count) k))
 
-abbrev decreases-loop : tie.decreases-loop
+abbrev decreases-loop : tie.decreases-loop-k
 decreases-loop s₀ body-count k₀ s k = body-count - k
 
-loop-holds : tie.Need-loop-init invariant-loop decreases-loop
+loop-holds : tie.Need-loop-k-init invariant-loop decreases-loop
 loop-holds c =
-    let at_entry = c.before in
-    (omega arith, refl, scale-none _ _ at_entry.requires.1)
+    (omega arith, refl, scale-none _ _ c.requires.1)
 
-loop-again : tie.Need-loop-preserved invariant-loop decreases-loop
+loop-again : tie.Need-loop-k-preserved invariant-loop decreases-loop
 loop-again c =
-    let at-store-generalized = c.before.before in let at_g = at-store-generalized.before.before.before in
-    let at_Scaled = at_g.before.before in let at-load-mass = at_Scaled.before in
-    let at-load-generalized = at-load-mass.before.before in let at_test = at-load-generalized.before.before in
-    let at-loop = at_test.before in let at_entry = at-loop.before.before in (
+    (
       omega arith,
-      omega (arith, at-store-generalized.store-generalized.ensures.0.size, at-loop.loop.invariant.1),
-      scale-again _ _ at_entry.requires.1 at-loop.loop.invariant.2 at_test.loop-test.true
-          at-load-generalized.load-generalized.ensures at-load-mass.load-mass.ensures
-          (share-there at_Scaled.scaled.ensures at_g.g.given.1) at-store-generalized.store-generalized.ensures,
+      omega (arith, c.store_generalized.ensures.0.size, c.loop-k.invariant.1),
+      scale-again _ _ c.requires.1 c.loop-k.invariant.2 c.loop-k-test.true
+          c.load_generalized-value.ensures c.load_mass-mass.ensures
+          (share-there c.scaled.ensures c.in-Value.is) c.store_generalized.ensures,
     )
 
-returns-2 : tie.Need-returns-2 invariant-loop decreases-loop
+returns-2 : tie.Need-returns invariant-loop decreases-loop
 returns-2 c =
-    let at-loop = c.before in let at_entry = at-loop.before.before in
-    scale-ends _ _ at_entry.requires.1 at-loop.loop.invariant.2 (omega arith) c.loop-test.false
+    scale-ends _ _ c.requires.1 c.loop-k.invariant.2 (omega arith) c.loop-k-test.false
 
-pub scale-all-spec : {M : Type 1} → statement M
-scale-all-spec =
+pub scale_all_spec : {M : Type 1} → statement M
+scale_all_spec =
     tie.close (tie.spec
     invariant-loop decreases-loop loop-holds (λ c κs. omega arith) (λ c κs. omega arith) (λ c κs. omega arith) (λ c. search rules)
     (λ c κs. omega arith) (λ c. search rules) (λ c. omega arith) (λ c. search (scale-stops, share-over)) (λ c. omega arith)

@@ -4,13 +4,12 @@ use Rattle.solves.proofs.PlaceLaws.{scaled-linear-over, scaled-angular-over, sca
 use Rattle.solves.proofs.operator.scaled.Statement.{statement}
 use Rattle.solves.proofs.operator.scaled.Tie as tie
 
-returns-3 : tie.Need-returns-3
+returns-3 : tie.Need-returns-else-is_finite
 returns-3 c =
-    let at-is-finite = c.before in let at-scale = at-is-finite.before in
-    scaled-linear-over _ _ at-scale.scale.ensures at-is-finite.is-finite.ensures c.if1.false
+    scaled-linear-over _ _ c.scale-l.ensures c.is_finite.ensures c.if-is_finite.false
 
-pub scaled-spec : {M : Type 1} → statement M
-scaled-spec =
+pub scaled_spec : {M : Type 1} → statement M
+scaled_spec =
     tie.close (tie.spec
     (λ c κs. search rules) (λ c κs. search rules) (λ c κs. search rules) (λ c κs. search rules) (λ c. search scaled-both)
     (λ c. search scaled-angular-over) returns-3)

@@ -9,14 +9,14 @@ use Rattle.solves.proofs.OperatorLaws.{share_test, linear-wild, angular-wild, sh
 use Rattle.solves.proofs.operator.shares_finite.Statement.{statement}
 use Rattle.solves.proofs.operator.shares_finite.Tie as tie
 
-abbrev invariant-loop : tie.invariant-loop
+abbrev invariant-loop : tie.invariant-loop-k
 invariant-loop s body-count k₀ k = (k ≤ body-count) × (true ≡ every k (share_test s body-count))
 
-abbrev decreases-loop : tie.decreases-loop
+abbrev decreases-loop : tie.decreases-loop-k
 decreases-loop s body-count k₀ k = body-count - k
 
-pub shares-finite-spec : {M : Type 1} → statement M
-shares-finite-spec =
+pub shares_finite_spec : {M : Type 1} → statement M
+shares_finite_spec =
     tie.close (tie.spec
     invariant-loop decreases-loop (λ c. (omega arith, every-none _)) (λ c κs. omega arith) (λ c κs. omega arith)
     (λ c. search (all_of, every-fail, linear-wild)) (λ c κs. omega arith) (λ c. search (all_of, every-fail, angular-wild))

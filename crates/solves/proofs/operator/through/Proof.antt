@@ -4,6 +4,6 @@ use Rattle.solves.proofs.OperatorLaws.{through-is}
 use Rattle.solves.proofs.operator.through.Statement.{statement}
 use Rattle.solves.proofs.operator.through.Tie as tie
 
-pub through-spec : {M : Type 1} → statement M
-through-spec =
+pub through_spec : {M : Type 1} → statement M
+through_spec =
     tie.close (tie.spec (λ c κs. search rules) (λ c κs. search rules) (λ c κs. search rules) (λ c. search through-is))

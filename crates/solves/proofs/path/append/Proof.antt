@@ -6,22 +6,21 @@ use Rattle.solves.proofs.WalkLaws.{append-none, append-more, append-ends}
 use Rattle.solves.proofs.path.append.Statement.{statement}
 use Rattle.solves.proofs.path.append.Tie as tie
 
-abbrev invariant-loop : tie.invariant-loop
+abbrev invariant-loop : tie.invariant-loop-i
 invariant-loop rows₀ before from to listed₀ i₀ rows listed i = (from ≤ i) × (i ≤ to) × (Appended (order_at rows₀ before) from to i (order_at rows listed))
 
-abbrev decreases-loop : tie.decreases-loop
+abbrev decreases-loop : tie.decreases-loop-i
 decreases-loop rows₀ before from to listed₀ i₀ rows listed i = to - i
 
-loop-holds : tie.Need-loop-init invariant-loop decreases-loop
+loop-holds : tie.Need-loop-i-init invariant-loop decreases-loop
 loop-holds c = (omega arith, c.requires.0, append-none _ _ _ c.requires.3)
 
-loop-again : tie.Need-loop-preserved invariant-loop decreases-loop
+loop-again : tie.Need-loop-i-preserved invariant-loop decreases-loop
 loop-again c =
-    let at-loop = c.before in let at_entry = at-loop.before in
-    (omega arith, omega arith, append-more at-loop.loop.invariant.2 at-loop.loop.invariant.0 c.loop-test.true at_entry.requires.2)
+    (omega arith, omega arith, append-more c.loop-i.invariant.2 c.loop-i.invariant.0 c.loop-i-test.true c.requires.2)
 
-pub append-spec : {M : Type 1} → statement M
-append-spec =
+pub append_spec : {M : Type 1} → statement M
+append_spec =
     tie.close (tie.spec
     invariant-loop decreases-loop loop-holds (λ c. omega arith) (λ c. omega arith) (λ c. omega arith) (λ c. omega arith)
     (λ c. omega arith) loop-again (λ c. search append-ends))

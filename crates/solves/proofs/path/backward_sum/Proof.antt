@@ -4,8 +4,8 @@ use Rattle.solves.proofs.SweepLaws.{backward-lie, backward-is}
 use Rattle.solves.proofs.path.backward_sum.Statement.{statement}
 use Rattle.solves.proofs.path.backward_sum.Tie as tie
 
-pub backward-sum-spec : {M : Type 1} → statement M
-backward-sum-spec =
+pub backward_sum_spec : {M : Type 1} → statement M
+backward_sum_spec =
     tie.close (tie.spec
     (λ c. omega arith) (λ c κs. omega arith) (λ c κs. omega arith) (λ c κs. omega arith) (λ c. omega arith)
     (λ c κs. search backward-lie) (λ c. search backward-is))

@@ -4,11 +4,11 @@ use Rattle.solves.proofs.BlockLaws.{begins-first, begins-same, begins-b, begins-
 use Rattle.solves.proofs.path.begins.Statement.{statement}
 use Rattle.solves.proofs.path.begins.Tie as tie
 
-returns : tie.Need-returns
-returns c = begins-first _ _ _ c.if1.true
+returns : tie.Need-returns-then-i-eq0
+returns c = begins-first _ _ _ c.if-i-eq0.true
 
-pub begins-spec : {M : Type 1} → statement M
-begins-spec =
+pub begins_spec : {M : Type 1} → statement M
+begins_spec =
     tie.close (tie.spec
     returns (λ c. search rules) (λ c. search rules) (λ c. search rules) (λ c. search rules) (λ c. search rules)
     (λ c. search rules) (λ c. search rules) (λ c. search rules) (λ c. search rules) (λ c. search rules)

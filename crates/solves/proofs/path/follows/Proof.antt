@@ -4,6 +4,6 @@ use Rattle.solves.proofs.WalkLaws.{follows-none, follows-other}
 use Rattle.solves.proofs.path.follows.Statement.{statement}
 use Rattle.solves.proofs.path.follows.Tie as tie
 
-pub follows-spec : {M : Type 1} → statement M
-follows-spec =
-    tie.close (tie.spec (λ c. follows-none _ c.if1.true) (λ c. follows-other _ c.if1.false refl))
+pub follows_spec : {M : Type 1} → statement M
+follows_spec =
+    tie.close (tie.spec (λ c. follows-none _ c.if-block-eq-NONE.true) (λ c. follows-other _ c.if-block-eq-NONE.false refl))

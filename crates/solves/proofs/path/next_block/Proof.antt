@@ -4,12 +4,11 @@ use Rattle.solves.proofs.WalkLaws.{next-x, next-y, next-none}
 use Rattle.solves.proofs.path.next_block.Statement.{statement}
 use Rattle.solves.proofs.path.next_block.Tie as tie
 
-returns : tie.Need-returns
+returns : tie.Need-returns-then-follows
 returns c =
-    let at_Follows = c.before in
-    next-x _ _ _ at_Follows.follows.ensures c.if1.true
+    next-x _ _ _ c.follows.ensures c.if-follows.true
 
-pub next-block-spec : {M : Type 1} → statement M
-next-block-spec =
+pub next_block_spec : {M : Type 1} → statement M
+next_block_spec =
     tie.close (tie.spec
     (λ c κs. search rules) returns (λ c κs. search rules) (λ c. search next-y) (λ c. search next-none))

@@ -5,19 +5,17 @@ use Rattle.arith.specs.FlowLaws.{cond_yes, cond_no}
 use Rattle.solves.proofs.path.note_start.Statement.{statement}
 use Rattle.solves.proofs.path.note_start.Tie as tie
 
-returns : tie.Need-returns
+returns : tie.Need-returns-then-begins
 returns c =
-    let at-begins = c.before in
-    let begun = sym at-begins.begins.ensures ∙ c.if1.true in
+    let begun = sym c.begins.ensures ∙ c.if-begins.true in
     record { is = cond_yes _ _ begun; written = cond_yes _ _ begun }
 
-returns-2 : tie.Need-returns-2
+returns-2 : tie.Need-returns
 returns-2 c =
-    let at-begins = c.before in
-    let begun = sym at-begins.begins.ensures ∙ c.if1.false in
+    let begun = sym c.begins.ensures ∙ c.if-begins.false in
     record { is = cond_no _ _ begun; written = cond_no _ _ begun }
 
-pub note-start-spec : {M : Type 1} → statement M
-note-start-spec =
+pub note_start_spec : {M : Type 1} → statement M
+note_start_spec =
     tie.close (tie.spec
     (λ c κs. search rules) (λ c. search rules) (λ c. search rules) (λ c. search rules) returns returns-2)

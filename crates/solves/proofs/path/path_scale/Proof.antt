@@ -15,35 +15,32 @@ use Rattle.solves.proofs.FactorLaws.{scales-none, scales-lost, scales-refused, s
 use Rattle.solves.proofs.path.path_scale.Statement.{statement}
 use Rattle.solves.proofs.path.path_scale.Tie as tie
 
-abbrev invariant-loop : tie.invariant-loop
+abbrev invariant-loop : tie.invariant-loop-i
 invariant-loop s₀ ia ib t order i₀ i-end s i =
     (i ≤ t.rows) × (length s ≡ length s₀) × (Does (λ j. Beside PATH_SCALE j) s₀ s (go (vec_at s PATH_SCALE i))
     (path_scale (rows_on ia ib s₀ t.place t.rows) (masses_at s₀ MASSES t.bodies) (list_of_first order t.rows) i))
 
-abbrev decreases-loop : tie.decreases-loop
+abbrev decreases-loop : tie.decreases-loop-i
 decreases-loop s₀ ia ib t order i₀ i-end s i = t.rows - i
 
-loop-holds : tie.Need-loop-init invariant-loop decreases-loop
+loop-holds : tie.Need-loop-i-init invariant-loop decreases-loop
 loop-holds c =
-    let at_entry = c.before in
-    let pre = at_entry.requires in
+    let pre = c.requires in
     (omega arith, refl, scales-none pre _)
 
-loop-again : tie.Need-loop-preserved invariant-loop decreases-loop
+loop-again : tie.Need-loop-i-preserved invariant-loop decreases-loop
 loop-again c =
-    let at-if1 = c.before in let at_value = at-if1.before.before in let at-cross-at = at_value.before.before in
-    let at_test = at-cross-at.before.before in let at-loop = at_test.before in let at_entry = at-loop.before.before in
-    let pre = at_entry.requires in (
-      omega (arith, at_test.loop-test.true),
-      simp length-set at-loop.loop.invariant.1,
-      scales-more pre _ at-loop.loop.invariant.2 at_test.loop-test.true at-loop.loop.invariant.1
-          zero_is (sum-there at-cross-at.cross_at.ensures at_value.value.given.1) at-if1.if1.false c.sqrt.ensures.is,
+    let pre = c.requires in (
+      omega (arith, c.loop-i-test.true),
+      simp length-set c.loop-i.invariant.1,
+      scales-more pre _ c.loop-i.invariant.2 c.loop-i-test.true c.loop-i.invariant.1
+          zero_is (sum-there c.cross_at.ensures c.in-Value.is) c.if-value.false c.sqrt.ensures.is,
     )
 
-pub path-scale-spec : {M : Type 1} → statement M
-path-scale-spec =
+pub path_scale_spec : {M : Type 1} → statement M
+path_scale_spec =
     tie.close (tie.spec
     invariant-loop decreases-loop loop-holds (λ c κs. search along-kept) (λ c. search rules) (λ c. search rules) (λ c. omega arith)
     (λ c. search (scales-lost, sum_over)) (λ c. omega arith) (λ c. search (scales-refused, zero_is, sum-there))
     (λ c κs. search rules) (λ c. omega arith) (λ c. omega arith) (λ c. omega arith) (λ c. omega arith) (λ c. omega arith)
-    loop-again (λ c. let at-loop = c.before in at-loop.loop.invariant.1) (λ c. search scales-end))
+    loop-again (λ c. c.loop-i.invariant.1) (λ c. search scales-end))

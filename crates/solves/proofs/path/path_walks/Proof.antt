@@ -8,42 +8,37 @@ use Rattle.solves.proofs.WalkLaws.{WalksSo, walks-none, walks-lost, walks_more, 
 use Rattle.solves.proofs.path.path_walks.Statement.{statement}
 use Rattle.solves.proofs.path.path_walks.Tie as tie
 
-abbrev invariant-loop : tie.invariant-loop
+abbrev invariant-loop : tie.invariant-loop-first
 invariant-loop ia ib starts blocks edges rows₀ visited₀ listed₀ first₀ rows visited listed first =
     (first ≤ blocks) × (WalksSo ia ib (blocks_at starts blocks) edges first (order_at rows listed) visited)
 
-abbrev decreases-loop : tie.decreases-loop
+abbrev decreases-loop : tie.decreases-loop-first
 decreases-loop ia ib starts blocks edges rows₀ visited₀ listed₀ first₀ rows visited listed first = blocks - first
 
-walk-from-requires : tie.Need-walk-from-requires invariant-loop decreases-loop
+walk-from-requires : tie.Need-walk_from-walked-requires invariant-loop decreases-loop
 walk-from-requires c κs =
-    let at_test = c.before.before in let at-loop = at_test.before in let at_entry = at-loop.before in
-    (at_entry.requires.0, at_test.loop-test.true, at-loop.loop.invariant.1.free)
+    (c.requires.0, c.loop-first-test.true, c.loop-first.invariant.1.free)
 
-returns : tie.Need-returns invariant-loop decreases-loop
+returns : tie.Need-returns-then-not-walked invariant-loop decreases-loop
 returns c =
-    let at-if1 = c.before in let at-walk-from = at-if1.before.before in let at_test = at-walk-from.before.before.before in
-    let at-loop = at_test.before in let at_entry = at-loop.before in
     rw c.new.ensures
-    (walks-lost at_entry.requires.0 at-loop.loop.invariant.1 at_test.loop-test.true at-walk-from.walk_from.ensures
-    (not_yes _ at-if1.if1.true))
+    (walks-lost c.requires.0 c.loop-first.invariant.1 c.loop-first-test.true c.walk_from-walked.ensures
+    (not_yes _ c.if-not-walked.true))
 
-loop-again : tie.Need-loop-preserved invariant-loop decreases-loop
+loop-again : tie.Need-loop-first-preserved invariant-loop decreases-loop
 loop-again c =
-    let at-walk-from = c.before.before in let at_test = at-walk-from.before.before.before in let at-loop = at_test.before in
-    let at_entry = at-loop.before in (
+    (
       omega arith,
-      walks_more at_entry.requires.0 at-loop.loop.invariant.1 at_test.loop-test.true at-walk-from.walk_from.ensures
-          (not-no _ c.if1.false),
+      walks_more c.requires.0 c.loop-first.invariant.1 c.loop-first-test.true c.walk_from-walked.ensures
+          (not-no _ c.if-not-walked.false),
     )
 
-returns-2 : tie.Need-returns-2 invariant-loop decreases-loop
+returns-2 : tie.Need-returns invariant-loop decreases-loop
 returns-2 c =
-    let at_test = c.before in let at-loop = at_test.before in let at_entry = at-loop.before in
-    rw c.new2.ensures (walks-end at_entry.requires.0 at-loop.loop.invariant.1 at-loop.loop.invariant.0 at_test.loop-test.false)
+    rw c.new-2.ensures (walks-end c.requires.0 c.loop-first.invariant.1 c.loop-first.invariant.0 c.loop-first-test.false)
 
-pub path-walks-spec : {M : Type 1} → statement M
-path-walks-spec =
+pub path_walks_spec : {M : Type 1} → statement M
+path_walks_spec =
     tie.close (tie.spec
     invariant-loop decreases-loop (λ c. (omega arith, walks-none c.requires.0 c.requires.1)) walk-from-requires
     (λ c κs. search rules) returns (λ c. omega arith) (λ c. omega arith) loop-again (λ c κs. search rules)

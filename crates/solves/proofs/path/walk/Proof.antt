@@ -9,86 +9,54 @@ use Rattle.solves.proofs.WalkLaws.{WalkSo, walk_none, walk-met, append-fits, wal
 use Rattle.solves.proofs.path.walk.Statement.{statement}
 use Rattle.solves.proofs.path.walk.Tie as tie
 
-abbrev invariant-loop : tie.invariant-loop
+abbrev invariant-loop : tie.invariant-loop-k
 invariant-loop ia ib starts blocks edges visited₀ first rows₀ before listed₀ current₀ previous₀ k₀ visited rows listed current previous k =
     (k ≤ blocks) × (WalkSo ia ib (blocks_at starts blocks) edges (order_at rows₀ before) visited₀ first k (order_at rows listed) visited current previous)
 
-abbrev decreases-loop : tie.decreases-loop
+abbrev decreases-loop : tie.decreases-loop-k
 decreases-loop ia ib starts blocks edges visited₀ first rows₀ before listed₀ current₀ previous₀ k₀ visited rows listed current previous k = blocks - k
 
--- the loop, seen from where the block's rows were appended
-abbrev loop-of : tie.After-append invariant-loop decreases-loop → tie.At-loop invariant-loop decreases-loop
-loop-of c =
-    let at-if1 = c.before.before.before.before in
-    at-if1.before.before.before
-
--- the block's first row
-there : (c : tie.After-append invariant-loop decreases-loop) → let at-loop = loop-of c in let at_entry = at-loop.before in
-    get_or at_entry.args.starts.now at-loop.loop.current 0 < 96
-there c =
-    let at-loop = loop-of c in let at_entry = at-loop.before in
-    omega (arith, row-there at_entry.pre.0.blocked at-loop.loop.inv.1.here)
-
-returns : tie.Need-returns invariant-loop decreases-loop
+returns : tie.Need-returns-then-visited-current invariant-loop decreases-loop
 returns c =
-    let at-if1 = c.before in let at_test = at-if1.before.before in let at-loop = at_test.before in
-    let at_entry = at-loop.before in
-    rw c.new.ensures (walk-met at_entry.requires.0 at-loop.loop.invariant.1 at_test.loop-test.true at-if1.if1.true)
+    rw c.new.ensures (walk-met c.requires.0 c.loop-k.invariant.1 c.loop-k-test.true c.if-visited-current.true)
 
-append-requires : tie.Need-append-requires invariant-loop decreases-loop
+append-requires : tie.Need-append-listed-requires invariant-loop decreases-loop
 append-requires c κs =
-    let at-if1 = c.before.before.before in let at_test = at-if1.before.before in let at-loop = at_test.before in
-    let at_entry = at-loop.before in
-    append-fits at_entry.requires.0 at-loop.loop.invariant.1 at_test.loop-test.true at-if1.if1.false
+    append-fits c.requires.0 c.loop-k.invariant.1 c.loop-k-test.true c.if-visited-current.false
 
 neighbor-requires : tie.Need-neighbor-requires invariant-loop decreases-loop
 neighbor-requires c κs =
-    let at-append = c.before in let at-loop = loop-of at-append in let at_entry = at-loop.before in
-    a_body at_entry.pre.0.blocked at-loop.loop.inv.1.here
+    a_body c.requires.0.blocked c.loop-k.invariant.1.here
 
-neighbor-requires-2 : tie.Need-neighbor-requires-2 invariant-loop decreases-loop
+neighbor-requires-2 : tie.Need-neighbor-requires-in-loop-k invariant-loop decreases-loop
 neighbor-requires-2 c κs =
-    let at-append = c.before.before.before in let at-loop = loop-of at-append in let at_entry = at-loop.before in
-    b-body at_entry.pre.0.blocked at-loop.loop.inv.1.here
+    b-body c.requires.0.blocked c.loop-k.invariant.1.here
 
-returns-2 : tie.Need-returns-2 invariant-loop decreases-loop
+returns-2 : tie.Need-returns-then-next-eq-NONE invariant-loop decreases-loop
 returns-2 c =
-    let at-if2 = c.before in let at-next-block = at-if2.before in let at-neighbor2 = at-next-block.before in
-    let at-neighbor = at-neighbor2.before.before in let at-append = at-neighbor.before.before in
-    let at-if1 = at-append.before.before.before.before in let at_test = at-if1.before.before in
-    let at-loop = loop-of at-append in let at_entry = at-loop.before in
-    rw c.new2.ensures
-    (walk_ends at_entry.pre.0 at-loop.loop.inv.1 at_test.loop-test.true at-if1.if1.false at-append.append.ensures
-    at-neighbor.neighbor.ensures at-neighbor2.neighbor2.ensures at-next-block.next-block.ensures at-if2.if2.true)
+    rw c.new-then-next-eq-NONE.ensures
+    (walk_ends c.requires.0 c.loop-k.invariant.1 c.loop-k-test.true c.if-visited-current.false c.append-listed.ensures
+    c.neighbor.ensures c.neighbor-in-loop-k.ensures c.next_block-next.ensures c.if-next-eq-NONE.true)
 
-turns-left : (c : tie.After-append invariant-loop decreases-loop) → let at-loop = loop-of c in let at_entry = at-loop.before in
-    at-loop.loop.k < at_entry.args.blocks
-turns-left c =
-    let at-if1 = c.before.before.before.before in let at_test = at-if1.before.before in
-    at_test.loop-test.true
-
-loop-again : tie.Need-loop-preserved invariant-loop decreases-loop
+loop-again : tie.Need-loop-k-preserved invariant-loop decreases-loop
 loop-again c =
-    let at-next-block = c.before in let at-neighbor2 = at-next-block.before in let at-neighbor = at-neighbor2.before.before in
-    let at-append = at-neighbor.before.before in let at-if1 = at-append.before.before.before.before in
-    let at-loop = loop-of at-append in let at_entry = at-loop.before in (
-      omega (arith, turns-left at-append),
-      walk_more at_entry.pre.0 at-loop.loop.inv.1 (turns-left at-append) at-if1.if1.false at-append.append.ensures
-          at-neighbor.neighbor.ensures at-neighbor2.neighbor2.ensures at-next-block.next-block.ensures c.if2.false,
+    (
+      omega (arith, c.loop-k-test.true),
+      walk_more c.requires.0 c.loop-k.invariant.1 c.loop-k-test.true c.if-visited-current.false c.append-listed.ensures
+          c.neighbor.ensures c.neighbor-in-loop-k.ensures c.next_block-next.ensures c.if-next-eq-NONE.false,
     )
 
-returns-3 : tie.Need-returns-3 invariant-loop decreases-loop
+returns-3 : tie.Need-returns invariant-loop decreases-loop
 returns-3 c =
-    let at_test = c.before in let at-loop = at_test.before in let at_entry = at-loop.before in
-    rw c.new3.ensures (walk-spent at_entry.requires.0 at-loop.loop.invariant.1 at-loop.loop.invariant.0 at_test.loop-test.false)
+    rw c.new-2.ensures (walk-spent c.requires.0 c.loop-k.invariant.1 c.loop-k.invariant.0 c.loop-k-test.false)
 
-pub walk-spec : {M : Type 1} → statement M
-walk-spec =
+pub walk_spec : {M : Type 1} → statement M
+walk_spec =
     tie.close (tie.spec
     invariant-loop decreases-loop (λ c. (omega arith, walk_none c.requires.0 c.requires.1 c.requires.2)) (λ c. omega arith)
     (λ c κs. search rules) returns (λ c. omega arith) (λ c. omega arith) (λ c. omega arith) (λ c. omega arith)
-    (λ c. omega arith) (λ c. omega arith) append-requires (λ c. omega (arith, there c))
-    (λ c. omega (arith, there c)) neighbor-requires (λ c. let at-append = c.before.before in omega (arith, there at-append))
-    (λ c. let at-append = c.before.before in omega (arith, there at-append)) neighbor-requires-2 (λ c κs. search rules)
+    (λ c. omega arith) (λ c. omega arith) append-requires (λ c. omega (arith, row-there c.requires.0.blocked c.loop-k.invariant.1.here))
+    (λ c. omega (arith, row-there c.requires.0.blocked c.loop-k.invariant.1.here)) neighbor-requires (λ c. omega (arith, row-there c.requires.0.blocked c.loop-k.invariant.1.here))
+    (λ c. omega (arith, row-there c.requires.0.blocked c.loop-k.invariant.1.here)) neighbor-requires-2 (λ c κs. search rules)
     (λ c κs. search rules) returns-2 (λ c. omega arith) (λ c. omega arith) loop-again (λ c κs. search rules)
     returns-3)

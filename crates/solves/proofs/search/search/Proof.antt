@@ -14,49 +14,42 @@ use Rattle.solves.proofs.OperatorLaws.{rows-kept}
 use Rattle.solves.proofs.search.search.Statement.{statement}
 use Rattle.solves.proofs.search.search.Tie as tie
 
-abbrev invariant-loop : tie.invariant-loop
+abbrev invariant-loop : tie.invariant-loop-k
 invariant-loop s₀ ia ib t which tolerance start most rho₀ k₀ s rho k =
     Searched t.rows most (pass_of which (system_on ia ib s₀ t) (vec_at s₀ RHS t.rows) (vec_at s₀ DIAGONAL t.rows) tolerance) s₀ start k s rho
 
-abbrev decreases-loop : tie.decreases-loop
+abbrev decreases-loop : tie.decreases-loop-k
 decreases-loop s₀ ia ib t which tolerance start most rho₀ k₀ s rho k = most - k
 
-returns : tie.Need-returns invariant-loop decreases-loop
+returns : tie.Need-returns-in-Over invariant-loop decreases-loop
 returns c =
-    let at-end = c.before.before in let at-search-pass = at-end.before.before.before.before in
-    let at_test = at-search-pass.before.before in let at-loop = at_test.before in let at-limit = at-loop.before in
-    let at_entry = at-limit.before.before in
-    new-ended (vec_at at-search-pass.search-pass.new.0 SOLUTION _) c.new.ensures
+    new-ended (vec_at c.search_pass.new.s SOLUTION _) c.new.ensures
     (does-is
     (does-more passing-work
-    (search-over _ at-loop.loop.invariant at_test.loop-test.true at-search-pass.search-pass.result
-    (does-is at-search-pass.search-pass.ensures
-    (pass_kept _ at_entry.requires at_entry.args.which _ at-loop.loop.invariant.kept _))
-    at-end.end.given.1))
-    (cc at-limit.limit.ensures))
+    (search-over _ c.loop-k.invariant c.loop-k-test.true c.search_pass.result
+    (does-is c.search_pass.ensures
+    (pass_kept _ c.requires c.args.which _ c.loop-k.invariant.kept _))
+    c.in-Over.is))
+    (cc c.limit-most.ensures))
 
-loop-again : tie.Need-loop-preserved invariant-loop decreases-loop
+loop-again : tie.Need-loop-k-preserved invariant-loop decreases-loop
 loop-again c =
-    let at_next = c.before in let at-search-pass = at_next.before.before.before.before in
-    let at_test = at-search-pass.before.before in let at-loop = at_test.before in
-    let at_entry = at-loop.before.before.before in
-    search-again _ at-loop.loop.invariant at_test.loop-test.true at-search-pass.search-pass.result
-    (does-is at-search-pass.search-pass.ensures
-    (pass_kept _ at_entry.requires at_entry.args.which _ at-loop.loop.invariant.kept _))
-    at_next.next.given.1
+    search-again _ c.loop-k.invariant c.loop-k-test.true c.search_pass.result
+    (does-is c.search_pass.ensures
+    (pass_kept _ c.requires c.args.which _ c.loop-k.invariant.kept _))
+    c.in-Rho.is
 
-returns-2 : tie.Need-returns-2 invariant-loop decreases-loop
+returns-2 : tie.Need-returns invariant-loop decreases-loop
 returns-2 c =
-    let at_test = c.before in let at-loop = at_test.before in let at-limit = at-loop.before in
-    new-ended (vec_at at-loop.loop.s SOLUTION _) c.new2.ensures
+    new-ended (vec_at c.loop-k.s SOLUTION _) c.new-2.ensures
     (does-is
     (does-more passing-work
-    (came-spent at-loop.loop.invariant at_test.loop-test.false))
-    (cc at-limit.limit.ensures))
+    (came-spent c.loop-k.invariant c.loop-k-test.false))
+    (cc c.limit-most.ensures))
 
-pub search-spec : {M : Type 1} → statement M
-search-spec =
+pub search_spec : {M : Type 1} → statement M
+search_spec =
     tie.close (tie.spec
-    invariant-loop decreases-loop (λ c κs. let at_entry = c.before in at_entry.requires.most) (λ c. came-none) (λ c κs. search rows-kept) (λ c. search rules)
+    invariant-loop decreases-loop (λ c κs. c.requires.most) (λ c. came-none) (λ c κs. search rows-kept) (λ c. search rules)
     (λ c. search rules) (λ c κs. search rules) (λ c. omega arith) returns (λ c. omega arith) (λ c. omega arith) loop-again
-    (λ c κs. search rules) (λ c. let at-loop = c.before.before in at-loop.loop.invariant.kept.size) returns-2)
+    (λ c κs. search rules) (λ c. c.loop-k.invariant.kept.size) returns-2)

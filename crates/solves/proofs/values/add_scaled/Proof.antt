@@ -8,23 +8,22 @@ use Rattle.solves.proofs.VectorLaws.{Sofar, two_none, two-more, two_is}
 use Rattle.solves.proofs.values.add_scaled.Statement.{statement}
 use Rattle.solves.proofs.values.add_scaled.Tie as tie
 
-abbrev invariant-loop : tie.invariant-loop
+abbrev invariant-loop : tie.invariant-loop-k
 invariant-loop s₀ x a alpha b n k₀ s k = Sofar (λ (p q : Float). p ⊕ alpha ⊗ q) x a b n s₀ k s
 
-abbrev decreases-loop : tie.decreases-loop
+abbrev decreases-loop : tie.decreases-loop-k
 decreases-loop s₀ x a alpha b n k₀ s k = n - k
 
 returns : tie.Need-returns invariant-loop decreases-loop
 unfolding plus
 returns c =
-    let at-loop = c.before in
-    two_is at-loop.loop.invariant c.loop-test.false
+    two_is c.loop-k.invariant c.loop-k-test.false
 
-pub add-scaled-spec : {M : Type 1} → statement M
-add-scaled-spec =
+pub add_scaled_spec : {M : Type 1} → statement M
+add_scaled_spec =
     tie.close (tie.spec
     invariant-loop decreases-loop (λ c. search two_none) (λ c. omega arith) (λ c. omega arith)
     (λ c. omega arith) (λ c. omega arith) (λ c. omega arith) (λ c. omega arith) (λ c. omega arith)
     (λ c. omega arith) (λ c. omega arith) (λ c. omega arith) (λ c. omega arith)
-    (λ c. let at_test = c.before.before in let at-loop = at_test.before in two-more at-loop.loop.invariant at_test.loop-test.true)
+    (λ c. two-more c.loop-k.invariant c.loop-k-test.true)
     (λ c. omega arith) returns)

@@ -8,16 +8,15 @@ use Rattle.solves.proofs.VectorLaws.{Sofar, two_none, two-more, two_is, vec-tab}
 use Rattle.solves.proofs.values.copy.Statement.{statement}
 use Rattle.solves.proofs.values.copy.Tie as tie
 
-abbrev invariant-loop : tie.invariant-loop
+abbrev invariant-loop : tie.invariant-loop-k
 invariant-loop s₀ to from n k₀ s k = Sofar (λ (p q : Float). p) to from from n s₀ k s
 
-abbrev decreases-loop : tie.decreases-loop
+abbrev decreases-loop : tie.decreases-loop-k
 decreases-loop s₀ to from n k₀ s k = n - k
 
 returns : tie.Need-returns invariant-loop decreases-loop
 returns c =
-    let at-loop = c.before in
-    does-is (two_is at-loop.loop.invariant c.loop-test.false) (sym vec-tab)
+    does-is (two_is c.loop-k.invariant c.loop-k-test.false) (sym vec-tab)
 
 pub copy_spec : {M : Type 1} → statement M
 copy_spec =
@@ -25,5 +24,5 @@ copy_spec =
     invariant-loop decreases-loop (λ c. search two_none) (λ c. omega arith) (λ c. omega arith)
     (λ c. omega arith) (λ c. omega arith) (λ c. omega arith) (λ c. omega arith) (λ c. omega arith)
     (λ c. omega arith)
-    (λ c. let at_test = c.before in let at-loop = at_test.before in two-more at-loop.loop.invariant at_test.loop-test.true)
+    (λ c. two-more c.loop-k.invariant c.loop-k-test.true)
     (λ c. omega arith) returns)
