@@ -5,7 +5,6 @@ use mathlib.Core.Bool.{Bool, true, false, not}
 use mathlib.Core.List.{List}
 use lib.ListN.{length}
 use lib.Ieee.{Float}
-use borrow.Author.Tests.{not-true, not-false}
 use Rattle.arith.specs.FlowLaws.{cond_yes, cond_no}
 use Rattle.rows.specs.declared.geometry.Joint.{Joint}
 use Rattle.step.specs.declared.Outcome.{Outcome}
@@ -17,27 +16,27 @@ use Rattle.step.specs.Answered.{Answered}
 use Rattle.step.specs.MeetLaws.{answered}
 
 pub run-unrefused : {bodies : List Float} {joints : List Joint} {count room : ℕ} {dt : Float} {o : Outcome} {b : Bool}
-    → o ≡ refusal_of bodies joints count dt room → b ≡ is_accepted o → not b ≡ false → Unrefused bodies joints count dt room
-run-unrefused e f h = accepted _ _ _ _ _ (sym e ∙ is-accepted f h)
+    → o ≡ refusal_of bodies joints count dt room → b ≡ is_accepted o → b ≡ true → Unrefused bodies joints count dt room
+run-unrefused e f h = accepted _ _ _ _ _ (sym e ∙ is-accepted f (ap not h))
 
 module _ (bodies : List Float) (joints : List Joint) (count : ℕ) (dt : Float) (scratch : List Float) {o : Outcome} {b : Bool}
     (e : o ≡ refusal_of bodies joints count dt (length scratch)) (f : b ≡ is_accepted o) where
   abbrev left_alone : Outcome → Stepped
   left_alone o = stepped o 0 0 bodies scratch
 
-  solve-refused : not b ≡ true → left_alone o ≡ solve_of bodies joints count dt scratch
+  solve-refused : b ≡ false → left_alone o ≡ solve_of bodies joints count dt scratch
   unfolding solve_of
-  solve-refused h = ap left_alone e ∙ cond_no _ _ (sym (ap is_accepted e) ∙ sym f ∙ not-true b h)
+  solve-refused h = ap left_alone e ∙ cond_no _ _ (sym (ap is_accepted e) ∙ sym f ∙ h)
 
-  solve-run : {s : Stepped} → not b ≡ false → s ≡ concluded bodies (cleared scratch) (run_for bodies joints count dt)
+  solve-run : {s : Stepped} → b ≡ true → s ≡ concluded bodies (cleared scratch) (run_for bodies joints count dt)
       → s ≡ solve_of bodies joints count dt scratch
   unfolding solve_of
-  solve-run h q = q ∙ cond_yes _ _ (sym (ap is_accepted e) ∙ sym f ∙ not-false b h)
+  solve-run h q = q ∙ cond_yes _ _ (sym (ap is_accepted e) ∙ sym f ∙ h)
 
-  pub answered-refused : not b ≡ true → Answered bodies bodies joints count dt scratch scratch (record { outcome = o; nonlinear = 0; linear = 0 })
+  pub answered-refused : b ≡ false → Answered bodies bodies joints count dt scratch scratch (record { outcome = o; nonlinear = 0; linear = 0 })
   answered-refused h = answered bodies bodies joints count dt scratch scratch (record { outcome = o; nonlinear = 0; linear = 0 }) (solve-refused h)
 
-  pub answered-run : {after left : List Float} {r : Report} → not b ≡ false
+  pub answered-run : {after left : List Float} {r : Report} → b ≡ true
       → stepped r.outcome r.nonlinear r.linear after left ≡ concluded bodies (cleared scratch) (run_for bodies joints count dt)
       → Answered bodies after joints count dt scratch left r
   answered-run {after} {left} {r} h q = answered bodies after joints count dt scratch left r (solve-run h q)

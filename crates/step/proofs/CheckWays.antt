@@ -54,22 +54,22 @@ pub other : {p a r b : Bool} → p ≡ a → p ≡ false → r ≡ b → r ≡ (
 other {p} {a} {r} {b} e h q = q ∙ ap (λ (x : Bool). x || b) (sym h ∙ e)
 
 -- a refusal, or the next test
-pub refuses : {A : Type 0} {p a : Bool} {x : A} (y : A) → p ≡ a → not p ≡ true → x ≡ cond (not a) x y
-refuses {x} y e h = ap (λ (b : Bool). cond b x y) (sym h ∙ ap not e)
+pub refuses : {A : Type 0} {p a : Bool} {x : A} (y : A) → p ≡ a → p ≡ false → x ≡ cond (not a) x y
+refuses {x} y e h = ap (λ (b : Bool). cond b x y) (ap not (sym h ∙ e))
 
-pub passes : {A : Type 0} {p a : Bool} (x : A) {r y : A} → p ≡ a → not p ≡ false → r ≡ y → r ≡ cond (not a) x y
-passes x {r} {y} e h q = q ∙ ap (λ (b : Bool). cond b x y) (sym h ∙ ap not e)
+pub passes : {A : Type 0} {p a : Bool} (x : A) {r y : A} → p ≡ a → p ≡ true → r ≡ y → r ≡ cond (not a) x y
+passes x {r} {y} e h q = q ∙ ap (λ (b : Bool). cond b x y) (ap not (sym h ∙ e))
 
 pub beyond : {A : Type 0} {p : Bool} (x : A) {r y : A} → p ≡ false → r ≡ y → r ≡ cond p x y
 beyond x {r} {y} h q = q ∙ ap (λ (b : Bool). cond b x y) (sym h)
 
 -- a callee's test of what another callee gave
 module _ {A : Type 0} (f : A → Bool) {x y : A} {t : Bool} (e : t ≡ f x) (g : x ≡ y) where
-  pub test-yes : not t ≡ false → f y ≡ true
-  test-yes h = sym (ap f g) ∙ sym e ∙ not-no t h
+  pub test-yes : t ≡ true → f y ≡ true
+  test-yes h = sym (ap f g) ∙ sym e ∙ h
 
-  pub test-no : not t ≡ true → f y ≡ false
-  test-no h = sym (ap f g) ∙ sym e ∙ not_yes t h
+  pub test-no : t ≡ false → f y ≡ false
+  test-no h = sym (ap f g) ∙ sym e ∙ h
 
 pub under : {x y : Float} (limit : Float) → x ≡ y → Ieee.le x limit ≡ Ieee.le y limit
 under limit e = ap (λ (z : Float). Ieee.le z limit) e

@@ -53,19 +53,19 @@ module _ (job : Job) (bodies : List RigidBody) {S : List Float} {IA IB : List �
   abbrev Finishes : List Float → Counting (List BodyState) → Type 0
   Finishes u x = Does (Out MASSES (USED - MASSES)) s u x (finish_of job bodies (found_at IA IB s t))
 
-  pub not-weighed : not b ≡ true → Finishes s₁ (ran (ran_as r₁ (states_at s₁ t.bodies)) 0 0)
+  pub not-weighed : b ≡ false → Finishes s₁ (ran (ran_as r₁ (states_at s₁ t.bodies)) 0 0)
   unfolding finish_of
   not-weighed h = record {
     kept = kept_more d₁.kept (λ i x. omega arith);
     is = failed-as (masses_at s₁ MASSES t.bodies) (states_at s₁ t.bodies) r₁ eb h d₁.is _;
   }
 
-  module _ (h : not b ≡ false) {s₂ : List Float} (r₂ : Looped)
+  module _ (h : b ≡ true) {s₂ : List Float} (r₂ : Looped)
       (d₂ : Does Correcting s₁ s₂ (ran (ran_as r₂.end (candidates_at s₂ t.bodies)) 0 r₂.linear)
       (up_to 3 non_convergent (velocity_pass job (system_on IA IB s₁ (candidate_table t))) (candidates_at s₁ t.bodies)))
       {c : Bool} (ec : c ≡ is_done r₂.end) where
     weighed : go (masses_at s₁ MASSES t.bodies) ≡ prepare_masses (candidates_at s t.bodies)
-    weighed = sym (ran-done (masses_at s₁ MASSES t.bodies) r₁ (sym eb ∙ not-no b h)) ∙ d₁.is
+    weighed = sym (ran-done (masses_at s₁ MASSES t.bodies) r₁ (sym eb ∙ h)) ∙ d₁.is
 
     abbrev loop : Counting (List MomentumBody)
     loop = velocity_loop job (record { rows = rows_on IA IB s ROWS t.rows; masses = masses_at s₁ MASSES t.bodies })
@@ -80,7 +80,7 @@ module _ (job : Job) (bodies : List RigidBody) {S : List Float} {IA IB : List �
     kept₂ : Kept (Out MASSES (USED - MASSES)) s s₂
     kept₂ = kept_then (kept_more d₁.kept (λ i x. omega arith)) d₂.kept (λ i x. (omega arith, omega arith))
 
-    pub not-rested : not c ≡ true → Finishes s₂ (ran (ran_as r₂.end (states_at s₂ t.bodies)) 0 r₂.linear)
+    pub not-rested : c ≡ false → Finishes s₂ (ran (ran_as r₂.end (states_at s₂ t.bodies)) 0 r₂.linear)
     unfolding finish_of
     not-rested k = record {
       kept = kept₂;
@@ -90,7 +90,7 @@ module _ (job : Job) (bodies : List RigidBody) {S : List Float} {IA IB : List �
           ∙ try-go _ weighed;
     }
 
-    pub all_finished : not c ≡ false → {s₃ : List Float} (r₃ : End)
+    pub all_finished : c ≡ true → {s₃ : List Float} (r₃ : End)
         → Does (Out CANDIDATE STATES) s₂ s₃ (ran_as r₃ (states_at s₃ t.bodies)) (states_of bodies (candidates_at s₂ t.bodies))
         → Finishes s₃ (ran (ran_as r₃ (states_at s₃ t.bodies)) 0 r₂.linear)
     unfolding finish_of
@@ -106,7 +106,7 @@ module _ (job : Job) (bodies : List RigidBody) {S : List Float} {IA IB : List �
         rested : ran (go (candidates_at s₂ t.bodies)) 0 r₂.linear ≡ loop
         rested =
             ap (λ (t : Result (List MomentumBody)). ran t 0 r₂.linear)
-            (sym (ran-done (candidates_at s₂ t.bodies) r₂.end (sym ec ∙ not-no c k))) ∙ loop-is
+            (sym (ran-done (candidates_at s₂ t.bodies) r₂.end (sym ec ∙ k))) ∙ loop-is
 
 -- ---- run
 -- the rows of the joints, as they were counted
@@ -125,18 +125,18 @@ module _ (job : Job) (bodies : List RigidBody) {joints : List Joint} {count : �
   abbrev Runs : List Float → Counting (List BodyState) → Type 0
   Runs u x = Does (Out 0 USED) s u x (run_of job bodies)
 
-  pub not-started : not b ≡ true → Runs s₁ (ran (ran_as r₁ (states_at s₁ t.bodies)) 0 0)
+  pub not-started : b ≡ false → Runs s₁ (ran (ran_as r₁ (states_at s₁ t.bodies)) 0 0)
   unfolding run_of
   not-started h = record { kept = d₁.kept; is = failed-as (started_at ia ib s₁ t) (states_at s₁ t.bodies) r₁ eb h d₁.is _ }
 
-  module _ (h : not b ≡ false) (apart : t.place + ROW_TABLE ≤ ROWS) (l : t.rows ≤ 96) (g : t.bodies ≤ 16) {s₂' s₂ : List Float}
+  module _ (h : b ≡ true) (apart : t.place + ROW_TABLE ≤ ROWS) (l : t.rows ≤ 96) (g : t.bodies ≤ 16) {s₂' s₂ : List Float}
       (f : Filled IMPULSES t.rows (λ _. ratio 0 1) s₁ s₂') (r₂ : Looped) (d₂' : Does Trying s₂' s₂ (looped_as r₂ (found_at ia ib s₂ t))
       (up_to 32 non_convergent (nonlinear_pass job (started_at ia ib s₂' t)) (impulses_at s₂' t))) {c : Bool} (ec : c ≡ is_done r₂.end) where
     d₂ : Does Trying s₁ s₂ (looped_as r₂ (found_at ia ib s₂ t)) (nonlinear_loop job (started_at ia ib s₁ t))
     d₂ = from-none job ia ib t apart l g f d₂'
 
     started : go (started_at ia ib s₁ t) ≡ start_of job bodies
-    started = sym (ran-done (started_at ia ib s₁ t) r₁ (sym eb ∙ not-no b h)) ∙ d₁.is
+    started = sym (ran-done (started_at ia ib s₁ t) r₁ (sym eb ∙ h)) ∙ d₁.is
 
     kept_run : Kept (Out 0 USED) s s₂
     kept_run = kept_then d₁.kept d₂.kept (λ i x. (omega arith, omega arith, omega arith))
@@ -144,7 +144,7 @@ module _ (job : Job) (bodies : List RigidBody) {joints : List Joint} {count : �
     abbrev counts : {A : Type 0} → Result A → Counting A
     counts x = ran x r₂.passes r₂.linear
 
-    pub not-met : not c ≡ true → Runs s₂ (looped_as r₂ (states_at s₂ t.bodies))
+    pub not-met : c ≡ false → Runs s₂ (looped_as r₂ (states_at s₂ t.bodies))
     unfolding run_of
     not-met k = record {
       kept = kept_run;
@@ -153,7 +153,7 @@ module _ (job : Job) (bodies : List RigidBody) {joints : List Joint} {count : �
           (ap counts (sym (fails (found_at ia ib s₂ t) r₂.end ec k)) ∙ d₂.is) ∙ try-go _ started;
     }
 
-    pub all-run : not c ≡ false → {s₃ : List Float} (r₃ : Ended)
+    pub all-run : c ≡ true → {s₃ : List Float} (r₃ : Ended)
         → Does (Out MASSES (USED - MASSES)) s₂ s₃ (ended_as r₃ (states_at s₃ t.bodies)) (finish_of job bodies (found_at ia ib s₂ t))
         → Runs s₃ (ran (ran_as r₃.end (states_at s₃ t.bodies)) r₂.passes (r₂.linear + r₃.linear))
     unfolding run_of
@@ -161,7 +161,7 @@ module _ (job : Job) (bodies : List RigidBody) {joints : List Joint} {count : �
       kept = kept_then kept_run d₃.kept (λ i x. omega arith);
       is = run_is (let z : r₂.passes ≡ r₂.passes + 0 = omega arith in z) refl
           ∙ ap (after r₂.passes r₂.linear) d₃.is
-          ∙ then-go (finish_of job bodies) (ap counts (sym (ran-done (found_at ia ib s₂ t) r₂.end (sym ec ∙ not-no c k))) ∙ d₂.is)
+          ∙ then-go (finish_of job bodies) (ap counts (sym (ran-done (found_at ia ib s₂ t) r₂.end (sym ec ∙ k))) ∙ d₂.is)
           ∙ try-go (λ start. nonlinear_loop job start >>= finish_of job bodies) started;
     }
 

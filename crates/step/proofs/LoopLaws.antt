@@ -1,7 +1,7 @@
 -- The calls of `start` and of `candidate` one after the other, each under its frame: by the contracts, what stays between them, and `?`.
 use Prim.Native.Nat.{ℕ, ◌+◌, ◌≤◌}
 use mathlib.Core.Path.{◌≡◌, refl, sym, ◌∙◌, ap}
-use mathlib.Core.Bool.{Bool, true, not}
+use mathlib.Core.Bool.{Bool, true, false, not}
 use mathlib.Core.List.{List}
 use native.Mathlib.Omega.{arith}
 use lib.ListN.{length}
@@ -64,7 +64,7 @@ module _ (job : Job) (bodies : List Float) (g : count_of_bodies bodies ≤ 16) (
   abbrev Makes : Result (List MomentumBody) → Type 0
   Makes x = Does (Out START BODIES) s s₁ x (start_bodies (tab (count_of_bodies bodies) (record_at bodies)))
 
-  pub no_body : (r : End) {b : Bool} → b ≡ is_done r → not b ≡ true → Makes (ran_as r (start_bodies_at s₁ (count_of_bodies bodies))) → (y : Started)
+  pub no_body : (r : End) {b : Bool} → b ≡ is_done r → b ≡ false → Makes (ran_as r (start_bodies_at s₁ (count_of_bodies bodies))) → (y : Started)
       → Begins s₁ (ran_as r y)
   unfolding start_of
   no_body r eb h d y = does-eq (fails y r eb h) (does-stop on_start (λ i x. omega arith) (failed _ r eb d h))
@@ -73,7 +73,7 @@ module _ (job : Job) (bodies : List Float) (g : count_of_bodies bodies ≤ 16) (
     abbrev Writes : Result (List EqualityRow) → Type 0
     Writes x = Does (Out START_ROWS ROW_TABLE) s₁ s₂ x (write_rows job.joints job.count (start_bodies_at s₁ (count_of_bodies bodies)))
 
-    pub no_rows : (r : End) {b : Bool} → b ≡ is_done r → not b ≡ true → (x : List EqualityRow) → Writes (ran_as r x) → (y : Started)
+    pub no_rows : (r : End) {b : Bool} → b ≡ is_done r → b ≡ false → (x : List EqualityRow) → Writes (ran_as r x) → (y : Started)
         → Begins s₂ (ran_as r y)
     unfolding start_of
     no_rows r eb h x d y =
@@ -131,7 +131,7 @@ module _ (job : Job) {S : List Float} {IA IB : List ℕ} {table : Table} (pre : 
       does-is d (ap (transpose (rows_on IA IB s table.place table.rows) (impulses_at s table))
       (sym (tab-length table.bodies (start_body_at s))))
 
-  pub not-pushed : (r : End) {b : Bool} → b ≡ is_done r → not b ≡ true → Pushed (ran_as r (shares_in s₁ table.bodies)) → (y : Found)
+  pub not-pushed : (r : End) {b : Bool} → b ≡ is_done r → b ≡ false → Pushed (ran_as r (shares_in s₁ table.bodies)) → (y : Found)
       → Tried s₁ (ran_as r y)
   unfolding candidate_of
   not-pushed r eb h d y = (
@@ -153,7 +153,7 @@ module _ (job : Job) {S : List Float} {IA IB : List ℕ} {table : Table} (pre : 
     keeps : {x : Result (List MomentumBody)} → Moved x → Kept (λ i. (Shares i) × (Out CANDIDATE STATES i)) s s₂
     keeps d = kept_then (kept_more d₁.kept (λ i x. x.0)) d.kept (λ i x. x.1)
 
-    pub not-moved : (r : End) {b : Bool} → b ≡ is_done r → not b ≡ true → Moved (ran_as r (candidates_at s₂ table.bodies)) → (y : Found)
+    pub not-moved : (r : End) {b : Bool} → b ≡ is_done r → b ≡ false → Moved (ran_as r (candidates_at s₂ table.bodies)) → (y : Found)
         → Tried s₂ (ran_as r y)
     unfolding candidate_of
     not-moved r eb h d y = (

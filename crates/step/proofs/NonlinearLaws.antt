@@ -38,11 +38,11 @@ module _ (job : Job) {S : List Float} {IA IB : List ℕ} {table : Table} (pre : 
   abbrev Turns : List Float → Counting (Turn (List Float) Found) → Type 0
   Turns t x = Does Trying s t x (nonlinear_pass job (started_at IA IB s table) (impulses_at s table))
 
-  pub not_found : not b ≡ true → Turns s₁ (ran (over (ran_as r (found_at IA IB s₁ table))) 1 0)
+  pub not_found : b ≡ false → Turns s₁ (ran (over (ran_as r (found_at IA IB s₁ table))) 1 0)
   unfolding nonlinear_pass
   not_found h = begun (pass-fails (λ (f : Found). rows_met f.rows) (λ f. f) _ _ r d.0 eb _ h)
 
-  module _ (h : not b ≡ false) {c : Bool} (ec : (ia ib : List ℕ) → c ≡ rows_met (rows_on ia ib s₁ ROWS table.rows)) where
+  module _ (h : b ≡ true) {c : Bool} (ec : (ia ib : List ℕ) → c ≡ rows_met (rows_on ia ib s₁ ROWS table.rows)) where
     pub found-met : c ≡ true → Turns s₁ (ran (go (stop (found_at IA IB s₁ table))) 1 0)
     unfolding nonlinear_pass
     found-met k = begun (pass-met (λ (f : Found). rows_met f.rows) (λ f. f) _ _ r d.0 eb h (ec IA IB) k)

@@ -50,7 +50,7 @@ unfolding ◌>>=◌
 begun {A} {t = t} {l} d = record { kept = d.kept; is = run_is refl (sym (zero-add l)) ∙ ap (λ (r : Counting A). begin >>= λ _. r) d.is }
 
 -- what was not done fails alike, whatever it was to leave
-pub failed-as : {A B : Type 0} (x : A) (y : B) (end : End) {b : Bool} → b ≡ is_done end → not b ≡ true → {R : Result A} → ran_as end x ≡ R
+pub failed-as : {A B : Type 0} (x : A) (y : B) (end : End) {b : Bool} → b ≡ is_done end → b ≡ false → {R : Result A} → ran_as end x ≡ R
     → (f : A → Counting B)
     → ran (ran_as end y) 0 0 ≡ (try R >>= f)
 failed-as x y end eb h e f = ap (λ (t : Result _). ran t 0 0) (fails y end eb h) ∙ try-stop f (sym (fails x end eb h) ∙ e)
@@ -58,16 +58,16 @@ failed-as x y end eb h e f = ap (λ (t : Result _). ran t 0 0) (fails y end eb h
 -- ---- a correction: `solve` answered r and left x, and `make` made something of it
 module _ {A B : Type 0} {P : ℕ → Type 0} {s s₁ : List Float} {solve : Counting (List Float)} (make : List Float → Result A) (r : Ended) (x : List Float)
     (d : Does P s s₁ (ended_as r x) solve) {b : Bool} (eb : b ≡ is_done r.end) {p : Passed} (y : B) where
-  pub unsolved : (a : A) → not b ≡ true → p ≡ passed_after r.end r.linear → Does P s s₁ (passed_as 0 p a y) (correction solve make)
+  pub unsolved : (a : A) → b ≡ false → p ≡ passed_after r.end r.linear → Does P s s₁ (passed_as 0 p a y) (correction solve make)
   unsolved a h ep =
-      record { kept = d.kept; is = ap (λ (p : Passed). passed_as 0 p a y) ep ∙ here r.end (sym eb ∙ not_yes b h) r.linear d.is }
+      record { kept = d.kept; is = ap (λ (p : Passed). passed_as 0 p a y) ep ∙ here r.end (sym eb ∙ h) r.linear d.is }
     where
       here : (q : End) → is_done q ≡ false → (l : ℕ) → ran (ran_as q x) 0 l ≡ solve → passed_as 0 (passed_after q l) a y ≡ correction solve make
       here Ends.Done f l e = absurd (let z : ◌≡◌ {A = ℕ} 0 1 = cc in omega arith)
       here Ends.NonConvergent f l e = then-stop _ e
       here Ends.ArithmeticOverflow f l e = then-stop _ e
 
-  pub made : not b ≡ false → {s₂ : List Float} (a : A) (q : End) → Does P s₁ s₂ (ran_as q a) (make x) → p ≡ passed_after q r.linear
+  pub made : b ≡ true → {s₂ : List Float} (a : A) (q : End) → Does P s₁ s₂ (ran_as q a) (make x) → p ≡ passed_after q r.linear
       → Does P s s₂ (passed_as 0 p a y) (correction solve make)
   made h a q e ep = record {
     kept = kept_then d.kept e.kept (λ i x. x);
@@ -81,7 +81,7 @@ module _ {A B : Type 0} {P : ℕ → Type 0} {s s₁ : List Float} {solve : Coun
       here Ends.ArithmeticOverflow e = try-stop (λ next. again next) e
 
       solved : ran (go x) 0 r.linear ≡ solve
-      solved = sym (ap (λ (t : Result (List Float)). ran t 0 r.linear) (ran-done x r.end (sym eb ∙ not-no b h))) ∙ d.is
+      solved = sym (ap (λ (t : Result (List Float)). ran t 0 r.linear) (ran-done x r.end (sym eb ∙ h))) ∙ d.is
 
 -- ---- a pass: what it looks for is not found, or meets its test, or is corrected
 module _ {X A B : Type 0} {P : ℕ → Type 0} {s s₁ : List Float} {R : Result X} (test : X → Bool) (out : X → B) (rest : X → Counting (Turn A B))
@@ -89,13 +89,13 @@ module _ {X A B : Type 0} {P : ℕ → Type 0} {s s₁ : List Float} {R : Result
   abbrev pass : Counting (Turn A B)
   pass = try R >>= λ found. leave_if (test found) (out found) (rest found)
 
-  pub pass-fails : (y : B) → not b ≡ true → Does P s s₁ (ran (over (ran_as r y)) 0 0) pass
+  pub pass-fails : (y : B) → b ≡ false → Does P s s₁ (ran (over (ran_as r y)) 0 0) pass
   pass-fails y h = record {
     kept = d.kept;
     is = ap (λ (t : Result (Turn A B)). ran t 0 0) (fails-over y r eb h) ∙ try-stop _ (failed x r eb d h).is;
   }
 
-  module _ (h : not b ≡ false) {c : Bool} (ec : c ≡ test x) where
+  module _ (h : b ≡ true) {c : Bool} (ec : c ≡ test x) where
     pub pass-met : c ≡ true → Does P s s₁ (ran (go (stop (out x))) 0 0) pass
     pass-met k = record { kept = d.kept; is = leave-yes _ _ (sym ec ∙ k) ∙ try-go _ (went x r eb d h).is }
 

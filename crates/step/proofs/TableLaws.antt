@@ -190,11 +190,11 @@ module _ (dt : Float) (body : MomentumBody) (kick : Generalized) {kicked : BodyA
   abbrev drifting : MomentumBody → Result MomentumBody
   drifting b = drift_of b dt
 
-  pub kick-drifts : {r : BodyAnswer} → not b ≡ false → BodyAnswered kicked.body (drift_of kicked.body dt) r
+  pub kick-drifts : {r : BodyAnswer} → b ≡ true → BodyAnswered kicked.body (drift_of kicked.body dt) r
       → body_as r ≡ kick_and_drift dt body kick
   kick-drifts h q = answered q ∙ then-go drifting (end_goes kicked.body kicked.outcome eb (answered e) h)
 
-  pub kick-fails : not b ≡ true → body_as kicked ≡ kick_and_drift dt body kick
+  pub kick-fails : b ≡ false → body_as kicked ≡ kick_and_drift dt body kick
   kick-fails h = fails kicked.body kicked.outcome eb h ∙ then-stop drifting (end-stops kicked.body kicked.outcome eb (answered e) h)
 
 -- ---- move_bodies

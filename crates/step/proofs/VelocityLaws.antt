@@ -285,11 +285,11 @@ module _ (job : Job) {s : List Float} {ia ib : List ℕ} (table : Table) (pre : 
   within = does-more (λ i x. omega (arith, x.0)) d
 
   -- the rates fail
-  pub rates-fail : not b ≡ true → Does Correcting s t (ran (over (ran_as r (candidates_at t table.bodies))) 0 0) turn
+  pub rates-fail : b ≡ false → Does Correcting s t (ran (over (ran_as r (candidates_at t table.bodies))) 0 0) turn
   unfolding velocity_pass
   rates-fail h = pass-fails compatible_of (λ _. candidates_at s table.bodies) _ _ r within eb _ h
 
-  module _ (h : not b ≡ false) {c : Bool} (ec : c ≡ compatible_of (vec_at t RHS table.rows)) where
+  module _ (h : b ≡ true) {c : Bool} (ec : c ≡ compatible_of (vec_at t RHS table.rows)) where
     pub at_rest : c ≡ true → Does Correcting s t (ran (go (stop (candidates_at t table.bodies))) 0 0) turn
     unfolding velocity_pass
     at_rest g = does-eq (ap (λ (l : List MomentumBody). leave l) (same-candidates d.kept table pre (λ i x. omega (arith, x))))

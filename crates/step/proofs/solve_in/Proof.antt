@@ -8,16 +8,13 @@ use Rattle.step.proofs.solve_in.Tie as tie
 
 returns : tie.Need-returns
 returns c =
-    let at_clear = c.before.before in let at-conclude = at_clear.before.before.before.before in
-    let at-run = at-conclude.before.before.before.before.before in
-    let at_entry = at-run.before.before.before.before.before in
     solved-in _
-    at-run.run.result _
-    at-run.run.ensures at-conclude.conclude.ensures
-    (all-zero (at-run.run.ensures.kept.size ∙ at_entry.requires.0) at_clear.clear.ensures)
+    c.run-ran.result _
+    c.run-ran.ensures c.conclude-outcome.ensures
+    (all-zero (c.run-ran.ensures.kept.size ∙ c.requires.0) c.clear.ensures)
 
-pub solve-in-spec : {M : Type 1} → statement M
-solve-in-spec =
+pub solve_in_spec : {M : Type 1} → statement M
+solve_in_spec =
     tie.close (tie.spec
     (λ c κs. search rules) (λ c κs. search rules) (λ c κs. omega arith) (λ c. search rules)
     (λ c. search rules) returns)

@@ -13,29 +13,28 @@ use Rattle.step.specs.Checks.{within_of}
 use Rattle.step.proofs.bodies.in_ground.Statement.{statement}
 use Rattle.step.proofs.bodies.in_ground.Tie as tie
 
-abbrev invariant-loop : tie.invariant-loop
+abbrev invariant-loop : tie.invariant-loop-k
 invariant-loop s body-count k₀ k = (k ≤ body-count) × (true ≡ every k (λ j. within_of (vec3_at s (CANDIDATE + 13 * j)) (ratio 8192 1)))
 
-abbrev decreases-loop : tie.decreases-loop
+abbrev decreases-loop : tie.decreases-loop-k
 decreases-loop s body-count k₀ k = body-count - k
 
-returns : tie.Need-returns invariant-loop decreases-loop
+returns : tie.Need-returns-then-not-within invariant-loop decreases-loop
 returns c =
-    let at-within = c.before in let at-load3 = at-within.before in let at_test = at-load3.before in
-    every-fail _ _ at_test.loop-test.true
-    (sym (within-at at-within.within.ensures at-load3.load3.ensures ground-is) ∙ not_yes _ c.if1.true)
+    every-fail _ _ c.loop-k-test.true
+    (sym (within-at c.within.ensures c.load3.ensures ground-is) ∙ c.if-not-within.true)
 
-loop-again : tie.Need-loop-preserved invariant-loop decreases-loop
+loop-again : tie.Need-loop-k-preserved invariant-loop decreases-loop
 loop-again c =
-    let at-within = c.before in let at-load3 = at-within.before in let at-loop = at-load3.before.before in (
+    (
       omega arith,
-      every_more _ at-loop.loop.invariant.1
-          (sym (within-at at-within.within.ensures at-load3.load3.ensures ground-is) ∙ not-no _ c.if1.false),
+      every_more _ c.loop-k.invariant.1
+          (sym (within-at c.within.ensures c.load3.ensures ground-is) ∙ c.if-not-within.false),
     )
 
-pub in-ground-spec : {M : Type 1} → statement M
-in-ground-spec =
+pub in_ground_spec : {M : Type 1} → statement M
+in_ground_spec =
     tie.close (tie.spec
     invariant-loop decreases-loop (λ c. (omega arith, every-none _)) (λ c. omega arith) (λ c. omega arith)
     (λ c κs. omega arith) (λ c κs. omega arith) returns (λ c. omega arith) (λ c. omega arith) loop-again
-    (λ c. let at-loop = c.before in every-end _ (omega arith) (omega arith) at-loop.loop.invariant.1))
+    (λ c. every-end _ (omega arith) (omega arith) c.loop-k.invariant.1))

@@ -4,8 +4,8 @@ use borrow.Author.Rules.{rules}
 use Rattle.step.proofs.bodies.load_body.Statement.{statement}
 use Rattle.step.proofs.bodies.load_body.Tie as tie
 
-pub load-body-spec : {M : Type 1} → statement M
-load-body-spec =
+pub load_body_spec : {M : Type 1} → statement M
+load_body_spec =
     tie.close (tie.spec
     (λ c. search rules) (λ c. search rules) (λ c κs. search rules) (λ c. search rules) (λ c κs. search rules)
     (λ c. search rules) (λ c κs. search rules) (λ c. search rules) (λ c κs. search rules) (λ c. search rules)

@@ -4,8 +4,8 @@ use borrow.Author.Rules.{rules}
 use Rattle.step.proofs.bodies.load_record.Statement.{statement}
 use Rattle.step.proofs.bodies.load_record.Tie as tie
 
-pub load-record-spec : {M : Type 1} → statement M
-load-record-spec =
+pub load_record_spec : {M : Type 1} → statement M
+load_record_spec =
     tie.close (tie.spec
     (λ c. search rules) (λ c κs. search rules) (λ c. search rules) (λ c κs. search rules) (λ c. search rules)
     (λ c κs. search rules) (λ c. search rules) (λ c κs. search rules) (λ c. search rules) (λ c. search rules)

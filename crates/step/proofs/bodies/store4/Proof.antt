@@ -6,8 +6,8 @@ use borrow.Author.Rules.{rules}
 use Rattle.step.proofs.bodies.store4.Statement.{statement}
 use Rattle.step.proofs.bodies.store4.Tie as tie
 
-pub store4-spec : {M : Type 1} → statement M
-store4-spec =
+pub store4_spec : {M : Type 1} → statement M
+store4_spec =
     tie.close (tie.spec
     (λ c. search rules) (λ c. search rules) (λ c. search rules) (λ c. search rules)
     (λ c. simp length-set (omega arith)) (λ c. search rules) (λ c. search rules)

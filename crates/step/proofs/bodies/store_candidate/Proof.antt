@@ -7,10 +7,9 @@ use Rattle.step.proofs.bodies.store_candidate.Tie as tie
 
 returns : tie.Need-returns
 returns c =
-    let at-store-moving = c.before.before in let at_entry = at-store-moving.before.before.before in
-    stored-candidate at_entry.args.body (omega arith) at-store-moving.store-moving.ensures
+    stored-candidate c.args.body (omega arith) c.store_moving.ensures
 
-pub store-candidate-spec : {M : Type 1} → statement M
-store-candidate-spec =
+pub store_candidate_spec : {M : Type 1} → statement M
+store_candidate_spec =
     tie.close (tie.spec
     (λ c. search rules) (λ c. search rules) (λ c κs. search rules) (λ c. search rules) returns)

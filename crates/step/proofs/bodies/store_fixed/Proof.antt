@@ -8,12 +8,10 @@ use Rattle.step.proofs.bodies.store_fixed.Tie as tie
 
 returns : tie.Need-returns
 returns c =
-    let at-store-mat3 = c.before.before in let at-store3 = at-store-mat3.before.before.before.before in
-    let at_entry = at-store3.before.before.before in
-    stored-fixed _ at_entry.args.body (omega arith) at-store3.store3.ensures at-store-mat3.store-mat3.ensures
+    stored-fixed _ c.args.body (omega arith) c.store3.ensures c.store_mat3.ensures
 
-pub store-fixed-spec : {M : Type 1} → statement M
-store-fixed-spec =
+pub store_fixed_spec : {M : Type 1} → statement M
+store_fixed_spec =
     tie.close (tie.spec
     (λ c. search rules) (λ c κs. search rules) (λ c. search rules) (λ c κs. search rules) (λ c. search rules)
     (λ c. search rules) (λ c. simp length-set (omega arith)) returns)

@@ -8,25 +8,22 @@ use Rattle.step.specs.View.{Handed}
 use Rattle.step.proofs.bodies.write_states.Statement.{statement}
 use Rattle.step.proofs.bodies.write_states.Tie as tie
 
-abbrev invariant-loop : tie.invariant-loop
+abbrev invariant-loop : tie.invariant-loop-k
 invariant-loop bodies₀ s body-count k₀ bodies k = (k ≤ body-count) × (length bodies ≡ length bodies₀) × (Handed k s bodies₀ bodies)
 
-abbrev decreases-loop : tie.decreases-loop
+abbrev decreases-loop : tie.decreases-loop-k
 decreases-loop bodies₀ s body-count k₀ bodies k = body-count - k
 
-loop-again : tie.Need-loop-preserved invariant-loop decreases-loop
+loop-again : tie.Need-loop-k-preserved invariant-loop decreases-loop
 loop-again c =
-    let at-store-state = c.before.before in let at-load-state = at-store-state.before in
-    let at-loop = at-load-state.before.before.before in
-    (omega arith, omega arith, handed-more at-loop.loop.invariant.2 at-store-state.store-state.ensures at-load-state.load-state.ensures)
+    (omega arith, omega arith, handed-more c.loop-k.invariant.2 c.store_state.ensures c.load_state.ensures)
 
 returns : tie.Need-returns invariant-loop decreases-loop
 returns c =
-    let at-loop = c.before in
-    handed-end (omega arith) (omega arith) at-loop.loop.invariant.2
+    handed-end (omega arith) (omega arith) c.loop-k.invariant.2
 
-pub write-states-spec : {M : Type 1} → statement M
-write-states-spec =
+pub write_states_spec : {M : Type 1} → statement M
+write_states_spec =
     tie.close (tie.spec
     invariant-loop decreases-loop (λ c. (omega arith, refl, handed-none)) (λ c. omega arith) (λ c. omega arith)
     (λ c. omega arith) (λ c κs. omega arith) (λ c κs. omega arith) (λ c. omega arith) (λ c. omega arith)

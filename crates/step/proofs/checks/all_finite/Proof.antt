@@ -11,28 +11,27 @@ use Rattle.rows.specs.View.{at}
 use Rattle.step.proofs.checks.all_finite.Statement.{statement}
 use Rattle.step.proofs.checks.all_finite.Tie as tie
 
-abbrev invariant-loop : tie.invariant-loop
+abbrev invariant-loop : tie.invariant-loop-k
 invariant-loop bodies k₀ k-end k = (k ≤ k-end) × (k-end ≡ length bodies) × (true ≡ every k (λ j. is_finite (at bodies j)))
 
-abbrev decreases-loop : tie.decreases-loop
+abbrev decreases-loop : tie.decreases-loop-k
 decreases-loop bodies k₀ k-end k = k-end - k
 
-returns : tie.Need-returns invariant-loop decreases-loop
+returns : tie.Need-returns-then-not-is_finite invariant-loop decreases-loop
 returns c =
-    let at-is-finite = c.before in
-    every-fail _ _ (omega arith) (sym at-is-finite.is-finite.ensures ∙ not_yes _ c.if1.true)
+    every-fail _ _ (omega arith) (sym c.is_finite.ensures ∙ c.if-not-is_finite.true)
 
-loop-again : tie.Need-loop-preserved invariant-loop decreases-loop
+loop-again : tie.Need-loop-k-preserved invariant-loop decreases-loop
 loop-again c =
-    let at-is-finite = c.before in let at-loop = at-is-finite.before.before.before in (
+    (
       omega arith,
       omega arith,
-      every_more _ at-loop.loop.invariant.2 (sym at-is-finite.is-finite.ensures ∙ not-no _ c.if1.false),
+      every_more _ c.loop-k.invariant.2 (sym c.is_finite.ensures ∙ c.if-not-is_finite.false),
     )
 
-pub all-finite-spec : {M : Type 1} → statement M
-all-finite-spec =
+pub all_finite_spec : {M : Type 1} → statement M
+all_finite_spec =
     tie.close (tie.spec
     invariant-loop decreases-loop (λ c. (omega arith, refl, every-none _)) (λ c. omega arith) (λ c. omega arith)
     (λ c κs. omega arith) returns (λ c. omega arith) (λ c. omega arith) loop-again
-    (λ c. let at-loop = c.before in every-end _ (omega arith) (omega arith) at-loop.loop.invariant.2))
+    (λ c. every-end _ (omega arith) (omega arith) c.loop-k.invariant.2))

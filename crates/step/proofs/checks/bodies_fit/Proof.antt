@@ -3,6 +3,6 @@ use Rattle.step.proofs.CheckWays.{fit-yes, fit-no}
 use Rattle.step.proofs.checks.bodies_fit.Statement.{statement}
 use Rattle.step.proofs.checks.bodies_fit.Tie as tie
 
-pub bodies-fit-spec : {M : Type 1} → statement M
-bodies-fit-spec =
-    tie.close (tie.spec (λ c. fit-yes _ c.if1.true) (λ c. fit-no _ c.if1.false))
+pub bodies_fit_spec : {M : Type 1} → statement M
+bodies_fit_spec =
+    tie.close (tie.spec (λ c. fit-yes _ c.if-doubles-eq0.true) (λ c. fit-no _ c.if-doubles-eq0.false))

@@ -11,30 +11,28 @@ use Rattle.step.specs.Checks.{body_in_range}
 use Rattle.step.proofs.checks.bodies_in_range.Statement.{statement}
 use Rattle.step.proofs.checks.bodies_in_range.Tie as tie
 
-abbrev invariant-loop : tie.invariant-loop
+abbrev invariant-loop : tie.invariant-loop-k
 invariant-loop bodies body-count k₀ k = (k ≤ body-count) × (true ≡ every k (λ j. body_in_range (record_at bodies j)))
 
-abbrev decreases-loop : tie.decreases-loop
+abbrev decreases-loop : tie.decreases-loop-k
 decreases-loop bodies body-count k₀ k = body-count - k
 
-returns : tie.Need-returns invariant-loop decreases-loop
+returns : tie.Need-returns-then-not-body_in_range invariant-loop decreases-loop
 returns c =
-    let at-body-in-range = c.before in let at-load-record = at-body-in-range.before in let at_test = at-load-record.before in
-    every-fail _ _ at_test.loop-test.true
-    (test-no body_in_range at-body-in-range.body-in-range.ensures at-load-record.load-record.ensures c.if1.true)
+    every-fail _ _ c.loop-k-test.true
+    (test-no body_in_range c.body_in_range.ensures c.load_record.ensures c.if-not-body_in_range.true)
 
-loop-again : tie.Need-loop-preserved invariant-loop decreases-loop
+loop-again : tie.Need-loop-k-preserved invariant-loop decreases-loop
 loop-again c =
-    let at-body-in-range = c.before in let at-load-record = at-body-in-range.before in
-    let at-loop = at-load-record.before.before in (
+    (
       omega arith,
-      every_more _ at-loop.loop.invariant.1
-          (test-yes body_in_range at-body-in-range.body-in-range.ensures at-load-record.load-record.ensures c.if1.false),
+      every_more _ c.loop-k.invariant.1
+          (test-yes body_in_range c.body_in_range.ensures c.load_record.ensures c.if-not-body_in_range.false),
     )
 
-pub bodies-in-range-spec : {M : Type 1} → statement M
-bodies-in-range-spec =
+pub bodies_in_range_spec : {M : Type 1} → statement M
+bodies_in_range_spec =
     tie.close (tie.spec
     invariant-loop decreases-loop (λ c. (omega arith, every-none _)) (λ c κs. omega arith) (λ c κs. omega arith) returns
     (λ c. omega arith) (λ c. omega arith) loop-again
-    (λ c. let at-loop = c.before in every-end _ (omega arith) (omega arith) at-loop.loop.invariant.1))
+    (λ c. every-end _ (omega arith) (omega arith) c.loop-k.invariant.1))

@@ -11,29 +11,28 @@ use Rattle.step.specs.Checks.{has_inverse}
 use Rattle.step.proofs.checks.inertias_invert.Statement.{statement}
 use Rattle.step.proofs.checks.inertias_invert.Tie as tie
 
-abbrev invariant-loop : tie.invariant-loop
+abbrev invariant-loop : tie.invariant-loop-k
 invariant-loop bodies body-count k₀ k = (k ≤ body-count) × (true ≡ every k (λ j. has_inverse (record_at bodies j)))
 
-abbrev decreases-loop : tie.decreases-loop
+abbrev decreases-loop : tie.decreases-loop-k
 decreases-loop bodies body-count k₀ k = body-count - k
 
-returns : tie.Need-returns invariant-loop decreases-loop
+returns : tie.Need-returns-then-not-has_inverse invariant-loop decreases-loop
 returns c =
-    let at-has-inverse = c.before in let at-load-record = at-has-inverse.before in let at_test = at-load-record.before in
-    every-fail _ _ at_test.loop-test.true
-    (test-no has_inverse at-has-inverse.has-inverse.ensures at-load-record.load-record.ensures c.if1.true)
+    every-fail _ _ c.loop-k-test.true
+    (test-no has_inverse c.has_inverse.ensures c.load_record.ensures c.if-not-has_inverse.true)
 
-loop-again : tie.Need-loop-preserved invariant-loop decreases-loop
+loop-again : tie.Need-loop-k-preserved invariant-loop decreases-loop
 loop-again c =
-    let at-has-inverse = c.before in let at-load-record = at-has-inverse.before in let at-loop = at-load-record.before.before in (
+    (
       omega arith,
-      every_more _ at-loop.loop.invariant.1
-          (test-yes has_inverse at-has-inverse.has-inverse.ensures at-load-record.load-record.ensures c.if1.false),
+      every_more _ c.loop-k.invariant.1
+          (test-yes has_inverse c.has_inverse.ensures c.load_record.ensures c.if-not-has_inverse.false),
     )
 
-pub inertias-invert-spec : {M : Type 1} → statement M
-inertias-invert-spec =
+pub inertias_invert_spec : {M : Type 1} → statement M
+inertias_invert_spec =
     tie.close (tie.spec
     invariant-loop decreases-loop (λ c. (omega arith, every-none _)) (λ c κs. omega arith) (λ c κs. omega arith) returns
     (λ c. omega arith) (λ c. omega arith) loop-again
-    (λ c. let at-loop = c.before in every-end _ (omega arith) (omega arith) at-loop.loop.invariant.1))
+    (λ c. every-end _ (omega arith) (omega arith) c.loop-k.invariant.1))

@@ -3,5 +3,5 @@ use Rattle.step.proofs.CheckWays.{joins-yes, joins-no-b, joins-no-a}
 use Rattle.step.proofs.checks.joins_two.Statement.{statement}
 use Rattle.step.proofs.checks.joins_two.Tie as tie
 
-pub joins-two-spec : {M : Type 1} → statement M
-joins-two-spec = tie.close (tie.spec (λ c. search joins-yes) (λ c. search joins-no-b) (λ c. search joins-no-a))
+pub joins_two_spec : {M : Type 1} → statement M
+joins_two_spec = tie.close (tie.spec (λ c. search joins-yes) (λ c. search joins-no-b) (λ c. search joins-no-a))

@@ -9,25 +9,23 @@ use Rattle.step.specs.Checks.{joint_ok, joint_in}
 use Rattle.step.proofs.checks.joints_ok.Statement.{statement}
 use Rattle.step.proofs.checks.joints_ok.Tie as tie
 
-abbrev invariant-loop : tie.invariant-loop
+abbrev invariant-loop : tie.invariant-loop-k
 invariant-loop count joints k₀ k = (k ≤ count) × (true ≡ every k (λ j. joint_ok (joint_in joints j)))
 
-abbrev decreases-loop : tie.decreases-loop
+abbrev decreases-loop : tie.decreases-loop-k
 decreases-loop count joints k₀ k = count - k
 
-returns : tie.Need-returns invariant-loop decreases-loop
+returns : tie.Need-returns-then-not-joint_ok invariant-loop decreases-loop
 returns c =
-    let at-joint-ok = c.before in let at_test = at-joint-ok.before.before in
-    every-fail _ _ at_test.loop-test.true (sym at-joint-ok.joint-ok.ensures ∙ not_yes _ c.if1.true)
+    every-fail _ _ c.loop-k-test.true (sym c.joint_ok.ensures ∙ c.if-not-joint_ok.true)
 
-loop-again : tie.Need-loop-preserved invariant-loop decreases-loop
+loop-again : tie.Need-loop-k-preserved invariant-loop decreases-loop
 loop-again c =
-    let at-joint-ok = c.before in let at-loop = at-joint-ok.before.before.before in
-    (omega arith, every_more _ at-loop.loop.invariant.1 (sym at-joint-ok.joint-ok.ensures ∙ not-no _ c.if1.false))
+    (omega arith, every_more _ c.loop-k.invariant.1 (sym c.joint_ok.ensures ∙ c.if-not-joint_ok.false))
 
-pub joints-ok-spec : {M : Type 1} → statement M
-joints-ok-spec =
+pub joints_ok_spec : {M : Type 1} → statement M
+joints_ok_spec =
     tie.close (tie.spec
     invariant-loop decreases-loop (λ c. (omega arith, every-none _)) (λ c. omega arith) (λ c. omega arith)
     (λ c κs. omega arith) returns (λ c. omega arith) (λ c. omega arith) loop-again
-    (λ c. let at-loop = c.before in every-end _ (omega arith) (omega arith) at-loop.loop.invariant.1))
+    (λ c. every-end _ (omega arith) (omega arith) c.loop-k.invariant.1))

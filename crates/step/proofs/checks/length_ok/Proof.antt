@@ -3,5 +3,5 @@ use Rattle.step.proofs.CheckWays.{ground-is, shortest-is, also, fails}
 use Rattle.step.proofs.checks.length_ok.Statement.{statement}
 use Rattle.step.proofs.checks.length_ok.Tie as tie
 
-pub length-ok-spec : {M : Type 1} → statement M
-length-ok-spec = tie.close (tie.spec (λ c. search (also, shortest-is, ground-is)) (λ c. search (fails, shortest-is)))
+pub length_ok_spec : {M : Type 1} → statement M
+length_ok_spec = tie.close (tie.spec (λ c. search (also, shortest-is, ground-is)) (λ c. search (fails, shortest-is)))

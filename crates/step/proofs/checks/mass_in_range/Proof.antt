@@ -3,5 +3,5 @@ use Rattle.step.proofs.CheckWays.{lightest-is, heaviest-is, also, fails}
 use Rattle.step.proofs.checks.mass_in_range.Statement.{statement}
 use Rattle.step.proofs.checks.mass_in_range.Tie as tie
 
-pub mass-in-range-spec : {M : Type 1} → statement M
-mass-in-range-spec = tie.close (tie.spec (λ c. search (also, lightest-is, heaviest-is)) (λ c. search (fails, lightest-is)))
+pub mass_in_range_spec : {M : Type 1} → statement M
+mass_in_range_spec = tie.close (tie.spec (λ c. search (also, lightest-is, heaviest-is)) (λ c. search (fails, lightest-is)))

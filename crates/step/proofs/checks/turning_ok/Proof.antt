@@ -5,13 +5,12 @@ use borrow.Author.Rules.{rules}
 use Rattle.step.proofs.checks.turning_ok.Statement.{statement}
 use Rattle.step.proofs.checks.turning_ok.Tie as tie
 
-returns-3 : tie.Need-returns-3
+returns-3 : tie.Need-returns-in-Cone
 returns-3 c =
-    let at-turning = c.before.before in
-    c.cone-ok.ensures ∙ ap turning_ok (sym at-turning.turning.given.1)
+    c.cone_ok.ensures ∙ ap turning_ok (sym c.in-Cone.is)
 
-pub turning-ok-spec : {M : Type 1} → statement M
-turning-ok-spec =
+pub turning_ok_spec : {M : Type 1} → statement M
+turning_ok_spec =
     tie.close (tie.spec
     (λ c. search rules) (λ c. search rules) (λ c. search rules) (λ c κs. search rules) (λ c. search rules)
     (λ c. search rules) returns-3)

@@ -13,37 +13,30 @@ use Rattle.step.proofs.checks.twist_ok.Tie as tie
 limited : {x y : Float} → x ≡ y → Ieee.le x (F 0x4010_0000_0000_0000) ≡ Ieee.le y (ratio 4 1)
 limited e = under _ e ∙ ap (Ieee.le _) four_is
 
-returns : tie.Need-returns
+returns : tie.Need-returns-then-lower-upper
 returns c =
-    let at-upper = c.before in let at-abs2 = at-upper.before in let at-lower = at-abs2.before in let at-abs = at-lower.before in
-    also (also (limited at-abs.abs.ensures) at-lower.if1.true (limited at-abs2.abs2.ensures)) at-upper.if2.true
-    (either _ refl c.if3.true)
+    also (also (limited c.abs.ensures) c.if-abs.true (limited c.abs-then-abs.ensures)) c.if-abs-2.true
+    (either _ refl c.if-lower-upper.true)
 
-returns-2 : tie.Need-returns-2
+returns-2 : tie.Need-returns-then-lower
 returns-2 c =
-    let at-if3 = c.before in let at-upper = at-if3.before in let at-abs2 = at-upper.before in let at-lower = at-abs2.before in
-    let at-abs = at-lower.before in
-    also (also (limited at-abs.abs.ensures) at-lower.if1.true (limited at-abs2.abs2.ensures)) at-upper.if2.true
-    (other refl at-if3.if3.false (also refl c.if4.true refl))
+    also (also (limited c.abs.ensures) c.if-abs.true (limited c.abs-then-abs.ensures)) c.if-abs-2.true
+    (other refl c.if-lower-upper.false (also refl c.if-lower.true refl))
 
-returns-3 : tie.Need-returns-3
+returns-3 : tie.Need-returns-else-lower
 returns-3 c =
-    let at-if3 = c.before in let at-upper = at-if3.before in let at-abs2 = at-upper.before in let at-lower = at-abs2.before in
-    let at-abs = at-lower.before in
-    also (also (limited at-abs.abs.ensures) at-lower.if1.true (limited at-abs2.abs2.ensures)) at-upper.if2.true
-    (other refl at-if3.if3.false (fails _ refl c.if4.false))
+    also (also (limited c.abs.ensures) c.if-abs.true (limited c.abs-then-abs.ensures)) c.if-abs-2.true
+    (other refl c.if-lower-upper.false (fails _ refl c.if-lower.false))
 
-returns-4 : tie.Need-returns-4
+returns-4 : tie.Need-returns-else-abs-2
 returns-4 c =
-    let at-abs2 = c.before in let at-lower = at-abs2.before in let at-abs = at-lower.before in
-    fails _ (also (limited at-abs.abs.ensures) at-lower.if1.true (limited at-abs2.abs2.ensures)) c.if2.false
+    fails _ (also (limited c.abs.ensures) c.if-abs.true (limited c.abs-then-abs.ensures)) c.if-abs-2.false
 
-returns-5 : tie.Need-returns-5
+returns-5 : tie.Need-returns-else-abs
 returns-5 c =
-    let at-abs = c.before in
-    stays _ (fails _ (limited at-abs.abs.ensures) c.if1.false)
+    stays _ (fails _ (limited c.abs.ensures) c.if-abs.false)
 
-pub twist-ok-spec : {M : Type 1} → statement M
-twist-ok-spec =
+pub twist_ok_spec : {M : Type 1} → statement M
+twist_ok_spec =
     tie.close (tie.spec
     (λ c κs. search rules) (λ c κs. search rules) returns returns-2 returns-3 returns-4 returns-5)

@@ -8,36 +8,32 @@ use Prim.Native.Nat.{◌≤◌, ◌-◌}
 use Rattle.step.proofs.integrator.add_impulses.Statement.{statement}
 use Rattle.step.proofs.integrator.add_impulses.Tie as tie
 
-abbrev invariant-loop : tie.invariant-loop
+abbrev invariant-loop : tie.invariant-loop-k
 invariant-loop s₀ n k₀ s k = (k ≤ n) × (length s ≡ length s₀) × (Summed n s₀ k s)
 
-abbrev decreases-loop : tie.decreases-loop
+abbrev decreases-loop : tie.decreases-loop-k
 decreases-loop s₀ n k₀ s k = n - k
 
-returns : tie.Need-returns invariant-loop decreases-loop
+returns : tie.Need-returns-then-not-is_finite invariant-loop decreases-loop
 returns c =
-    let at-is-finite = c.before in let at_test = at-is-finite.before.before.before in let at-loop = at_test.before in
-    let at_entry = at-loop.before.before in
-    sum-stops _ _ _ _ at-loop.loop.invariant.2 at_test.loop-test.true at_entry.requires.1 (omega arith)
-    at-is-finite.is-finite.ensures (not_yes _ c.if1.true)
+    sum-stops _ _ _ _ c.loop-k.invariant.2 c.loop-k-test.true c.requires.1 (omega arith)
+    c.is_finite.ensures c.if-not-is_finite.true
 
-loop-again : tie.Need-loop-preserved invariant-loop decreases-loop
+loop-again : tie.Need-loop-k-preserved invariant-loop decreases-loop
 loop-again c =
-    let at-is-finite = c.before in let at_test = at-is-finite.before.before.before in let at-loop = at_test.before in
-    let at_entry = at-loop.before.before in (
+    (
       omega arith,
       simp length-set (omega arith),
-      sum-again _ _ _ _ at-loop.loop.invariant.2 at_test.loop-test.true at_entry.requires.1 (omega arith)
-          at-is-finite.is-finite.ensures (not-no _ c.if1.false),
+      sum-again _ _ _ _ c.loop-k.invariant.2 c.loop-k-test.true c.requires.1 (omega arith)
+          c.is_finite.ensures c.if-not-is_finite.false,
     )
 
-returns-2 : tie.Need-returns-2 invariant-loop decreases-loop
+returns-2 : tie.Need-returns invariant-loop decreases-loop
 returns-2 c =
-    let at-loop = c.before in let at_entry = at-loop.before.before in
-    sum-ends _ _ at-loop.loop.invariant.2 (omega arith) c.loop-test.false at_entry.requires.1
+    sum-ends _ _ c.loop-k.invariant.2 (omega arith) c.loop-k-test.false c.requires.1
 
-pub add-impulses-spec : {M : Type 1} → statement M
-add-impulses-spec =
+pub add_impulses_spec : {M : Type 1} → statement M
+add_impulses_spec =
     tie.close (tie.spec
     invariant-loop decreases-loop (λ c. (omega arith, refl, sum-none _ _)) (λ c. omega arith) (λ c. omega arith)
     (λ c. omega arith) (λ c. omega arith) (λ c. omega arith) (λ c. omega arith) (λ c. omega arith)

@@ -8,27 +8,26 @@ use Rattle.step.proofs.StepLaws.{spread-more, spread_end}
 use Rattle.step.proofs.integrator.fill.Statement.{statement}
 use Rattle.step.proofs.integrator.fill.Tie as tie
 
-abbrev invariant-loop : tie.invariant-loop
+abbrev invariant-loop : tie.invariant-loop-k
 invariant-loop index₀ from n body k₀ k-end index k =
     (from ≤ k) × (k ≤ k-end) × (k-end ≡ from + n) × (length index ≡ length index₀) × (Spread from (k - from) body index₀ index)
 
-abbrev decreases-loop : tie.decreases-loop
+abbrev decreases-loop : tie.decreases-loop-k
 decreases-loop index₀ from n body k₀ k-end index k = k-end - k
 
-loop-again : tie.Need-loop-preserved invariant-loop decreases-loop
+loop-again : tie.Need-loop-k-preserved invariant-loop decreases-loop
 loop-again c =
-    let at-loop = c.before in (
+    (
       omega arith,
       omega arith,
       omega arith,
       simp length-set (omega arith),
-      spread-more (omega arith) (omega arith) at-loop.loop.invariant.4,
+      spread-more (omega arith) (omega arith) c.loop-k.invariant.4,
     )
 
 returns : tie.Need-returns invariant-loop decreases-loop
 returns c =
-    let at-loop = c.before in
-    spread_end (omega arith) (omega arith) (omega arith) at-loop.loop.invariant.4
+    spread_end (omega arith) (omega arith) (omega arith) c.loop-k.invariant.4
 
 pub fill_spec : {M : Type 1} → statement M
 fill_spec =

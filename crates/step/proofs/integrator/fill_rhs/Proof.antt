@@ -13,24 +13,22 @@ use Prim.Native.Nat.{◌+◌, ◌*◌, ◌≤◌, ◌-◌}
 use Rattle.step.proofs.integrator.fill_rhs.Statement.{statement}
 use Rattle.step.proofs.integrator.fill_rhs.Tie as tie
 
-abbrev invariant-loop : tie.invariant-loop
+abbrev invariant-loop : tie.invariant-loop-k
 invariant-loop s₀ dt n k₀ s k = (k ≤ n) × (length s ≡ length s₀) × (Filled RHS k (λ j. Ieee.neg (at s₀ (ROWS + 14 * j + 12)) ⊘ dt) s₀ s)
 
-abbrev decreases-loop : tie.decreases-loop
+abbrev decreases-loop : tie.decreases-loop-k
 decreases-loop s₀ dt n k₀ s k = n - k
 
-loop-again : tie.Need-loop-preserved invariant-loop decreases-loop
+loop-again : tie.Need-loop-k-preserved invariant-loop decreases-loop
 loop-again c =
-    let at-loop = c.before.before in let at_entry = at-loop.before in
-    (omega arith, simp length-set (omega arith), rhs-more _ at-loop.loop.invariant.2 (omega arith) (omega arith))
+    (omega arith, simp length-set (omega arith), rhs-more _ c.loop-k.invariant.2 (omega arith) (omega arith))
 
 returns : tie.Need-returns invariant-loop decreases-loop
 returns c =
-    let at-loop = c.before in let at_entry = at-loop.before in
-    λ ia ib. rhs-is _ _ ia ib _ (filled-all (omega arith) c.loop-test.false at-loop.loop.invariant.2) at_entry.requires.1
+    λ ia ib. rhs-is _ _ ia ib _ (filled-all (omega arith) c.loop-k-test.false c.loop-k.invariant.2) c.requires.1
 
-pub fill-rhs-spec : {M : Type 1} → statement M
-fill-rhs-spec =
+pub fill_rhs_spec : {M : Type 1} → statement M
+fill_rhs_spec =
     tie.close (tie.spec
     invariant-loop decreases-loop (λ c. (omega arith, refl, filled_none _ _)) (λ c. omega arith) (λ c. omega arith)
     (λ c. omega arith) (λ c. omega arith) (λ c. omega arith) (λ c. omega arith) (λ c. omega arith)

@@ -7,38 +7,29 @@ use Rattle.step.specs.RunView.{job_for}
 use Rattle.step.proofs.integrator.finish_run.Statement.{statement}
 use Rattle.step.proofs.integrator.finish_run.Tie as tie
 
-returns : tie.Need-returns
+returns : tie.Need-returns-then-not-done
 returns c =
-    let at-if1 = c.before in let at_done = at-if1.before in let at-prepare-masses = at_done.before.before.before in
-    let at_entry = at-prepare-masses.before.before.before.before in
-    ended_is _ c.new.ensures (not-weighed (job_for _ _) _ at_entry.requires.0
-    at-prepare-masses.prepare-masses.result at-prepare-masses.prepare-masses.ensures at_done.done.ensures at-if1.if1.true)
+    ended_is _ c.new.ensures (not-weighed (job_for _ _) _ c.requires.0
+    c.prepare_masses-weighed.result c.prepare_masses-weighed.ensures c.done.ensures c.if-not-done.true)
 
-stage-loop-requires : tie.Need-stage-loop-requires
+stage-loop-requires : tie.Need-stage_loop-corrected-requires
 stage-loop-requires c κs = (record { ready = search rules; long = search rules }, tt, omega arith)
 
-returns-2 : tie.Need-returns-2
+returns-2 : tie.Need-returns-then-not-done-2
 returns-2 c =
-    let at-if2 = c.before in let at-done2 = at-if2.before in let at-stage-loop = at-done2.before.before.before in
-    let at-if1 = at-stage-loop.before.before in let at_done = at-if1.before in
-    let at-prepare-masses = at_done.before.before.before in let at_entry = at-prepare-masses.before.before.before.before in
-    ended_is _ c.new2.ensures (not-rested (job_for _ _) _ at_entry.requires.0
-    at-prepare-masses.prepare-masses.result at-prepare-masses.prepare-masses.ensures at_done.done.ensures at-if1.if1.false
-    at-stage-loop.stage-loop.result at-stage-loop.stage-loop.ensures at-done2.done2.ensures at-if2.if2.true)
+    ended_is _ c.new-then-not-done-2.ensures (not-rested (job_for _ _) _ c.requires.0
+    c.prepare_masses-weighed.result c.prepare_masses-weighed.ensures c.done.ensures c.if-not-done.false
+    c.stage_loop-corrected.result c.stage_loop-corrected.ensures c.done-2.ensures c.if-not-done-2.true)
 
-returns-3 : tie.Need-returns-3
+returns-3 : tie.Need-returns
 returns-3 c =
-    let at-make-states = c.before.before.before in let at-if2 = at-make-states.before.before in
-    let at-done2 = at-if2.before in let at-stage-loop = at-done2.before.before.before in
-    let at-if1 = at-stage-loop.before.before in let at_done = at-if1.before in
-    let at-prepare-masses = at_done.before.before.before in let at_entry = at-prepare-masses.before.before.before.before in
-    ended_is _ c.new3.ensures (all_finished (job_for _ _) _ at_entry.requires.0
-    at-prepare-masses.prepare-masses.result at-prepare-masses.prepare-masses.ensures at_done.done.ensures at-if1.if1.false
-    at-stage-loop.stage-loop.result at-stage-loop.stage-loop.ensures at-done2.done2.ensures at-if2.if2.false
-    at-make-states.make-states.result at-make-states.make-states.ensures)
+    ended_is _ c.new-2.ensures (all_finished (job_for _ _) _ c.requires.0
+    c.prepare_masses-weighed.result c.prepare_masses-weighed.ensures c.done.ensures c.if-not-done.false
+    c.stage_loop-corrected.result c.stage_loop-corrected.ensures c.done-2.ensures c.if-not-done-2.false
+    c.make_states-made.result c.make_states-made.ensures)
 
-pub finish-run-spec : {M : Type 1} → statement M
-finish-run-spec =
+pub finish_run_spec : {M : Type 1} → statement M
+finish_run_spec =
     tie.close (tie.spec
     (λ c κs. search rules) (λ c κs. search rules) (λ c κs. search rules) (λ c. omega arith) returns
     stage-loop-requires (λ c κs. search rules) (λ c κs. search rules) (λ c. omega arith) returns-2 (λ c κs. search rules)

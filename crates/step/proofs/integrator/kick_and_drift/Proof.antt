@@ -4,6 +4,6 @@ use borrow.Author.Rules.{rules}
 use Rattle.step.proofs.integrator.kick_and_drift.Statement.{statement}
 use Rattle.step.proofs.integrator.kick_and_drift.Tie as tie
 
-pub kick-and-drift-spec : {M : Type 1} → statement M
-kick-and-drift-spec =
+pub kick_and_drift_spec : {M : Type 1} → statement M
+kick_and_drift_spec =
     tie.close (tie.spec (λ c κs. search rules) (λ c κs. search rules) (λ c. search kick-fails) (λ c κs. search rules) (λ c. search kick-drifts))

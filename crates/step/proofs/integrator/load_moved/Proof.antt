@@ -5,16 +5,14 @@ use borrow.Author.Rules.{rules}
 use Rattle.step.proofs.integrator.load_moved.Statement.{statement}
 use Rattle.step.proofs.integrator.load_moved.Tie as tie
 
-returns : tie.Need-returns
+returns : tie.Need-returns-then-moved
 returns c =
-    let at-if1 = c.before in
-    c.load-candidate.ensures ∙ cond_yes _ _ at-if1.if1.true
+    c.load_candidate.ensures ∙ cond_yes _ _ c.if-moved.true
 
-returns-2 : tie.Need-returns-2
+returns-2 : tie.Need-returns
 returns-2 c =
-    let at-if1 = c.before in
-    c.load-start.ensures ∙ cond_no _ _ at-if1.if1.false
+    c.load_start.ensures ∙ cond_no _ _ c.if-moved.false
 
-pub load-moved-spec : {M : Type 1} → statement M
-load-moved-spec =
+pub load_moved_spec : {M : Type 1} → statement M
+load_moved_spec =
     tie.close (tie.spec (λ c κs. search rules) returns (λ c κs. search rules) returns-2)

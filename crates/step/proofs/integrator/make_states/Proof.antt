@@ -10,57 +10,51 @@ use borrow.Author.Rules.{rules}
 use Rattle.step.proofs.integrator.make_states.Statement.{statement}
 use Rattle.step.proofs.integrator.make_states.Tie as tie
 
-abbrev invariant-loop : tie.invariant-loop
+abbrev invariant-loop : tie.invariant-loop-k
 invariant-loop s₀ bodies body-count k₀ s k = (k ≤ body-count) × (length s ≡ length s₀) × (Stated bodies body-count s₀ k s)
 
-abbrev decreases-loop : tie.decreases-loop
+abbrev decreases-loop : tie.decreases-loop-k
 decreases-loop s₀ bodies body-count k₀ s k = body-count - k
 
-mul-store-state : tie.Need-overflow-mul-store-state invariant-loop decreases-loop
+mul-store-state : tie.Need-overflow_mul-k-in-Value invariant-loop decreases-loop
 mul-store-state c =
-    let at-load-candidate = c.before.before.before.before.before.before in
+    let at-load-candidate = c.before.before.before.before in
     omega (arith, at-load-candidate)
 
-add-store-state : tie.Need-overflow-add-store-state invariant-loop decreases-loop
+add-store-state : tie.Need-overflow_add-k invariant-loop decreases-loop
 add-store-state c =
-    let at-load-candidate = c.before.before.before.before.before.before in
+    let at-load-candidate = c.before.before.before.before in
     omega (arith, at-load-candidate)
 
-store-state-requires : tie.Need-store-state-requires invariant-loop decreases-loop
+store-state-requires : tie.Need-store_state-requires invariant-loop decreases-loop
 store-state-requires c κs =
-    let at-load-candidate = c.before.before.before.before.before.before in
+    let at-load-candidate = c.before.before.before.before in
     omega (arith, at-load-candidate)
 
-returns : tie.Need-returns invariant-loop decreases-loop
+returns : tie.Need-returns-in-ArithmeticOverflow invariant-loop decreases-loop
 returns c =
-    let at-state = c.before.before in let at-load-state = at-state.before in let at-load-candidate = at-load-state.before in
-    let at_test = at-load-candidate.before.before in let at-loop = at_test.before in
-    let at_entry = at-loop.before.before.before in
-    state-stops at_entry.args.bodies.now _ _ at-loop.loop.invariant.2 at_test.loop-test.true at_entry.requires.2
-    at_entry.requires.1 at-load-candidate.load-candidate.ensures refl
-    (state-stop at-state.state.ensures c.enum_told.given.1 ∙ ap (state_of _) at-load-state.load-state.ensures)
+    state-stops c.args.bodies.now _ _ c.loop-k.invariant.2 c.loop-k-test.true c.requires.2
+    c.requires.1 c.load_candidate-body.ensures refl
+    (state-stop c.state.ensures c.in-ArithmeticOverflow.is ∙ ap (state_of _) c.load_state.ensures)
 
-add-k : tie.Need-overflow-add-k invariant-loop decreases-loop
+add-k : tie.Need-overflow_step-k invariant-loop decreases-loop
 add-k c =
-    let at-match = c.before.before.before.before.before.before in
+    let at-match = c.before in
     omega (arith, at-match)
 
-loop-again : tie.Need-loop-preserved invariant-loop decreases-loop
+loop-again : tie.Need-loop-k-preserved invariant-loop decreases-loop
 loop-again c =
-    let at-store-state = c.before.before in let at-state2 = at-store-state.before.before.before in
-    let at-state = at-state2.before.before in let at-load-state = at-state.before in
-    let at-load-candidate = at-load-state.before in let at_test = at-load-candidate.before.before in
-    let at-loop = at_test.before in let at_entry = at-loop.before.before.before in (
+    (
       omega arith,
       omega arith,
-      state-again at_entry.args.bodies.now _ _ at-loop.loop.invariant.2 at_test.loop-test.true at_entry.requires.2
-          at_entry.requires.1 at-load-candidate.load-candidate.ensures refl
-          (state-go at-state.state.ensures at-state2.state2.given.1 ∙ ap (state_of _) at-load-state.load-state.ensures)
-          at-store-state.store-state.ensures,
+      state-again c.args.bodies.now _ _ c.loop-k.invariant.2 c.loop-k-test.true c.requires.2
+          c.requires.1 c.load_candidate-body.ensures refl
+          (state-go c.state.ensures c.in-Value.is ∙ ap (state_of _) c.load_state.ensures)
+          c.store_state.ensures,
     )
 
-pub make-states-spec : {M : Type 1} → statement M
-make-states-spec =
+pub make_states_spec : {M : Type 1} → statement M
+make_states_spec =
     tie.close (tie.spec
     invariant-loop decreases-loop (λ c. (omega arith, refl, search state-none))
     (λ c κs. omega arith) (λ c. omega arith)

@@ -11,19 +11,19 @@ use Rattle.step.proofs.StepLaws.{spread-less, kind-most}
 use Rattle.step.proofs.integrator.row_bodies.Statement.{statement}
 use Rattle.step.proofs.integrator.row_bodies.Tie as tie
 
-abbrev invariant-loop : tie.invariant-loop
+abbrev invariant-loop : tie.invariant-loop-k
 invariant-loop ia₀ ib₀ count joints n₀ k₀ ia ib n k =
     (k ≤ count) × (n ≤ 6 * k) × (length ia ≡ length ia₀) × (length ib ≡ length ib₀) ×
     ((body-count : ℕ) → Joined joints count body-count → (j : ℕ) → j < n → get_or ia j 0 < body-count) ×
     ((body-count : ℕ) → Joined joints count body-count → (j : ℕ) → j < n → get_or ib j 0 < body-count) × (n ≡ rows_before joints k) ×
     (Sides joints k ia ib)
 
-abbrev decreases-loop : tie.decreases-loop
+abbrev decreases-loop : tie.decreases-loop-k
 decreases-loop ia₀ ib₀ count joints n₀ k₀ ia ib n k = count - k
 
-loop-holds : tie.Need-loop-init invariant-loop decreases-loop
+loop-holds : tie.Need-loop-k-init invariant-loop decreases-loop
 loop-holds c =
-    let at_entry = c.before.before in (
+    (
       omega arith,
       omega arith,
       refl,
@@ -36,52 +36,43 @@ loop-holds c =
 
 fill-requires : tie.Need-fill-requires invariant-loop decreases-loop
 fill-requires c κs =
-    let at-row-count = c.before in let at_test = at-row-count.before.before in let at-loop = at_test.before in
-    let at_entry = at-loop.before.before.before in
-    let most : at-row-count.row_count.result ≤ 6 = search kind-most in
-    omega (arith, at-loop.loop.invariant, at_test.loop-test.true, at_entry.requires, most)
+    let most : c.row_count-m.result ≤ 6 = search kind-most in
+    omega (arith, c.loop-k.invariant, c.loop-k-test.true, c.requires, most)
 
-fill-requires-2 : tie.Need-fill-requires-2 invariant-loop decreases-loop
+fill-requires-2 : tie.Need-fill-requires-in-loop-k invariant-loop decreases-loop
 fill-requires-2 c κs =
-    let at-row-count = c.before.before.before.before.before in let at_test = at-row-count.before.before in
-    let at-loop = at_test.before in let at_entry = at-loop.before.before.before in
-    let most : at-row-count.row_count.result ≤ 6 = search kind-most in
-    omega (arith, at-loop.loop.invariant, at_test.loop-test.true, at_entry.requires, most)
+    let most : c.row_count-m.result ≤ 6 = search kind-most in
+    omega (arith, c.loop-k.invariant, c.loop-k-test.true, c.requires, most)
 
-add-n : tie.Need-overflow-add-n invariant-loop decreases-loop
+add-n : tie.Need-overflow_add-n invariant-loop decreases-loop
 add-n c =
-    let at_fill = c.before.before.before.before.before.before in let at-row-count = at_fill.before.before in
-    let at_test = at-row-count.before.before in let at-loop = at_test.before in let at_entry = at-loop.before.before.before in
-    let most : at-row-count.row_count.result ≤ 6 = search kind-most in
-    omega (arith, at-loop.loop.invariant, at_test.loop-test.true, at_entry.requires, most)
+    let most : c.row_count-m.result ≤ 6 = search kind-most in
+    omega (arith, c.loop-k.invariant, c.loop-k-test.true, c.requires, most)
 
-loop-again : tie.Need-loop-preserved invariant-loop decreases-loop
+loop-again : tie.Need-loop-k-preserved invariant-loop decreases-loop
 loop-again c =
-    let at-fill2 = c.before.before in let at_fill = at-fill2.before.before.before.before in
-    let at-row-count = at_fill.before.before in let at_test = at-row-count.before.before in let at-loop = at_test.before in
-    let at_entry = at-loop.before.before.before in
-    let most : at-row-count.row_count.result ≤ 6 = search kind-most in (
+    let most : c.row_count-m.result ≤ 6 = search kind-most in (
       omega arith,
-      omega (arith, at-loop.loop.invariant, at_test.loop-test.true, at_entry.requires, most),
+      omega (arith, c.loop-k.invariant, c.loop-k-test.true, c.requires, most),
       omega arith,
       omega arith,
-      (λ body-count q. spread-less at_fill.fill.ensures (at-loop.loop.invariant.4 body-count q) (q.a-there _ at_test.loop-test.true)),
-      (λ body-count q. spread-less at-fill2.fill2.ensures (at-loop.loop.invariant.5 body-count q) (q.b_there _ at_test.loop-test.true)),
+      (λ body-count q. spread-less c.fill.ensures (c.loop-k.invariant.4 body-count q) (q.a-there _ c.loop-k-test.true)),
+      (λ body-count q. spread-less c.fill-in-loop-k.ensures (c.loop-k.invariant.5 body-count q) (q.b_there _ c.loop-k-test.true)),
       search before_more,
-      sides-more _ at-loop.loop.k at-loop.loop.invariant.7 at-loop.loop.invariant.6 at-row-count.row_count.ensures
-          at_fill.fill.ensures at-fill2.fill2.ensures,
+      sides-more _ c.loop-k.k c.loop-k.invariant.7 c.loop-k.invariant.6 c.row_count-m.ensures
+          c.fill.ensures c.fill-in-loop-k.ensures,
     )
 
 returns : tie.Need-returns invariant-loop decreases-loop
 returns c =
-    let at-loop = c.before in (
-      record { most = omega arith; a-there = at-loop.loop.invariant.4; b_there = at-loop.loop.invariant.5 },
-      sides-end _ (omega arith) c.loop-test.false at-loop.loop.invariant.7,
+    (
+      record { most = omega arith; a-there = c.loop-k.invariant.4; b_there = c.loop-k.invariant.5 },
+      sides-end _ (omega arith) c.loop-k-test.false c.loop-k.invariant.7,
       search turns-end,
     )
 
-pub row-bodies-spec : {M : Type 1} → statement M
-row-bodies-spec =
+pub row_bodies_spec : {M : Type 1} → statement M
+row_bodies_spec =
     tie.close (tie.spec
     invariant-loop decreases-loop loop-holds (λ c. omega arith) (λ c. omega arith) (λ c κs. omega arith) fill-requires
     fill-requires-2 add-n (λ c. omega arith) (λ c. omega arith) loop-again (λ c. omega arith)

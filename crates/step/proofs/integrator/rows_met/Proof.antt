@@ -11,21 +11,20 @@ use Prim.Native.Nat.{ℕ, ◌≤◌, ◌-◌}
 use Rattle.step.proofs.integrator.rows_met.Statement.{statement}
 use Rattle.step.proofs.integrator.rows_met.Tie as tie
 
-abbrev invariant-loop : tie.invariant-loop
+abbrev invariant-loop : tie.invariant-loop-k
 invariant-loop s n k₀ k = (k ≤ n) × ((ia ib : List ℕ) → true ≡ every k (row_test s n ia ib))
 
-abbrev decreases-loop : tie.decreases-loop
+abbrev decreases-loop : tie.decreases-loop-k
 decreases-loop s n k₀ k = n - k
 
-loop-again : tie.Need-loop-preserved invariant-loop decreases-loop
+loop-again : tie.Need-loop-k-preserved invariant-loop decreases-loop
 loop-again c =
-    let at-loop = c.before.before.before.before.before in
-    (omega arith, λ ia ib. search (every_more, row-test, at-loop.loop.invariant.1))
+    (omega arith, λ ia ib. search (every_more, row-test, c.loop-k.invariant.1))
 
-pub rows-met-spec : {M : Type 1} → statement M
-rows-met-spec =
+pub rows_met_spec : {M : Type 1} → statement M
+rows_met_spec =
     tie.close (tie.spec
     invariant-loop decreases-loop (λ c. (omega arith, λ ia ib. every-none _)) (λ c. omega arith) (λ c. omega arith)
     (λ c. omega arith) (λ c. omega arith) (λ c. omega arith) (λ c κs. omega arith) (λ c. omega arith)
     (λ c. omega arith) (λ c. omega arith) (λ c. omega arith) (λ c. omega arith) (λ c ia ib. search (met-fails, row-test))
-    (λ c. omega arith) (λ c. omega arith) loop-again (λ c ia ib. let at-loop = c.before in search (met-ends, at-loop.loop.invariant.1)))
+    (λ c. omega arith) (λ c. omega arith) loop-again (λ c ia ib. search (met-ends, c.loop-k.invariant.1)))

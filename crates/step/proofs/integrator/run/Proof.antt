@@ -13,96 +13,62 @@ use Rattle.step.proofs.FinishLaws.{started-as, not-started, not-met, all-run}
 use Rattle.step.proofs.integrator.run.Statement.{statement}
 use Rattle.step.proofs.integrator.run.Tie as tie
 
-returns : tie.Need-returns
+returns : tie.Need-returns-then-not-done
 returns c =
-    let at-if1 = c.before in let at_done = at-if1.before in let at-start = at_done.before.before.before in
-    let at-row-bodies = at-start.before.before.before.before in
-    left_is _ c.run-ended.ensures (not-started _ _ at-row-bodies.row-bodies.ensures.1 _ at-start.start.result
-    (started-as at-row-bodies.row-bodies.ensures.1 _ at-start.start.result at-row-bodies.row-bodies.ensures.2
-    (at-start.start.ensures _ _ at-row-bodies.row-bodies.ensures.1)) at_done.done.ensures at-if1.if1.true)
+    left_is _ c.run_ended.ensures (not-started _ _ c.row_bodies-n.ensures.1 _ c.start-started.result
+    (started-as c.row_bodies-n.ensures.1 _ c.start-started.result c.row_bodies-n.ensures.2
+    (c.start-started.ensures _ _ c.row_bodies-n.ensures.1)) c.done.ensures c.if-not-done.true)
 
 clear-requires : tie.Need-clear-requires
 clear-requires c κs =
-    let at-start = c.before.before.before.before.before in let at-row-bodies = at-start.before.before.before.before in
-    let at_entry = at-row-bodies.before.before.before.before.before in
-    omega (arith, at-row-bodies.row-bodies.ensures.0.most, at_entry.requires.1.few)
+    omega (arith, c.row_bodies-n.ensures.0.most, c.requires.1.few)
 
-stage-loop-requires : tie.Need-stage-loop-requires
+stage-loop-requires : tie.Need-stage_loop-met-requires
 stage-loop-requires c κs =
-    let at_clear = c.before.before.before.before.before in
-    let at-start = at_clear.before.before.before.before.before.before in
-    let at-row-bodies = at-start.before.before.before.before in
-    let at_entry = at-row-bodies.before.before.before.before.before in
-    let told = at-row-bodies.row-bodies.ensures in (
-      record { ready = rows_of _ (omega arith) (omega arith) at_entry.requires.1 told.0; long = omega arith },
-      record { joined = at_entry.requires.1; sides = told.1; rows_are = told.2; apart = omega arith },
+    let told = c.row_bodies-n.ensures in (
+      record { ready = rows_of _ (omega arith) (omega arith) c.requires.1 told.0; long = omega arith },
+      record { joined = c.requires.1; sides = told.1; rows_are = told.2; apart = omega arith },
       omega arith,
     )
 
-returns-2 : tie.Need-returns-2
+returns-2 : tie.Need-returns-then-not-done-2
 returns-2 c =
-    let at-if2 = c.before in let at-done2 = at-if2.before in let at-stage-loop = at-done2.before.before.before in
-    let at_clear = at-stage-loop.before.before.before.before.before.before in let at-if1 = at_clear.before.before in
-    let at_done = at-if1.before in let at-start = at_done.before.before.before in
-    let at-row-bodies = at-start.before.before.before.before in
-    let at_entry = at-row-bodies.before.before.before.before.before in
-    left_is _ c.run-ended2.ensures (not-met _ _ at-row-bodies.row-bodies.ensures.1 _ at-start.start.result
-    (started-as at-row-bodies.row-bodies.ensures.1 _ at-start.start.result at-row-bodies.row-bodies.ensures.2
-    (at-start.start.ensures _ _ at-row-bodies.row-bodies.ensures.1)) at_done.done.ensures at-if1.if1.false
-    (omega arith) (omega (arith, at-row-bodies.row-bodies.ensures.0.most, at_entry.requires.1.few)) at_entry.requires.1.small at_clear.clear.ensures
-    at-stage-loop.stage-loop.result at-stage-loop.stage-loop.ensures at-done2.done2.ensures at-if2.if2.true)
+    left_is _ c.run_ended-then-not-done-2.ensures (not-met _ _ c.row_bodies-n.ensures.1 _ c.start-started.result
+    (started-as c.row_bodies-n.ensures.1 _ c.start-started.result c.row_bodies-n.ensures.2
+    (c.start-started.ensures _ _ c.row_bodies-n.ensures.1)) c.done.ensures c.if-not-done.false
+    (omega arith) (omega (arith, c.row_bodies-n.ensures.0.most, c.requires.1.few)) c.requires.1.small c.clear.ensures
+    c.stage_loop-met.result c.stage_loop-met.ensures c.done-2.ensures c.if-not-done-2.true)
 
-finish-run-requires : tie.Need-finish-run-requires
+finish-run-requires : tie.Need-finish_run-last-requires
 finish-run-requires c κs =
-    let at-if2 = c.before.before.before in let at-stage-loop = at-if2.before.before.before.before in
-    let at_clear = at-stage-loop.before.before.before.before.before.before in
-    let at-start = at_clear.before.before.before.before.before.before in
-    let at-row-bodies = at-start.before.before.before.before in
-    let at_entry = at-row-bodies.before.before.before.before.before in (
-      record { ready = rows_of _ (omega arith) (omega arith) at_entry.requires.1 at-row-bodies.row-bodies.ensures.0; long = omega arith },
+    (
+      record { ready = rows_of _ (omega arith) (omega arith) c.requires.1 c.row_bodies-n.ensures.0; long = omega arith },
       omega arith,
     )
 
-add-run-ended : tie.Need-overflow-add-run-ended
+add-run-ended : tie.Need-overflow_add-met
 add-run-ended c =
-    let at-finish-run = c.before.before.before.before in let at-if2 = at-finish-run.before.before.before.before in
-    let at-stage-loop = at-if2.before.before.before.before in
-    let at_clear = at-stage-loop.before.before.before.before.before.before in
-    let at-start = at_clear.before.before.before.before.before.before in
-    let at-row-bodies = at-start.before.before.before.before in
-    let at_entry = at-row-bodies.before.before.before.before.before in
-    let table : Table = record { place = START_ROWS; rows = at-row-bodies.row-bodies.result; bodies = count_of_bodies at_entry.args.bodies.now } in
-    let few : at-row-bodies.row-bodies.result ≤ 96 = omega (arith, at-row-bodies.row-bodies.ensures.0.most, at_entry.requires.1.few) in
+    let table : Table = record { place = START_ROWS; rows = c.row_bodies-n.result; bodies = count_of_bodies c.args.bodies.now } in
+    let few : c.row_bodies-n.result ≤ 96 = omega (arith, c.row_bodies-n.ensures.0.most, c.requires.1.few) in
     omega (
       arith,
-      loop-few at-row-bodies.row-bodies.ensures.1 table few _ _ at-stage-loop.stage-loop.ensures,
-      finish-few at-row-bodies.row-bodies.ensures.1 table few _ _ at-finish-run.finish-run.ensures,
+      loop-few c.row_bodies-n.ensures.1 table few _ _ c.stage_loop-met.ensures,
+      finish-few c.row_bodies-n.ensures.1 table few _ _ c.finish_run-last.ensures,
     )
 
-same-length-3 : tie.Need-same-length-3
+same-length-3 : tie.Need-shape_of-s
 same-length-3 c =
-    let at-finish-run = c.before.before.before.before.before in let at-if2 = at-finish-run.before.before.before.before in
-    let at-stage-loop = at-if2.before.before.before.before in
-    let at_clear = at-stage-loop.before.before.before.before.before.before in
-    let at-start = at_clear.before.before.before.before.before.before in
-    let at-row-bodies = at-start.before.before.before.before in
-    at-finish-run.finish-run.ensures.kept.size ∙ at-stage-loop.stage-loop.ensures.kept.size ∙ at_clear.clear.ensures.kept.size
-    ∙ (at-start.start.ensures _ _ at-row-bodies.row-bodies.ensures.1).kept.size
+    c.finish_run-last.ensures.kept.size ∙ c.stage_loop-met.ensures.kept.size ∙ c.clear.ensures.kept.size
+    ∙ (c.start-started.ensures _ _ c.row_bodies-n.ensures.1).kept.size
 
-returns-3 : tie.Need-returns-3
+returns-3 : tie.Need-returns
 returns-3 c =
-    let at-finish-run = c.before.before.before.before.before in let at-if2 = at-finish-run.before.before.before.before in
-    let at-done2 = at-if2.before in let at-stage-loop = at-done2.before.before.before in
-    let at_clear = at-stage-loop.before.before.before.before.before.before in let at-if1 = at_clear.before.before in
-    let at_done = at-if1.before in let at-start = at_done.before.before.before in
-    let at-row-bodies = at-start.before.before.before.before in
-    let at_entry = at-row-bodies.before.before.before.before.before in
-    left_is _ c.run-ended3.ensures (all-run _ _ at-row-bodies.row-bodies.ensures.1 _ at-start.start.result
-    (started-as at-row-bodies.row-bodies.ensures.1 _ at-start.start.result at-row-bodies.row-bodies.ensures.2
-    (at-start.start.ensures _ _ at-row-bodies.row-bodies.ensures.1)) at_done.done.ensures at-if1.if1.false
-    (omega arith) (omega (arith, at-row-bodies.row-bodies.ensures.0.most, at_entry.requires.1.few)) at_entry.requires.1.small at_clear.clear.ensures
-    at-stage-loop.stage-loop.result at-stage-loop.stage-loop.ensures at-done2.done2.ensures at-if2.if2.false
-    at-finish-run.finish-run.result at-finish-run.finish-run.ensures)
+    left_is _ c.run_ended-2.ensures (all-run _ _ c.row_bodies-n.ensures.1 _ c.start-started.result
+    (started-as c.row_bodies-n.ensures.1 _ c.start-started.result c.row_bodies-n.ensures.2
+    (c.start-started.ensures _ _ c.row_bodies-n.ensures.1)) c.done.ensures c.if-not-done.false
+    (omega arith) (omega (arith, c.row_bodies-n.ensures.0.most, c.requires.1.few)) c.requires.1.small c.clear.ensures
+    c.stage_loop-met.result c.stage_loop-met.ensures c.done-2.ensures c.if-not-done-2.false
+    c.finish_run-last.result c.finish_run-last.ensures)
 
 pub run_spec : {M : Type 1} → statement M
 run_spec =

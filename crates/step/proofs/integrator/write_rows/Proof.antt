@@ -12,16 +12,16 @@ use borrow.Author.Rules.{rules}
 use Rattle.step.proofs.integrator.write_rows.Statement.{statement}
 use Rattle.step.proofs.integrator.write_rows.Tie as tie
 
-abbrev invariant-loop : tie.invariant-loop
+abbrev invariant-loop : tie.invariant-loop-k
 invariant-loop s₀ count place moved joints n₀ k₀ s n k =
     (k ≤ count) × (n ≤ 6 * k) × (length s ≡ length s₀) × (n ≡ rows_before joints k) ×
     ((body-count : ℕ) (J : Joined joints count body-count) (ia ib : List ℕ) (S : Sides joints count ia ib) → Wrote joints count
     moved place s₀ body-count J ia ib S k n s)
 
-abbrev decreases-loop : tie.decreases-loop
+abbrev decreases-loop : tie.decreases-loop-k
 decreases-loop s₀ count place moved joints n₀ k₀ s n k = count - k
 
-loop-holds : tie.Need-loop-init invariant-loop decreases-loop
+loop-holds : tie.Need-loop-k-init invariant-loop decreases-loop
 loop-holds c = (
   omega arith,
   omega arith,
@@ -30,82 +30,67 @@ loop-holds c = (
   search wrote_none,
 )
 
-load-moved-requires : tie.Need-load-moved-requires invariant-loop decreases-loop
+load-moved-requires : tie.Need-load_moved-a-requires invariant-loop decreases-loop
 load-moved-requires c κs =
-    let at_test = c.before.before in let at_entry = at_test.before.before.before in
-    (omega arith, at_entry.requires.2.a-there _ at_test.loop-test.true)
+    (omega arith, c.requires.2.a-there _ c.loop-k-test.true)
 
-load-moved-requires-2 : tie.Need-load-moved-requires-2 invariant-loop decreases-loop
+load-moved-requires-2 : tie.Need-load_moved-b-requires invariant-loop decreases-loop
 load-moved-requires-2 c κs =
-    let at_test = c.before.before.before.before in let at_entry = at_test.before.before.before in
-    (omega arith, at_entry.requires.2.b_there _ at_test.loop-test.true)
+    (omega arith, c.requires.2.b_there _ c.loop-k-test.true)
 
-add-n : tie.Need-overflow-add-n invariant-loop decreases-loop
+add-n : tie.Need-overflow_add-n invariant-loop decreases-loop
 add-n c =
-    let at-m = c.before in let at-write-equality-rows = at-m.before.before.before.before in
-    let at-joint = at-write-equality-rows.before.before.before.before.before.before in let at_test = at-joint.before in
-    let at-loop = at_test.before in let at_entry = at-loop.before.before in
     omega (
       arith,
-      at-loop.loop.invariant,
-      at_test.loop-test.true,
-      at_entry.requires.2.few,
-      written-most at-write-equality-rows.write-equality-rows.ensures _ at-m.m.given.1,
+      c.loop-k.invariant,
+      c.loop-k-test.true,
+      c.requires.2.few,
+      written-most c.write_equality_rows.ensures _ c.in-Rows.is,
     )
 
-returns : tie.Need-returns invariant-loop decreases-loop
+returns : tie.Need-returns-in-NonConvergent invariant-loop decreases-loop
 returns c =
-    let at-write-equality-rows = c.before.before.before.before in let at-load-moved2 = at-write-equality-rows.before.before in
-    let at-load-moved = at-load-moved2.before.before in let at_test = at-load-moved.before.before.before in
-    let at-loop = at_test.before in let at_entry = at-loop.before.before in
-    λ body-count J ia ib S. wrote-nonconvergent _ _ at_entry.args.moved _ _ body-count J ia ib
-    S at-loop.loop.k _ _ (at-loop.loop.invariant.4 body-count J ia ib S) at_test.loop-test.true (omega arith) at_entry.requires.1
-    at-loop.loop.invariant.3 at-load-moved.Load-moved.ensures at-load-moved2.load-moved2.ensures _
-    at-write-equality-rows.write-equality-rows.ensures c.enum_told.given.1
+    let at-load-moved = c.before.before.before.before.before.before in λ body-count J ia ib S. wrote-nonconvergent _ _ c.args.moved _ _ body-count J ia ib
+    S c.loop-k.k _ _ (c.loop-k.invariant.4 body-count J ia ib S) c.loop-k-test.true (omega arith) c.requires.1
+    c.loop-k.invariant.3 at-load-moved.load_moved-a.ensures c.load_moved-b.ensures _
+    c.write_equality_rows.ensures c.in-NonConvergent.is
 
-returns-2 : tie.Need-returns-2 invariant-loop decreases-loop
+returns-2 : tie.Need-returns-in-ArithmeticOverflow invariant-loop decreases-loop
 returns-2 c =
-    let at-write-equality-rows = c.before.before.before.before in let at-load-moved2 = at-write-equality-rows.before.before in
-    let at-load-moved = at-load-moved2.before.before in let at_test = at-load-moved.before.before.before in
-    let at-loop = at_test.before in let at_entry = at-loop.before.before in
-    λ body-count J ia ib S. wrote-overflow _ _ at_entry.args.moved _ _ body-count J ia ib S
-    at-loop.loop.k _ _ (at-loop.loop.invariant.4 body-count J ia ib S) at_test.loop-test.true (omega arith) at_entry.requires.1
-    at-loop.loop.invariant.3 at-load-moved.Load-moved.ensures at-load-moved2.load-moved2.ensures _
-    at-write-equality-rows.write-equality-rows.ensures c.enum-told2.given.1
+    let at-load-moved = c.before.before.before.before.before.before in λ body-count J ia ib S. wrote-overflow _ _ c.args.moved _ _ body-count J ia ib S
+    c.loop-k.k _ _ (c.loop-k.invariant.4 body-count J ia ib S) c.loop-k-test.true (omega arith) c.requires.1
+    c.loop-k.invariant.3 at-load-moved.load_moved-a.ensures c.load_moved-b.ensures _
+    c.write_equality_rows.ensures c.in-ArithmeticOverflow.is
 
-add-k : tie.Need-overflow-add-k invariant-loop decreases-loop
+add-k : tie.Need-overflow_step-k invariant-loop decreases-loop
 add-k c =
-    let at-write-equality-rows-arg = c.before.before.before.before.before.before in
-    let at_test = at-write-equality-rows-arg.before.before.before.before.before.before in let at-loop = at_test.before in
-    let at_entry = at-loop.before.before in
+    let at_entry = c.before.before.before.before.before.before.before.before.before.before.before in
     omega (arith, at_entry)
 
-loop-again : tie.Need-loop-preserved invariant-loop decreases-loop
+loop-again : tie.Need-loop-k-preserved invariant-loop decreases-loop
 loop-again c =
-    let at-m = c.before in let at-write-equality-rows = at-m.before.before.before.before in
-    let at-load-moved2 = at-write-equality-rows.before.before in let at-load-moved = at-load-moved2.before.before in
-    let at_test = at-load-moved.before.before.before in let at-loop = at_test.before in
-    let at_entry = at-loop.before.before in (
+    let at-load-moved = c.before.before.before.before.before.before in
+    (
       omega arith,
       omega (
         arith,
-        at-loop.loop.invariant.1,
-        at_test.loop-test.true,
-        at_entry.requires.2.few,
-        written-most at-write-equality-rows.write-equality-rows.ensures _ at-m.m.given.1,
+        c.loop-k.invariant.1,
+        c.loop-k-test.true,
+        c.requires.2.few,
+        written-most c.write_equality_rows.ensures _ c.in-Rows.is,
       ),
       omega arith,
       search wrote-rows,
-      λ body-count J ia ib S. wrote-again _ _ at_entry.args.moved _ _ body-count J ia ib S
-          at-loop.loop.k _ _ (at-loop.loop.invariant.4 body-count J ia ib S) at_test.loop-test.true (omega arith) at_entry.requires.1
-          at-loop.loop.invariant.3 at-load-moved.Load-moved.ensures at-load-moved2.load-moved2.ensures _
-          at-write-equality-rows.write-equality-rows.ensures at-m.m.given.1,
+      λ body-count J ia ib S. wrote-again _ _ c.args.moved _ _ body-count J ia ib S
+          c.loop-k.k _ _ (c.loop-k.invariant.4 body-count J ia ib S) c.loop-k-test.true (omega arith) c.requires.1
+          c.loop-k.invariant.3 at-load-moved.load_moved-a.ensures c.load_moved-b.ensures _
+          c.write_equality_rows.ensures c.in-Rows.is,
     )
 
-pub write-rows-spec : {M : Type 1} → statement M
-write-rows-spec =
+pub write_rows_spec : {M : Type 1} → statement M
+write_rows_spec =
     tie.close (tie.spec
     invariant-loop decreases-loop loop-holds (λ c. omega arith) (λ c. omega arith) load-moved-requires load-moved-requires-2
     (λ c. omega arith) (λ c. omega arith) (λ c κs. omega arith) (λ c. search rules) add-n (λ c. search rules)
     (λ c. omega arith) returns (λ c. search rules) (λ c. omega arith) returns-2 add-k (λ c. omega arith)
-    loop-again (λ c. omega arith) (λ c body-count J ia ib S. let at-loop = c.before in search (wrote-ends, at-loop.loop.invariant.4)))
+    loop-again (λ c. omega arith) (λ c body-count J ia ib S. search (wrote-ends, c.loop-k.invariant.4)))

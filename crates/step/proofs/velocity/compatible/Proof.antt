@@ -10,14 +10,14 @@ use Rattle.step.proofs.VelocityLaws.{small, small_is, compatible-fails, compatib
 use Rattle.step.proofs.velocity.compatible.Statement.{statement}
 use Rattle.step.proofs.velocity.compatible.Tie as tie
 
-abbrev invariant-loop : tie.invariant-loop
+abbrev invariant-loop : tie.invariant-loop-k
 invariant-loop s n k₀ k = (k ≤ n) × (true ≡ every k (small s n))
 
-abbrev decreases-loop : tie.decreases-loop
+abbrev decreases-loop : tie.decreases-loop-k
 decreases-loop s n k₀ k = n - k
 
-pub compatible-spec : {M : Type 1} → statement M
-compatible-spec =
+pub compatible_spec : {M : Type 1} → statement M
+compatible_spec =
     tie.close (tie.spec
     invariant-loop decreases-loop (λ c. (omega arith, every-none _)) (λ c. omega arith) (λ c. omega arith)
     (λ c. omega arith) (λ c κs. omega arith) (λ c. search (compatible-fails, small_is, tenth-12)) (λ c. omega arith)

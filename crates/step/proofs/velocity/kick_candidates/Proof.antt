@@ -10,44 +10,37 @@ use Rattle.step.proofs.VelocityLaws.{Kicked, kick-none, kick-again, kick-stops, 
 use Rattle.step.proofs.velocity.kick_candidates.Statement.{statement}
 use Rattle.step.proofs.velocity.kick_candidates.Tie as tie
 
-abbrev invariant-loop : tie.invariant-loop
+abbrev invariant-loop : tie.invariant-loop-k
 invariant-loop s₀ body-count k₀ s k = (k ≤ body-count) × (length s ≡ length s₀) × (Kicked s₀ body-count k s)
 
-abbrev decreases-loop : tie.decreases-loop
+abbrev decreases-loop : tie.decreases-loop-k
 decreases-loop s₀ body-count k₀ s k = body-count - k
 
-returns : tie.Need-returns invariant-loop decreases-loop
+returns : tie.Need-returns-then-not-done invariant-loop decreases-loop
 returns c =
-    let at_done = c.before in let at-kick = at_done.before in let at-load-candidate = at-kick.before in
-    let at-load-generalized = at-load-candidate.before.before in let at_test = at-load-generalized.before.before in
-    let at-loop = at_test.before in let at_entry = at-loop.before.before in
-    let end = at-kick.kick.result.outcome in
-    does-eq (fails _ end at_done.done.ensures c.if1.true)
-    (kick-stops _ _ at-loop.loop.invariant.2 at_test.loop-test.true at_entry.requires.1 at-load-generalized.load-generalized.ensures
-    at-load-candidate.load-candidate.ensures refl
-    (end-stops _ end at_done.done.ensures (answered at-kick.kick.ensures) c.if1.true))
+    let end = c.kick-kicked.result.outcome in
+    does-eq (fails _ end c.done.ensures c.if-not-done.true)
+    (kick-stops _ _ c.loop-k.invariant.2 c.loop-k-test.true c.requires.1 c.load_generalized-share.ensures
+    c.load_candidate.ensures refl
+    (end-stops _ end c.done.ensures (answered c.kick-kicked.ensures) c.if-not-done.true))
 
-loop-again : tie.Need-loop-preserved invariant-loop decreases-loop
+loop-again : tie.Need-loop-k-preserved invariant-loop decreases-loop
 loop-again c =
-    let at-store-candidate = c.before.before in let at-if1 = at-store-candidate.before.before in let at_done = at-if1.before in
-    let at-kick = at_done.before in let at-load-candidate = at-kick.before in
-    let at-load-generalized = at-load-candidate.before.before in let at_test = at-load-generalized.before.before in
-    let at-loop = at_test.before in let at_entry = at-loop.before.before in (
+    (
       omega arith,
       omega arith,
-      kick-again _ _ at-loop.loop.invariant.2 at_test.loop-test.true at_entry.requires.1 at-load-generalized.load-generalized.ensures
-          at-load-candidate.load-candidate.ensures refl
-          (end_goes _ at-kick.kick.result.outcome at_done.done.ensures (answered at-kick.kick.ensures) at-if1.if1.false)
-          at-store-candidate.store-candidate.ensures,
+      kick-again _ _ c.loop-k.invariant.2 c.loop-k-test.true c.requires.1 c.load_generalized-share.ensures
+          c.load_candidate.ensures refl
+          (end_goes _ c.kick-kicked.result.outcome c.done.ensures (answered c.kick-kicked.ensures) c.if-not-done.false)
+          c.store_candidate.ensures,
     )
 
-returns-2 : tie.Need-returns-2 invariant-loop decreases-loop
+returns-2 : tie.Need-returns invariant-loop decreases-loop
 returns-2 c =
-    let at-loop = c.before in let at_entry = at-loop.before.before in
-    kick-ends _ _ at-loop.loop.invariant.2 (omega arith) c.loop-test.false at_entry.requires.1
+    kick-ends _ _ c.loop-k.invariant.2 (omega arith) c.loop-k-test.false c.requires.1
 
-pub kick-candidates-spec : {M : Type 1} → statement M
-kick-candidates-spec =
+pub kick_candidates_spec : {M : Type 1} → statement M
+kick_candidates_spec =
     tie.close (tie.spec
     invariant-loop decreases-loop (λ c. (omega arith, refl, kick-none _ _)) (λ c κs. omega arith) (λ c κs. omega arith) (λ c κs. omega arith)
     (λ c κs. search rules) (λ c. omega arith) returns (λ c κs. omega arith) (λ c. omega arith) (λ c. omega arith) loop-again

@@ -4,11 +4,10 @@ use Rattle.step.proofs.VelocityLaws.{motion-known}
 use Rattle.step.proofs.velocity.motion_again.Statement.{statement}
 use Rattle.step.proofs.velocity.motion_again.Tie as tie
 
-returns : tie.Need-returns
+returns : tie.Need-returns-then-last-k
 returns c =
-    let at_entry = c.before.before.before in
-    motion-known at_entry.requires.2 c.if1.true at_entry.requires.1
+    motion-known c.requires.2 c.if-last-k.true c.requires.1
 
-pub motion-again-spec : {M : Type 1} → statement M
-motion-again-spec =
+pub motion_again_spec : {M : Type 1} → statement M
+motion_again_spec =
     tie.close (tie.spec returns (λ c κs. search rules) (λ c. search rules))

@@ -6,9 +6,8 @@ use Rattle.step.proofs.velocity.motion_of.Tie as tie
 
 returns : tie.Need-returns
 returns c =
-    let at-div = c.before in let at-load-candidate = at-div.before in
-    motion-made at-load-candidate.load-candidate.ensures at-div.div.ensures c.omega.ensures.is
+    motion-made c.load_candidate-body.ensures c.div.ensures c.omega.ensures.is
 
-pub motion-of-spec : {M : Type 1} → statement M
-motion-of-spec =
+pub motion_of_spec : {M : Type 1} → statement M
+motion_of_spec =
     tie.close (tie.spec (λ c κs. search rules) (λ c κs. search rules) (λ c κs. search rules) returns)

@@ -9,8 +9,8 @@ use Rattle.step.proofs.velocity.velocity_pass.Tie as tie
 correct-requires : tie.Need-correct-requires
 correct-requires c κs = record { ready = search rules; long = search rules }
 
-pub velocity-pass-spec : {M : Type 1} → statement M
-velocity-pass-spec =
+pub velocity_pass_spec : {M : Type 1} → statement M
+velocity_pass_spec =
     tie.close (tie.spec
     (λ c κs. search rules) (λ c κs. search rules) (λ c κs. search rules) (λ c. omega arith)
     (λ c joints. search (passed_is, rates-fail)) (λ c κs. search rules) (λ c κs. search rules) (λ c. omega arith)
