@@ -49,54 +49,45 @@ calls t = (
 )
 
 -- each record's bytes are there
-sub-read-on : (t : ℕ) → read-on-lts.Need-overflow-sub-read-on (calls t) (read-on-at t) read-on.Post
+sub-read-on : (t : ℕ) → read-on-lts.Need-slice_bounds-read_on-count (calls t) (read-on-at t) read-on.Post
 sub-read-on t c = search room-time-step
 
-sub-read-on-2 : (t : ℕ) → read-on-lts.Need-overflow-sub-read-on-2 (calls t) (read-on-at t) read-on.Post
+sub-read-on-2 : (t : ℕ) → read-on-lts.Need-slice_bounds-read_on-count-in-Body (calls t) (read-on-at t) read-on.Post
 sub-read-on-2 t c =
-    let at_head = c.before.before in
-    (room-body _ _ _ _ at_head.head.ensures c.enum-told3.given.1).0
+    (room-body _ _ _ _ c.head.ensures c.in-Body.is).0
 
-sub-read-on-3 : (t : ℕ) → read-on-lts.Need-overflow-sub-read-on-3 (calls t) (read-on-at t) read-on.Post
+sub-read-on-3 : (t : ℕ) → read-on-lts.Need-slice_bounds-read_on-count-in-Joint (calls t) (read-on-at t) read-on.Post
 sub-read-on-3 t c =
-    let at_n = c.before in let at_head = at_n.before.before in
-    (length-joint _ _ _ _ at_head.head.ensures at_n.n.given.1).0
+    (length-joint _ _ _ _ c.head.ensures c.in-Joint.is).0
 
-with-time-step-requires : (t : ℕ) → read-on-lts.Need-with-time-step-requires (calls t) (read-on-at t) read-on.Post
+with-time-step-requires : (t : ℕ) → read-on-lts.Need-with_time_step-requires (calls t) (read-on-at t) read-on.Post
 with-time-step-requires t c κs =
-    let at_told = c.before.before in let at_entry = at_told.before.before.before.before in
-    omega (arith, sub-read-on t at_told, at_entry.requires.1)
+    let at_told = c.before.before in omega (arith, sub-read-on t at_told, c.requires.1)
 
-read-on-requires : (t : ℕ) → read-on-lts.Need-read-on-requires (calls t) (read-on-at t) read-on.Post
+read-on-requires : (t : ℕ) → read-on-lts.Need-read_on-requires (calls t) (read-on-at t) read-on.Post
 read-on-requires t c κs =
-    let at_told = c.before.before.before in let at_entry = at_told.before.before.before.before in
-    rest-asked at_entry.args.file.now _ (omega arith) (sub-read-on t at_told) c.with-time-step.ensures refl at_entry.requires
+    let at_told = c.before.before.before in rest-asked c.args.file.now _ (omega arith) (sub-read-on t at_told) c.with_time_step.ensures refl c.requires
 
-with-body-requires : (t : ℕ) → read-on-lts.Need-with-body-requires (calls t) (read-on-at t) read-on.Post
+with-body-requires : (t : ℕ) → read-on-lts.Need-with_body-requires (calls t) (read-on-at t) read-on.Post
 with-body-requires t c κs =
-    let at_told = c.before in let at_head = at_told.before.before in let at_entry = at_head.before.before in
-    let room = room-body _ _ _ _ at_head.head.ensures at_told.enum-told3.given.1 in
-    (omega (arith, room.0, at_entry.requires.1), room.1)
+    let room = room-body _ _ _ _ c.head.ensures c.in-Body.is in
+    (omega (arith, room.0, c.requires.1), room.1)
 
-read-on-requires-2 : (t : ℕ) → read-on-lts.Need-read-on-requires-2 (calls t) (read-on-at t) read-on.Post
+read-on-requires-2 : (t : ℕ) → read-on-lts.Need-read_on-requires-in-Body (calls t) (read-on-at t) read-on.Post
 read-on-requires-2 t c κs =
-    let at_told = c.before.before in let at_entry = at_told.before.before.before.before in
-    rest-asked at_entry.args.file.now _ (omega arith) (sub-read-on-2 t at_told) c.with-body.ensures refl at_entry.requires
+    let at_told = c.before.before in rest-asked c.args.file.now _ (omega arith) (sub-read-on-2 t at_told) c.with_body.ensures refl c.requires
 
-with-joint-requires : (t : ℕ) → read-on-lts.Need-with-joint-requires (calls t) (read-on-at t) read-on.Post
+with-joint-requires : (t : ℕ) → read-on-lts.Need-with_joint-requires (calls t) (read-on-at t) read-on.Post
 with-joint-requires t c κs =
-    let at_long = c.before in let at_n = at_long.before in let at_head = at_n.before.before in
-    let at_entry = at_head.before.before in
-    (omega (arith, sub-read-on-3 t at_long, at_entry.requires.1), (room-joint _ _ _ _ at_head.head.ensures at_n.n.given.1).1)
+    let at_long = c.before in (omega (arith, sub-read-on-3 t at_long, c.requires.1), (room-joint _ _ _ _ c.head.ensures c.in-Joint.is).1)
 
-read-on-requires-3 : (t : ℕ) → read-on-lts.Need-read-on-requires-3 (calls t) (read-on-at t) read-on.Post
+read-on-requires-3 : (t : ℕ) → read-on-lts.Need-read_on-requires-in-Joint (calls t) (read-on-at t) read-on.Post
 read-on-requires-3 t c κs =
-    let at_n = c.before.before.before in let at_head = at_n.before.before in let at_entry = at_head.before.before in
-    let long = length-joint _ _ _ _ at_head.head.ensures at_n.n.given.1 in
-    rest-asked at_entry.args.file.now _ (omega (arith, long.1)) long.0 c.with-joint.ensures refl at_entry.requires
+    let long = length-joint _ _ _ _ c.head.ensures c.in-Joint.is in
+    rest-asked c.args.file.now _ (omega (arith, long.1)) long.0 c.with_joint.ensures refl c.requires
 
-pub +read-on-spec : {M : Type 1} → statement M
-+read-on-spec =
+pub +read_on_spec : {M : Type 1} → statement M
++read_on_spec =
     close μ-read-on λ t.
     read-on-lts.spec (calls t) (read-on-at t) read-on.Post
     (λ c κs. search rules) (λ c. search rules) (λ c κs. search rules) (λ c. search rules) (λ c. search rules)

@@ -4,5 +4,5 @@ use borrow.Author.Rules.{rules}
 use Rattle.plan.proofs.reader.filled.Statement.{statement}
 use Rattle.plan.proofs.reader.filled.Tie as tie
 
-pub filled-spec : {M : Type 1} → statement M
-filled-spec = tie.close (tie.spec (λ c. search rules) (λ c κs. search rules) (λ c κs. search rules) (λ c. search filled_is))
+pub filled_spec : {M : Type 1} → statement M
+filled_spec = tie.close (tie.spec (λ c. search rules) (λ c κs. search rules) (λ c κs. search rules) (λ c. search filled_is))

@@ -10,33 +10,30 @@ use Rattle.plan.specs.File.{TABLE}
 use Rattle.plan.proofs.reader.put_bodies.Statement.{statement}
 use Rattle.plan.proofs.reader.put_bodies.Tie as tie
 
-abbrev invariant-loop : tie.invariant-loop
+abbrev invariant-loop : tie.invariant-loop-k
 invariant-loop table₀ file body-count places k₀ table k = (k ≤ body-count) × (length table ≡ TABLE) × (table ≡ bodies_from file places k table₀)
 
-abbrev decreases-loop : tie.decreases-loop
+abbrev decreases-loop : tie.decreases-loop-k
 decreases-loop table₀ file body-count places k₀ table k = body-count - k
 
-sub-put-body : tie.Need-overflow-sub-put-body invariant-loop decreases-loop
+sub-put-body : tie.Need-slice_bounds-put_body-count invariant-loop decreases-loop
 sub-put-body c =
-    let at_test = c.before in let at-loop = at_test.before in let at_entry = at-loop.before.before.before in
-    body-within _ _ (at_entry.requires.1 at-loop.loop.k at_test.loop-test.true)
+    body-within _ _ (c.requires.1 c.loop-k.k c.loop-k-test.true)
 
-put-body-requires : tie.Need-put-body-requires invariant-loop decreases-loop
+put-body-requires : tie.Need-put_body-requires invariant-loop decreases-loop
 put-body-requires c κs =
-    let at_test = c.before.before in let at-loop = at_test.before in let at_entry = at-loop.before.before.before in
-    let k = at-loop.loop.k in
-    let there = body-there at_entry.args.file.now (get_or at_entry.args.t3 k 0) (at_entry.requires.1 k at_test.loop-test.true) in
-    (there, omega (arith, at-loop.loop.invariant.1))
+    let k = c.loop-k.k in
+    let there = body-there c.args.file.now (get_or c.args.places k 0) (c.requires.1 k c.loop-k-test.true) in
+    (there, omega (arith, c.loop-k.invariant.1))
 
-loop-again : tie.Need-loop-preserved invariant-loop decreases-loop
+loop-again : tie.Need-loop-k-preserved invariant-loop decreases-loop
 loop-again c =
-    let at-put = c.before.before in let at_test = at-put.before.before.before in let at-loop = at_test.before in
-    let inv = at-loop.loop.invariant in
-    (omega (arith, at_test.loop-test.true), at-put.put-body.auto.0 ∙ inv.1, search bodies-more)
+    let inv = c.loop-k.invariant in
+    (omega (arith, c.loop-k-test.true), c.put_body.auto.bodies ∙ inv.1, search bodies-more)
 
-pub put-bodies-spec : {M : Type 1} → statement M
-put-bodies-spec =
+pub put_bodies_spec : {M : Type 1} → statement M
+put_bodies_spec =
     tie.close (tie.spec
-    invariant-loop decreases-loop (λ c. let at_entry = c.before.before in (omega arith, at_entry.requires.0.1, turns-none _ _)) (λ c. omega arith)
+    invariant-loop decreases-loop (λ c. (omega arith, c.requires.0.1, turns-none _ _)) (λ c. omega arith)
     (λ c. omega arith) (λ c. omega arith) sub-put-body (λ c. omega (arith, sub-put-body c)) (λ c. omega arith)
     put-body-requires (λ c. omega arith) (λ c. omega arith) loop-again (λ c. omega arith) (λ c. search turns-end))

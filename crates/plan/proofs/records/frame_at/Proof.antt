@@ -4,8 +4,8 @@ use borrow.Author.Rules.{rules}
 use Rattle.plan.proofs.records.frame_at.Statement.{statement}
 use Rattle.plan.proofs.records.frame_at.Tie as tie
 
-pub frame-at-spec : {M : Type 1} → statement M
-frame-at-spec =
+pub frame_at_spec : {M : Type 1} → statement M
+frame_at_spec =
     tie.close (tie.spec
     (λ c κs. search rules) (λ c. search rules) (λ c κs. search rules) (λ c. search rules)
     (λ c κs. search rules) (λ c. search rules) (λ c κs. search rules) (λ c. search rules)

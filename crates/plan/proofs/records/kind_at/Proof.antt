@@ -5,13 +5,12 @@ use Rattle.plan.proofs.RecordLaws.{kind-ball, kind-hinge, kind-cylindrical, kind
 use Rattle.plan.proofs.records.kind_at.Statement.{statement}
 use Rattle.plan.proofs.records.kind_at.Tie as tie
 
-shared-slice-read-match : tie.Need-shared-slice-read-match
+shared-slice-read-match : tie.Need-bounds-file-4
 shared-slice-read-match c =
-    let at_entry = c.before.before in
-    omega (arith, there at_entry.args.file.now at_entry.requires)
+    omega (arith, there c.args.file.now c.requires)
 
-pub kind-at-spec : {M : Type 1} → statement M
-kind-at-spec =
+pub kind_at_spec : {M : Type 1} → statement M
+kind_at_spec =
     tie.close (tie.spec
     shared-slice-read-match (λ c κs. search there-distance) (λ c κs. search there-cone)
     (λ c. search kind-ball) (λ c. search kind-hinge) (λ c. search kind-cylindrical) (λ c. search kind-planar)
