@@ -12,8 +12,8 @@ use Rattle.report.proofs.step_and_report.Tie as tie
 long : (c : tie.Start) → length c.args.plan.bodies ≡ TABLE
 long c = search rules
 
-pub step-and-report-spec : {M : Type 1} → statement M
-step-and-report-spec =
+pub step_and_report_spec : {M : Type 1} → statement M
+step_and_report_spec =
     tie.close (tie.spec
     (λ c. search rules) (λ c. search (part-within, long)) (λ c. search (part_length, long)) (λ c κs. search rules)
     (λ c κs. search rules) (λ c. search (back-within, long)) (λ c. search (back-length, long)) (λ c κs. search rules)

@@ -4,7 +4,7 @@ use borrow.Author.Rules.{rules}
 use Rattle.report.proofs.text.bits_of.Statement.{statement}
 use Rattle.report.proofs.text.bits_of.Tie as tie
 
-pub bits-of-spec : {M : Type 1} → statement M
-bits-of-spec =
+pub bits_of_spec : {M : Type 1} → statement M
+bits_of_spec =
     tie.close (tie.spec
     (λ c. search number) (λ c. search rules) (λ c. search no_number))

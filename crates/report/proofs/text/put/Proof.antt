@@ -8,16 +8,15 @@ use lib.Seq.{paste}
 use Rattle.report.proofs.text.put.Statement.{statement}
 use Rattle.report.proofs.text.put.Tie as tie
 
-abbrev invariant-loop : tie.invariant-loop
+abbrev invariant-loop : tie.invariant-loop-i
 invariant-loop out₀ at text i₀ out i = (i ≤ length text) × (length out ≡ length out₀) × (out ≡ paste out₀ at text i)
 
-abbrev decreases-loop : tie.decreases-loop
+abbrev decreases-loop : tie.decreases-loop-i
 decreases-loop out₀ at text i₀ out i = length text - i
 
-loop-again : tie.Need-loop-preserved invariant-loop decreases-loop
+loop-again : tie.Need-loop-i-preserved invariant-loop decreases-loop
 loop-again c =
-    let at-loop = c.before.before in
-    let inv = at-loop.loop.invariant in
+    let inv = c.loop-i.invariant in
     (omega arith, simp length-set inv.1, search copy_more)
 
 pub put_spec : {M : Type 1} → statement M

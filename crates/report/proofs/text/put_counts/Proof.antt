@@ -4,14 +4,12 @@ use borrow.Author.Rules.{rules}
 use Rattle.report.proofs.text.put_counts.Statement.{statement}
 use Rattle.report.proofs.text.put_counts.Tie as tie
 
-put-requires-2 : tie.Need-put-requires-2
+put-requires-2 : tie.Need-put-requires
 put-requires-2 c κs =
-    let at-put-decimal2 = c.before.before.before.before in let at-put = at-put-decimal2.before.before.before.before in
-    let at-put-decimal = at-put.before.before.before.before.before in let at_entry = at-put-decimal.before.before.before in
-    counts-after-second _ at_entry.requires at-put-decimal.put-decimal.ensures at-put.put.ensures _ at-put-decimal2.put-decimal2.ensures
+    counts-after-second _ c.requires c.put_decimal-a.ensures c.put-b.ensures _ c.put_decimal-c.ensures
 
-pub put-counts-spec : {M : Type 1} → statement M
-put-counts-spec =
+pub put_counts_spec : {M : Type 1} → statement M
+put_counts_spec =
     tie.close (tie.spec
-    (λ c κs. search rules) (λ c. search rules) (λ c κs. search counts-after-first) (λ c κs. search counts-after-space)
-    (λ c. search rules) put-requires-2 (λ c. search rules) (λ c. search counts-puts))
+    (λ c κs. search rules) (λ c κs. search counts-after-first) (λ c κs. search counts-after-space)
+    put-requires-2 (λ c. search rules) (λ c. search counts-puts))
