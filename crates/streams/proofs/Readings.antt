@@ -9,17 +9,17 @@ use lib.IntN.{ℤ, pos, negsuc}
 use lib.ListN.{length, drop, take}
 use lib.Seq.{paste, drop-paste, drop-drop, take_at, length-take-le}
 use borrow.Author.Tests.{lt-ltb, le-ltb, le-leb, lt-leb}
-use Rattle.libc.specs.Io.{Moved}
 use Rattle.streams.specs.declared.Got.{Got}
 use Rattle.streams.specs.declared.Read.{Read}
 use Rattle.streams.specs.declared.Got.TheVariants.{Bytes}
-use Rattle.streams.specs.Receive.{got_of, bytes_in, is_more, Reads, Receives}
+use Rattle.std.specs.Prelude.{Result, Ok, Err, IfOk}
+use Rattle.streams.specs.Receive.{answer_of, got_of, bytes_in, is_more, Reads, Receives}
 
 -- a read brings no more bytes than it was asked for
-pub moved-most : {n : ℕ} (z : ℤ) → Moved n z → bytes_in (got_of z) ≤ n
-moved-most {n} (pos zero) h = h
-moved-most {n} (pos (suc k)) h = h
-moved-most {n} (negsuc k) h = omega arith
+pub read_most : {E : Type 0} (r : Result ℕ E) (n : ℕ) → IfOk r (λ k. k ≤ n) → bytes_in (got_of (answer_of r)) ≤ n
+read_most (Ok zero) n h = omega arith
+read_most (Ok (suc k)) n h = h
+read_most (Err e) n h = omega arith
 
 more-some : (z : ℤ) → is_more (got_of z) ≡ ltb 0 (bytes_in (got_of z))
 more-some (pos zero) = refl

@@ -1,12 +1,17 @@
--- What a reading of a descriptor answers. Of the bytes that come nothing is said, since the contract of the C library's `read`
+-- What a reading of an input answers. Of the bytes that come nothing is said, since the contract of standard input's `read`
 -- says nothing of them.
-use Rattle.std.specs.Prelude.{ℕ, zero, suc, ◌+◌, ◌≤◌, ◌<◌, ◌≡◌, Bool, true, false, List, leb, ℤ, pos, negsuc, length, take, drop}
+use Rattle.std.specs.Prelude.{ℕ, Result, Ok, Err, zero, suc, ◌+◌, ◌≤◌, ◌<◌, ◌≡◌, Bool, true, false, List, leb, ℤ, pos, negsuc, length, take, drop}
 use Rattle.streams.specs.declared.Got.{Got}
 use Rattle.streams.specs.declared.Got.TheVariants.{Failed, Ended, Bytes}
 use Rattle.streams.specs.declared.Read.{Read}
 use Rattle.streams.specs.declared.Received.{Received}
 
--- what `read`'s answer says: below 0 it failed, 0 is the end, and any other counts bytes
+-- what a read answered as one number: how many bytes it brought, or -1 where it failed
+abbrev pub answer_of : {E : Type 0} → Result ℕ E → ℤ
+answer_of (Ok n) = pos n
+answer_of (Err e) = negsuc 0
+
+-- what that answer says: below 0 it failed, 0 is the end, and any other counts bytes
 abbrev pub got_of : ℤ → Got
 got_of (negsuc k) = Failed
 got_of (pos zero) = Ended

@@ -1,10 +1,12 @@
-// Reading a descriptor until it ends, with a failed read told from the end of the input, and a line on standard error where
+// Reading an input until it ends, with a failed read told from the end of the input, and a line on standard error where
 // something could not be done.
-ghost use Rattle.std.specs.Prelude.{◌+◌, ◌≤◌, ◌<◌, ◌≡◌, length, replicate};
-ghost use Rattle.std.proofs.Math.Seq.{paste};
-ghost use Rattle.streams.specs.Receive.{got_of, bytes_in, is_failed, Reads, Receives};
+#![tactic(auto)]
 
-use libc::STDERR_FILENO;
+ghost use Rattle.std.specs.Prelude.{◌+◌, ◌≤◌, ◌<◌, ◌≡◌, ◌^◌, IfOk, length, replicate};
+ghost use Rattle.std.proofs.Math.Seq.{paste};
+ghost use Rattle.streams.specs.Receive.{answer_of, got_of, bytes_in, is_failed, Reads, Receives};
+
+use std::io;
 
 // What one read met: it failed, the input had ended, or so many bytes came.
 #[derive(Clone, Copy)]
@@ -14,16 +16,17 @@ pub enum Got {
     Bytes(usize),
 }
 
-// One read: the C library's answer as it stands, and what it says.
+// One read: its answer, and what that says.
 #[derive(Drop)]
 struct Read {
     answer: isize,
     got: Got,
 }
 
-// How many bytes came in all, what the last read met, and the C library's answer that says so. Where it met neither failure nor
-// the end, the buffer is full. That `answer` is what the C library answered, no contract can say: nothing names it afterwards.
-#[derive(Drop)]
+// How many bytes came in all, what the last read met, and that read's answer, which says so: how many bytes it brought, or −1
+// where it failed. Where it met neither failure nor the end, the buffer is full. That `answer` is what the read answered, no
+// contract can say: nothing names it afterwards.
+#[derive(Clone, Copy)]
 pub struct Received {
     pub count: usize,
     pub last: Got,
@@ -31,33 +34,33 @@ pub struct Received {
 }
 
 // The first bytes of an input, and how they came. Those behind `got.count` are 0.
-#[derive(Drop)]
+#[derive(Clone, Copy)]
 pub struct Input {
     pub bytes: [u8; 8192],
     pub got: Received,
 }
 
-// The first 8,192 bytes of a descriptor.
-pub fn receive(fd: i32) -> Input
+// The first 8,192 bytes of an input.
+pub fn receive<R: io::Read>(from: &mut R) -> Input
     ensures { Receives (replicate 8192 0) result.bytes result.got }
 {
     let mut bytes = [0u8; 8192];
-    let got = read_all(fd, &mut bytes);
+    let got = read_all(from, &mut bytes);
     Input { bytes, got }
 }
 
 // Reads until the buffer is full, the input ends or a read fails. Into a buffer with no room nothing is read: `last` is
 // `Bytes(0)`, and `answer` is 0.
-pub fn read_all(fd: i32, buffer: &mut [u8]) -> Received
+pub fn read_all<R: io::Read>(from: &mut R, buffer: &mut [u8]) -> Received
     ensures { Receives buffer.old buffer.new result }
 {
-    let mut space = io::buffer();
+    let mut space = [0u8; 4096];
     let chunk: &mut [u8] = &mut space;
     let mut count = 0;
     let mut last = Got::Bytes(0);
     let mut answer = 0;
     while count < buffer.len() {
-        let read = read_to(fd, buffer, count, chunk);
+        let read = read_to(from, buffer, count, chunk);
         last = read.got;
         answer = read.answer;
         let n = bytes(last);
@@ -79,15 +82,26 @@ pub fn read_all(fd: i32, buffer: &mut [u8]) -> Received
 
 // One read into the buffer from `at` on. It goes by way of `chunk`, so that no byte of the buffer changes but those that
 // came.
-fn read_to(fd: i32, buffer: &mut [u8], at: usize, chunk: &mut [u8]) -> Read
+fn read_to<R: io::Read>(from: &mut R, buffer: &mut [u8], at: usize, chunk: &mut [u8]) -> Read
     requires { (at < length buffer.old) × (0 < length chunk.old) }
     ensures { Reads buffer.old at buffer.new result }
 {
     let n = least(buffer.len() - at, chunk.len());
-    let answer = libc::read(fd, &mut chunk[..n]);
+    let answer = answered(from.read(&mut chunk[..n]));
     let got = met(answer);
     copy(chunk, bytes(got), buffer, at);
     Read { answer, got }
+}
+
+// A read's answer as one number: how many bytes it brought, or −1 where it failed.
+fn answered(read: io::Result<usize>) -> isize
+    requires { IfOk read (λ n. n < 2 ^ 63) }
+    ensures { result ≡ answer_of read }
+{
+    match read {
+        Ok(n) => n as isize,
+        Err(_) => -1,
+    }
 }
 
 // What a read's answer says.
@@ -143,6 +157,8 @@ fn least(a: usize, b: usize) -> usize
 }
 
 // A line on standard error. Where that fails too, nothing is left to be done.
-pub fn complain(line: &[u8]) {
-    io::write_all(STDERR_FILENO, line);
+pub fn complain<W: io::Write>(to: &mut W, line: &[u8]) {
+    match to.write_all(line) {
+        _ => {}
+    }
 }

@@ -17,10 +17,10 @@ module _ (to : List ℕ) (at : ℕ) (from : List ℕ) (n i : ℕ) {now : List �
   all : i ≤ n → n ≤ i → now ≡ paste to at from i → now ≡ paste to at from n
   all h g e = let same : i ≡ n = omega arith in e ∙ ap (paste to at from) same
 
-abbrev invariant-loop : tie.invariant-loop
+abbrev invariant-loop : tie.invariant-loop-i
 invariant-loop from n to₀ at i₀ to i = (length to ≡ length to₀) × (i ≤ n) × (to ≡ paste to₀ at from i)
 
-abbrev decreases-loop : tie.decreases-loop
+abbrev decreases-loop : tie.decreases-loop-i
 decreases-loop from n to₀ at i₀ to i = n - i
 
 pub copy_spec : {M : Type 1} → statement M
@@ -28,5 +28,5 @@ copy_spec =
     tie.close (tie.spec
     invariant-loop decreases-loop (λ c. (refl, zero-le, search paste-zero)) (λ c. omega arith) (λ c. omega arith) (λ c. omega arith)
     (λ c. omega arith) (λ c. omega arith)
-    (λ c. let at-loop = c.before.before in (simp length-set at-loop.loop.invariant.0, omega arith, search more))
+    (λ c. (simp length-set c.loop-i.invariant.0, omega arith, search more))
     (λ c. omega arith) (λ c. search all))
