@@ -5,11 +5,13 @@
 //
 // What `send` is handed is proved to be the text for the input that `main` received. What no proof says of reading and writing
 // is listed in README, "What is left unproved".
+#![tactic(auto)]
+
 ghost use Rattle.std.specs.Prelude.{◌≡◌};
 ghost use Rattle.io.specs.Counts.{IsPrefixLen};
 ghost use Rattle.pose.specs.Reply.{printed, reply_of};
 
-use libc::{STDIN_FILENO, STDOUT_FILENO};
+use std::io::Write;
 use step::layout::SCRATCH;
 use streams::Input;
 
@@ -20,12 +22,13 @@ struct Reply {
     count: usize,
 }
 
-fn main() {
-    let input = streams::receive(STDIN_FILENO);
+fn main(rt: HostRuntime) {
+    let mut stdin = rt.stdin();
+    let input = streams::receive(&mut stdin);
     let reply = reply_to(input);
     let bytes = reply.bytes;
     let count = reply.count;
-    send(input, &bytes[..count]);
+    send(rt, input, &bytes[..count]);
 }
 
 // The answer to what was received; after a failed read there is none.
@@ -48,16 +51,19 @@ fn reply_to(input: Input) -> Reply
 }
 
 // Writes the text for an input; what cannot be read or written is said on standard error.
-fn send(input: Input, text: &[u8])
+fn send(rt: HostRuntime, input: Input, text: &[u8])
     requires { text.now ≡ printed input }
 {
     let got = input.got;
     let last = got.last;
+    let mut stderr = rt.stderr();
     if streams::failed(last) {
-        streams::complain(b"pose: standard input could not be read\n");
+        streams::complain(&mut stderr, b"pose: standard input could not be read\n");
         return;
     }
-    if !io::write_all(STDOUT_FILENO, text) {
-        streams::complain(b"pose: the answer could not be written whole\n");
+    let mut stdout = rt.stdout();
+    let sent = stdout.write_all(text);
+    if sent.is_err() {
+        streams::complain(&mut stderr, b"pose: the answer could not be written whole\n");
     }
 }
