@@ -1,7 +1,10 @@
 // Answers each plan of data/plans.bin as `pose` would: a length in two bytes, the least first, then the plan.
+#![tactic(auto)]
+
 ghost use Rattle.std.specs.Prelude.{◌<◌};
 
-use libc::STDOUT_FILENO;
+use std::fs::File;
+use std::io::{Read, Write};
 use step::layout::SCRATCH;
 use streams::Got;
 
@@ -21,16 +24,16 @@ fn joined(low: u8, high: u8) -> usize
 }
 
 // Reads and answers one plan.
-fn next(fd: i32) -> Round {
+fn next<R: Read, W: Write>(from: &mut R, to: &mut W) -> Round {
     let mut length = [0u8; 2];
-    let got = streams::read_all(fd, &mut length);
+    let got = streams::read_all(from, &mut length);
     let last = got.last;
     if got.count < 2 {
         return stopped(last, got.count);
     }
     let n = joined(length[0], length[1]);
-    let mut plan = io::large_buffer();
-    answer(fd, &mut plan[..n])
+    let mut plan = [0u8; 65536];
+    answer(from, to, &mut plan[..n])
 }
 
 // The file may end before a plan, and nowhere else.
@@ -44,25 +47,26 @@ fn stopped(last: Got, count: usize) -> Round {
     Round::Unread
 }
 
-fn answer(fd: i32, file: &mut [u8]) -> Round {
+fn answer<R: Read, W: Write>(from: &mut R, to: &mut W, file: &mut [u8]) -> Round {
     let mut scratch = [0.0f64; SCRATCH];
     let mut out = [0u8; 4096];
-    let got = streams::read_all(fd, file);
+    let got = streams::read_all(from, file);
     if got.count < file.len() {
         return Round::Unread;
     }
     let n = report::pose(file, &mut scratch, &mut out);
-    if io::write_all(STDOUT_FILENO, &out[..n]) {
+    let sent = to.write_all(&out[..n]);
+    if sent.is_ok() {
         return Round::Answered;
     }
     Round::Unwritten
 }
 
 // Nothing says that the file ends, so the loop counts its rounds down.
-fn replay(fd: i32) -> Round {
+fn replay<R: Read, W: Write>(from: &mut R, to: &mut W) -> Round {
     let mut rounds = u64::MAX;
     while rounds > 0 {
-        match next(fd) {
+        match next(from, to) {
             Round::Answered => {
                 rounds -= 1;
             }
@@ -74,18 +78,20 @@ fn replay(fd: i32) -> Round {
     Round::Over
 }
 
-fn main() {
-    let path = b"plans.bin";
-    let fd = os::open_read(path);
-    if fd < 0 {
-        os::fail(path);
-        return;
-    }
-    let end = replay(fd);
-    libc::close(fd);
-    match end {
-        Round::Unread => streams::complain(b"replay: plans.bin could not be read to its end\n"),
-        Round::Unwritten => streams::complain(b"replay: an answer could not be written whole\n"),
-        _ => {}
+fn main(rt: HostRuntime) {
+    let mut stderr = rt.stderr();
+    match File::open(&rt, "plans.bin") {
+        Ok(plans) => {
+            let mut from = plans;
+            let mut stdout = rt.stdout();
+            match replay(&mut from, &mut stdout) {
+                Round::Unread => streams::complain(&mut stderr, b"replay: plans.bin could not be read to its end\n"),
+                Round::Unwritten => streams::complain(&mut stderr, b"replay: an answer could not be written whole\n"),
+                _ => {}
+            }
+        }
+        Err(error) => match eprintln!(rt; "plans.bin: {error}") {
+            _ => {}
+        },
     }
 }

@@ -1,8 +1,10 @@
 // The worked examples of SPECIFICATION §15 that are not starred: each is stepped, and its report written.
+#![tactic(auto)]
+
 ghost use Rattle.std.specs.Prelude.{◌+◌, ◌≤◌, length};
 
-use libc::STDOUT_FILENO;
 use rows::geometry::{Joint, JointFrame, Kind};
+use std::io::Write;
 use step::layout::SCRATCH;
 use vectors::quaternion::Quat;
 use vectors::vector::Vec3;
@@ -45,51 +47,54 @@ fn balls() -> [Joint; 16] {
 }
 
 // Whether the report could be written whole.
-fn show(bodies: &mut [f64], count: usize, dt: f64) -> bool {
+fn show<W: Write>(to: &mut W, bodies: &mut [f64], count: usize, dt: f64) -> bool {
     let mut scratch = [0.0; SCRATCH];
     let mut out = [0u8; 4096];
     let answer = step::solve(bodies, balls(), count, dt, &mut scratch);
     let outcome = answer.outcome;
     let number = step::number(outcome);
     let n = report::text::report(number, answer.nonlinear, answer.linear, bodies, &mut out);
-    io::write_all(STDOUT_FILENO, &out[..n])
+    let sent = to.write_all(&out[..n]);
+    sent.is_ok()
 }
 
 // A body of this mass moves one metre in a step of one second.
-fn show_one(mass: f64) -> bool {
+fn show_one<W: Write>(to: &mut W, mass: f64) -> bool {
     let mut one = [0.0; 26];
     place(&mut one, 0, mass, 1.0);
-    show(&mut one, 0, 1.0)
+    show(to, &mut one, 0, 1.0)
 }
 
 // Two bodies at rest with so many joints that hold.
-fn show_two(count: usize) -> bool {
+fn show_two<W: Write>(to: &mut W, count: usize) -> bool {
     let mut two = [0.0; 52];
     place(&mut two, 0, 2.0, 0.0);
     place(&mut two, 26, 2.0, 0.0);
-    show(&mut two, count, 1.0)
+    show(to, &mut two, count, 1.0)
 }
 
 // All of them, as far as they can be written.
-fn show_all() -> bool {
+fn show_all<W: Write>(to: &mut W) -> bool {
     let mut none = [0.0; 0];
-    if !show_one(2.0) {
+    if !show_one(to, 2.0) {
         return false;
     }
-    if !show(&mut none, 0, 1.0) {
+    if !show(to, &mut none, 0, 1.0) {
         return false;
     }
-    if !show_two(16) {
+    if !show_two(to, 16) {
         return false;
     }
-    if !show_two(17) {
+    if !show_two(to, 17) {
         return false;
     }
-    show_one(0.0009765625)
+    show_one(to, 0.0009765625)
 }
 
-fn main() {
-    if !show_all() {
-        streams::complain(b"worked: a report could not be written whole\n");
+fn main(rt: HostRuntime) {
+    let mut stdout = rt.stdout();
+    if !show_all(&mut stdout) {
+        let mut stderr = rt.stderr();
+        streams::complain(&mut stderr, b"worked: a report could not be written whole\n");
     }
 }
