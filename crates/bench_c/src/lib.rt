@@ -1,4 +1,6 @@
 // The functions of `arith` and the whole of `pose` for Rust to link: tools/bench measures them. A refused argument gives 0.
+#![tactic(auto)]
+
 ghost use Rattle.std.specs.Prelude.{◌≡◌};
 ghost use Rattle.std.specs.Float.{binary64};
 ghost use Rattle.arith.specs.Root as Root;
