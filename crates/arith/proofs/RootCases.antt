@@ -1,7 +1,7 @@
 -- The cases of `root::sqrt`: which values pass the tests `0.0 < x` and `x == 0.0`, and what their bits are.
 use mathlib.Core.Path.{◌≡◌, refl, sym, ap, ◌∙◌, subst}
 use mathlib.Core.Bool.{Bool, true, false, not, cond, true≢false}
-use Prim.Native.Nat.{ℕ, zero, suc, ◌+◌, ◌-◌, ◌*◌, ◌/◌, ◌%◌, ◌≤◌, ◌<◌}
+use Prim.Native.Nat.{ℕ, zero, suc, ◌+◌, ◌*◌, ◌/◌, ◌%◌, ◌≤◌, ◌<◌}
 use native.Mathlib.Nat.{le_trans, lt_of_le_of_lt, not-le_of_lt, zero-lt-suc, zero-mul, mul-pos, mod-eq_of_lt, eq-zero-or-pos, mod-le, le-suc}
 use mathlib.Core.Logic.{inl, inr}
 use native.Mathlib.Omega.{arith}

@@ -12,7 +12,7 @@ use native.Mathlib.Omega.{arith}
 use Rattle.arith.specs.RealLaws.{finite-is, zero_left, not_zero_left, zero_is, no, no-below, below-zero}
 use Rattle.arith.specs.Laws.Rounding.{round-self}
 use Rattle.exact.specs.Compare.{lt_val, le_val}
-use Rattle.arith.specs.FlowLaws.{not_yes, not-no, cond_yes, cond_no}
+use Rattle.arith.specs.FlowLaws.{cond_yes, cond_no}
 use Prim.Native.Nat.{ℕ, zero, suc, ◌+◌, ◌-◌, ◌*◌}
 use Rattle.arith.specs.Real.{◌⊕◌, ◌⊖◌, ◌⊗◌, ◌⊘◌, F, is_finite, abs_of}
 use Rattle.arith.specs.Root.{sqrt}

@@ -1,6 +1,6 @@
 -- Laws of `Real`: finiteness and magnitude by comparison, as src/number.rt has them, and which doubles are 0 or below it.
 use Rattle.std.specs.Float.Ieee as Ieee
-use Rattle.std.specs.Prelude.{Float, ◌≡◌, refl, Bool, true, false, not, ◌&&◌, ◌||◌, ℕ, zero, suc, ◌+◌, ◌*◌, ◌<◌, ℤ, pos, T, ltb, eqb}
+use Rattle.std.specs.Prelude.{Float, ◌≡◌, refl, Bool, true, false, ◌&&◌, ◌||◌, ℕ, suc, ◌+◌, ◌*◌, ◌<◌, ℤ, pos, T, ltb, eqb}
 use Rattle.std.specs.Float.{nan, inf, fin, binary64}
 use Rattle.std.specs.Float.Ieee.{of_bits, up, down, lt, eq}
 use Rattle.std.proofs.Common.{sym, ap, ◌∙◌, subst, true≢false, zero-mul, mul-one, mul-pos, zero-lt-suc, lt_irrefl, not-suc-le-zero, lt_of_lt_of_le, le-add_right, ltb→lt, lt→ltb, eqb→eq}

@@ -1,4 +1,6 @@
 // The archive's arithmetic: one fixed formula for each function, so that every rerun gives the same bits.
+#![tactic(auto)]
+
 pub mod angle;
 mod near_one;
 pub mod number;

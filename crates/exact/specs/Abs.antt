@@ -1,5 +1,5 @@
 -- Absolute bounds: |z| ≤ e / U, where e is a natural number and U a fixed power of two. So a bound is computed with whole numbers alone.
-use Rattle.std.specs.Prelude.{◌≡◌, refl, Bool, true, false, not, [], ◌∷◌, ℕ, zero, suc, ◌+◌, ◌-◌, ◌*◌, ◌/◌, ◌^◌, ◌≤◌, ◌<◌, T}
+use Rattle.std.specs.Prelude.{◌≡◌, refl, Bool, true, false, not, [], ◌∷◌, ℕ, ◌+◌, ◌*◌, ◌/◌, ◌^◌, ◌≤◌, ◌<◌, T}
 use Rattle.std.proofs.Common.{sym, ap, ◌∙◌, subst, mul-le-mul_right, zero-lt-suc, le_of_lt, arith, lit≤, pow_pos}
 use mathlib.Core.Quot.{sound}
 use Rattle.std.proofs.Math.Nat.{lt-div-mul-add}

@@ -1,7 +1,7 @@
 -- Three ways to a fact about rational numbers by one computed test:
 -- `by-eqs`, an equation from equations, with a factor for each; `by-cert`, an order from what is not negative, by
 -- sums, products and squares of it; `bound`, an absolute bound on a polynomial in several variables.
-use Rattle.std.specs.Prelude.{◌≡◌, refl, List, [], ◌∷◌, Bool, true, false, not, ◌&&◌, ℕ, zero, suc, ◌+◌, ◌-◌, ◌*◌, ◌/◌, ◌≤◌, T, leb}
+use Rattle.std.specs.Prelude.{◌≡◌, refl, List, [], ◌∷◌, Bool, true, false, not, ◌&&◌, ℕ, zero, suc, ◌+◌, T, leb}
 use Rattle.std.proofs.Common.{sym, ap, ap₂, ◌∙◌, subst, zero-lt-suc, arith, leb→le}
 use Rattle.exact.specs.Rat.{ℚ, Fr, mk, qn, whole, leq, ◌+q◌, ◌-q◌, ◌*q◌, ◌≤q◌, ≤-mk, ≤q-sub, sub-≤q, ≤q-total, ≤q-refl, 0≤-add, 0≤-mul, +q-zero}
 use Rattle.exact.specs.Ring.{var, con, ◌:+◌, ◌:-◌, ◌:*◌, at, same, ring}

@@ -1,8 +1,7 @@
 -- The rational numbers: fractions (p - n) / d of natural numbers up to cross multiplication, as a set quotient, so that equality is a path.
 -- Their sum, product, difference and order (`leq` is a test). To believe are the definitions, not the proofs; laws are in `Rat`.
-use Rattle.std.specs.Prelude.{◌≡◌, refl, Bool, true, false, not, ℕ, zero, suc, ◌+◌, ◌*◌, ◌^◌, ◌≤◌, ◌<◌, T, leb}
+use Rattle.std.specs.Prelude.{◌≡◌, refl, Bool, true, false, not, ℕ, ◌+◌, ◌*◌, ◌^◌, ◌≤◌, ◌<◌, T, leb}
 use Rattle.std.proofs.Common.{ap, mul-pos, le_of_mul-le-mul_right, mul-le-mul_right, zero-lt-suc, arith, leb→le, le→leb, pow_pos}
-use mathlib.Core.Quot
 use mathlib.Core.Quot.{Quot, sound, Quot-set, lift, ind}
 use Rattle.std.proofs.Math.Bool.{Bool-set}
 

@@ -1,9 +1,9 @@
 -- A square root that is correctly rounded, and hypot (a, b) = a √(1 + (b / a)²): its square is near a² + b².
-use Rattle.std.specs.Prelude.{◌≡◌, refl, List, [], ◌∷◌, Bool, false, not, ◌&&◌, ℕ, ◌+◌, ◌-◌, ◌*◌, ◌^◌, ◌≤◌, ◌<◌, pos, T, leb, Float}
+use Rattle.std.specs.Prelude.{◌≡◌, refl, List, [], ◌∷◌, Bool, false, not, ◌&&◌, ℕ, ◌+◌, ◌-◌, ◌*◌, ◌^◌, pos, T, Float}
 use Rattle.std.proofs.Common.{sym, ap, subst, leb→le, lit<}
 use mathlib.Core.Quot
 use Rattle.std.specs.Float.{fin, binary64}
-use Rattle.std.specs.Float.Ieee.{add, sub, mul, div}
+use Rattle.std.specs.Float.Ieee.{add, mul, div}
 use Rattle.std.specs.Float.Ieee.Scale.{finite}
 use Rattle.std.specs.Float.Ieee.Fits.{and_l, and_r}
 use Rattle.exact.specs.Rat.{ℚ, Fr, mk, qn, whole, leq, ◌+q◌, ◌-q◌, ◌*q◌, ◌≤q◌, inv, inv-ok, cancel-nn, ≤q-sub, ≤q-total}
@@ -11,7 +11,7 @@ use Rattle.exact.specs.Abs.{U, iv, iv_f, 0≤, Abs, abs-eq, abs-mono}
 use Rattle.exact.specs.RingQ.{Rx, rv, rat, ◌⊕◌, ◌⊖◌, ◌⊗◌, same_q}
 use Rattle.exact.specs.Cert.{nat, Eqs, comb, by-eqs, by-nn, Nns, hyp, sqr, num, ◌⊞◌, ◌⊠◌, den, bounds, bound}
 use Rattle.exact.specs.Val.{val, rnd, huge, div-err}
-use Rattle.exact.specs.Check.{Fx, fv, fc, ◌+f◌, ◌-f◌, ◌*f◌, mag, err, ok, chk, sound, own}
+use Rattle.exact.specs.Check.{Fx, fv, fc, ◌+f◌, ◌*f◌, mag, err, ok, chk, sound, own}
 use Rattle.exact.specs.Given.{given}
 use Rattle.exact.specs.Sign.{mul-nn}
 

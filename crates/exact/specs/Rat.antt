@@ -1,9 +1,9 @@
 -- The laws of ℚ: an ordered commutative ring, with 1 / x for a positive x (`inv`). Everything after
 -- this module goes by them alone. It passes on the definitions of `Fraction`.
-use Rattle.std.specs.Prelude.{◌≡◌, refl, Bool, true, false, not, ◌&&◌, ℕ, zero, suc, ◌+◌, ◌-◌, ◌*◌, ◌≤◌, ◌<◌, T, leb}
+use Rattle.std.specs.Prelude.{◌≡◌, refl, Bool, true, false, not, ◌&&◌, ℕ, suc, ◌+◌, ◌*◌, ◌≤◌, ◌<◌, T}
 use Rattle.std.proofs.Common.{sym, ap, ap₂, ◌∙◌, subst, le_antisymm, le_of_mul-le-mul_right, mul-le-mul_right, zero-lt-suc, arith, leb→le}
 use mathlib.Core.HLevel.{Π_prop, Σ_prop_path}
-use mathlib.Core.Quot.{Quot, sound, ind}
+use mathlib.Core.Quot.{sound, ind}
 use Rattle.std.proofs.Math.Nat.{le_dest}
 use Rattle.std.specs.Float.Ieee.Fits.{and_i, and_l, and_r}
 use Rattle.std.proofs.Math.Dec.{T_prop, nleb→lt}

@@ -1,5 +1,5 @@
 -- The rounding error of a product of any magnitude: a part in 2 ^ 53 of it, and half of the smallest double.
-use Rattle.std.specs.Prelude.{◌≡◌, Bool, true, false, not, [], ◌∷◌, ℕ, zero, suc, ◌+◌, ◌*◌, ◌^◌, ◌≤◌, ◌<◌, T, Float}
+use Rattle.std.specs.Prelude.{◌≡◌, Bool, true, false, not, [], ◌∷◌, ℕ, ◌+◌, ◌*◌, ◌^◌, ◌≤◌, ◌<◌, T, Float}
 use Rattle.std.proofs.Common.{sym, subst, mul-pos, mul-le-mul_right, zero-lt-suc, arith, lit<, pow_pos}
 use mathlib.Core.Quot.{sound}
 use Rattle.std.specs.Float.{nan, inf, fin, binary64}

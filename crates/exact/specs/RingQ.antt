@@ -1,6 +1,6 @@
 -- The test of `Ring` for polynomials with rational coefficients: a polynomial with whole
 -- coefficients over one denominator. And a bound on a polynomial in one variable.
-use Rattle.std.specs.Prelude.{◌≡◌, List, [], ◌∷◌, Bool, true, false, not, ℕ, zero, suc, ◌+◌, ◌-◌, ◌*◌, ◌/◌, ◌%◌, ◌≤◌, ◌<◌, T, eqb}
+use Rattle.std.specs.Prelude.{◌≡◌, List, [], ◌∷◌, Bool, true, false, not, ℕ, ◌+◌, ◌-◌, ◌*◌, ◌/◌, ◌%◌, ◌≤◌, ◌<◌, T, eqb}
 use Rattle.std.proofs.Common.{sym, ap, ap₂, ◌∙◌, subst, mul-pos, zero-lt-suc, div-add-mod', mul-le-mul_right, arith, eqb→eq}
 use mathlib.Core.Quot.{sound}
 use Rattle.std.proofs.Math.Nat.{lt-div-mul-add}

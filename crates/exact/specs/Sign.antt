@@ -1,5 +1,5 @@
 -- A product of values that are not negative is not negative, and |x|.
-use Rattle.std.specs.Prelude.{◌≡◌, refl, Bool, true, false, cond, ℕ, zero, suc, ◌-◌, ◌*◌, ◌^◌, ◌≤◌, ◌<◌, pos, T, ltb, Float}
+use Rattle.std.specs.Prelude.{◌≡◌, refl, Bool, true, false, cond, ℕ, zero, suc, ◌*◌, ◌^◌, ◌<◌, pos, T, ltb, Float}
 use Rattle.std.proofs.Common.{sym, ap, ◌∙◌, subst, mul-pos, zero-lt-suc, zero-mul, mul-zero, arith, pow_pos}
 use mathlib.Core.Quot.{sound}
 use Rattle.std.specs.Float.{nan, inf, fin, binary64}
@@ -8,7 +8,7 @@ use Rattle.std.specs.Float.Ieee.Fits.{down_pos, round_is}
 use Rattle.std.specs.Float.Ieee.Exact.{HasValue}
 use Rattle.std.specs.Float.Ieee.Order.{drop, kept}
 use Rattle.std.specs.Float.Ieee.Scale.{finite, grid}
-use Rattle.exact.specs.Rat.{mk, qn, whole, ◌≤q◌, ≤-mk, mk-≤, ≤q-refl}
+use Rattle.exact.specs.Rat.{qn, whole, ≤-mk, mk-≤, ≤q-refl}
 use Rattle.exact.specs.Abs.{0≤}
 use Rattle.exact.specs.Grid.{Near, kept_near}
 use Rattle.exact.specs.Val.{val, sg, sg_f, has→val, round-has}

@@ -1,15 +1,15 @@
 -- The value of a finite float as a rational number, and how far each operation of binary64 is from the exact one.
-use Rattle.std.specs.Prelude.{◌≡◌, refl, Bool, true, false, not, cond, ℕ, zero, suc, ◌+◌, ◌-◌, ◌*◌, ◌/◌, ◌^◌, ◌≤◌, ◌<◌, pos, T, ltb, eqb, Float}
+use Rattle.std.specs.Prelude.{◌≡◌, refl, Bool, true, false, not, cond, ℕ, ◌+◌, ◌-◌, ◌*◌, ◌/◌, ◌^◌, ◌≤◌, ◌<◌, T, ltb, eqb, Float}
 use Rattle.std.proofs.Common.{sym, ap, ap₂, ◌∙◌, subst, subst₂, le_trans, le_of_eq, mul-le-mul_right, le_of_mul-le-mul_right, lt_of_mul-lt-mul_right, zero-lt-suc, mul-pos, mul_right_comm, arith, ltb→lt, nltb→le, eqb→eq, lit≤, pow_pos}
 use mathlib.Core.Quot.{sound}
 use Rattle.std.proofs.Math.Dec.{nleb→lt}
 use Rattle.std.specs.Float.{nan, inf, fin, binary64}
-use Rattle.std.specs.Float.Ieee.{up, down, unlike, units, round, neg, sum, add, sub, mul, div}
+use Rattle.std.specs.Float.Ieee.{up, down, unlike, round, neg, sum, add, sub, mul, div}
 use Rattle.std.specs.Float.Ieee.Fits.{down_pos, round_is}
 use Rattle.std.specs.Float.Ieee.Exact.{HasValue, units_val}
 use Rattle.std.specs.Float.Ieee.Order.{drop, kept}
 use Rattle.std.specs.Float.Ieee.Scale.{finite, grid}
-use Rattle.exact.specs.Rat.{ℚ, mk, qn, whole, add_f, neg_f, ◌+q◌, ◌-q◌, ◌*q◌, negq, ≤-mk, mk-≤, leq, inv, inv-ok, *q-assoc, *q-one}
+use Rattle.exact.specs.Rat.{ℚ, qn, whole, add_f, neg_f, ◌+q◌, ◌-q◌, ◌*q◌, negq, ≤-mk, mk-≤, leq, inv, inv-ok, *q-assoc, *q-one}
 pub use Rattle.exact.specs.Value.{sg_f, sg, val}
 use Rattle.exact.specs.Abs.{U, U_pos, U-le, iv, iv_f, Abs}
 use Rattle.exact.specs.Grid.{Near, kept_near}

@@ -1,1 +1,3 @@
+#![tactic(auto)]
+
 // Exact fractions and the error laws of the IEEE operations: definitions and laws only, no code.

@@ -1,6 +1,6 @@
 -- The first 5,756 bytes decide every file, however long: all records that fit the tables, and the mark after them.
 use Prim.Native.Nat.{ℕ, zero, suc, ◌+◌, ◌-◌, ◌*◌, ◌≤◌, ◌<◌}
-use Rattle.std.specs.Prelude.{◌≡◌, Bool, true, false, List, [], ◌∷◌, ◌⊎◌, leb, length, get_or, take, drop}
+use Rattle.std.specs.Prelude.{◌≡◌, Bool, true, false, List, [], ◌∷◌, ◌⊎◌, leb, length, take, drop}
 use Rattle.std.proofs.Math.Path.{refl, sym, ap}
 use Rattle.std.proofs.Common.{◌∙◌, inl, inr, length-drop, take_all, length-take-le, get_or-take}
 use Rattle.std.proofs.Math.Bool.{cond}
@@ -10,7 +10,6 @@ use Rattle.std.proofs.Math.Dec.{ltb, eqb}
 use Rattle.std.proofs.Math.Seq.{take-nil}
 use borrow.Author.Tests.{le-ltb, leb-false, ne_eqb}
 use Rattle.rows.specs.Region.{tab-ext}
-use Rattle.rows.specs.declared.geometry.Joint.{Joint}
 use Rattle.plan.specs.declared.reader.Plan.{Plan}
 use Rattle.plan.specs.declared.reader.Reading.{Reading}
 use Rattle.plan.specs.declared.reader.ReadOutcome.TheVariants.{SecondTimeStep, TooMany, Truncated}

@@ -1,4 +1,6 @@
 // The plan file: its layout, its records, and its reader.
+#![tactic(auto)]
+
 mod layout;
 pub mod reader;
 mod records;

@@ -8,7 +8,7 @@ use native.Mathlib.Decide.{dec_lt}
 use mathlib.Core.Logic.{◌⊎◌, inl, inr}
 use native.Mathlib.Numerals.{add-one}
 use native.Mathlib.Omega.{arith}
-use lib.Dec.{T, ltb, leb, eqb}
+use lib.Dec.{T}
 use lib.ListN.{length, get_or, set, take, drop, length-append, length-drop}
 use lib.Seq.{paste, paste-zero, paste-suc, take_all, take_at, drop_at, drop-drop, length-take-le}
 use lib.Ieee.{Float, nan, inf, fin, up, down, is_nan, eq, binary64, to_bits}

@@ -1,4 +1,6 @@
 // A plan file read, stepped and reported.
+#![tactic(auto)]
+
 pub mod text;
 
 ghost use Rattle.std.specs.Prelude.{◌≤◌, ◌≡◌, length};

@@ -12,7 +12,6 @@ use Rattle.rows.specs.declared.geometry.EqualityRow.{EqualityRow}
 use Rattle.rows.specs.declared.geometry.RowAnswer.{RowAnswer}
 use Rattle.rows.specs.declared.geometry.RowAnswer.TheVariants as Row
 use Rattle.rows.specs.declared.geometry.Written.{Written}
-use Rattle.rows.specs.declared.geometry.Written.TheVariants as Written
 use Rattle.rows.specs.Fault.{Fault, Result}
 use Rattle.rows.specs.Geometry.{row_if}
 use Rattle.rows.specs.View.{row_at, Out, Kept}

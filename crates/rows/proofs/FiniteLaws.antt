@@ -1,7 +1,7 @@
 -- All values of the rows in a slice are finite, as `values_finite` tests them one by one.
 use Prim.Native.Nat.{ℕ, zero, suc, ◌+◌, ◌*◌, ◌≤◌, ◌<◌}
 use mathlib.Core.Path.{◌≡◌, refl, sym, ◌∙◌, ap, subst}
-use mathlib.Core.Bool.{Bool, true, false, not, ◌&&◌}
+use mathlib.Core.Bool.{Bool, true, false, ◌&&◌}
 use mathlib.Core.List.{List, [], ◌∷◌, ◌++◌}
 use native.Mathlib.Numerals.{add-one}
 use native.Mathlib.Omega.{arith}
@@ -9,7 +9,6 @@ use native.Mathlib.Decide.{ℕ_discrete}
 use lib.Ieee.{Float}
 use Rattle.arith.specs.Real.{is_finite}
 use Rattle.arith.specs.Flow.{tab}
-use Rattle.arith.specs.FlowLaws.{not_yes, not-no}
 use Rattle.rows.specs.declared.geometry.EqualityRow.{EqualityRow}
 use Rattle.rows.specs.Geometry.{finite_values}
 use Rattle.rows.specs.View.{at, row_at, rows_at}

@@ -1,11 +1,10 @@
 -- The rows of a joint, written part by part, are the definition's list.
-use Prim.Native.Nat.{ℕ, ◌+◌}
+use Prim.Native.Nat.{ℕ}
 use mathlib.Core.Path.{◌≡◌, refl, sym, ◌∙◌, ap, subst}
 use mathlib.Core.Bool.{Bool, true, false, cond, not}
 use mathlib.Core.List.{List, [], ◌∷◌, ◌++◌, append_assoc, append-nil}
 use native.Mathlib.Omega.{arith}
 use lib.Ieee.{Float}
-use lib.ListN.{length}
 use Rattle.arith.specs.Real.{F, ratio}
 use Rattle.arith.specs.Flow.{go, stop, ◌>>=◌, return_if}
 use Rattle.arith.specs.FlowLaws.{then-go, then-stop}
@@ -33,7 +32,6 @@ use Rattle.rows.specs.declared.geometry.Relative.{Relative}
 use Rattle.rows.specs.declared.geometry.Swing.{Swing}
 use Rattle.rows.specs.declared.geometry.RowAnswer.{RowAnswer}
 use Rattle.rows.specs.declared.geometry.Written.{Written}
-use Rattle.rows.specs.declared.geometry.Written.TheVariants as Written
 use Rattle.rows.specs.Fault.{Fault, non_convergent, arithmetic_overflow, Result, vector_or, try_finite, try_rotate}
 use Rattle.rows.specs.Motions.{motions_of}
 use Rattle.rows.specs.Geometry.{ends_of, tolerance_of, distance_row, linear_row, row_if, axes_of, linear_rows, relative_of, swing_x, swing_y, gradient_row}

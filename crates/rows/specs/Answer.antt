@@ -20,7 +20,6 @@ use Rattle.rows.specs.declared.body.StateAnswer.TheVariants as State
 use Rattle.rows.specs.declared.geometry.Joint.{Joint}
 use Rattle.rows.specs.declared.geometry.EqualityRow.{EqualityRow}
 use Rattle.rows.specs.declared.geometry.Written.{Written}
-use Rattle.rows.specs.declared.geometry.Written.TheVariants as Written
 use Rattle.rows.specs.Fault.{Fault, non_convergent, arithmetic_overflow, number, Result, vector_or}
 use Rattle.rows.specs.Body.{body_with}
 use Rattle.rows.specs.Geometry.{write_equality_rows}

@@ -1,8 +1,7 @@
 -- From the case of an answer to the definition's result, for this crate and those above.
-use Rattle.std.specs.Prelude.{ℕ, Float, ◌≡◌, refl, Bool, true, false, not, List}
+use Rattle.std.specs.Prelude.{ℕ, Float, ◌≡◌, refl, Bool, true, false, List}
 use Rattle.std.proofs.Common.{sym, ap, ◌∙◌, arith}
 use Rattle.arith.specs.Flow.{go, stop}
-use Rattle.arith.specs.FlowLaws.{not_yes, not-no}
 use Rattle.vectors.specs.declared.vector.Vec3.{Vec3}
 use Rattle.vectors.specs.declared.vector.OptionVec3.{OptionVec3}
 use Rattle.vectors.specs.declared.vector.OptionVec3.TheVariants.{Some, None}
@@ -19,7 +18,6 @@ use Rattle.rows.specs.declared.body.StateAnswer.TheVariants as State
 use Rattle.rows.specs.declared.body.MomentumBody.{MomentumBody}
 use Rattle.rows.specs.declared.body.BodyAnswer.{BodyAnswer}
 use Rattle.rows.specs.declared.geometry.Written.{Written}
-use Rattle.rows.specs.declared.geometry.Written.TheVariants as Written
 use Rattle.rows.specs.Fault.{Fault, non_convergent, arithmetic_overflow, Result, vector_or, number_or, quat_or}
 use Rattle.rows.specs.Answer.{refusal_number, vector_number, state_number, written_number, Numbered, is_done, ran_as}
 use Rattle.rows.specs.Answer.{answer_of, body_as, BodyAnswered, VectorAnswered, state_as, StateAnswered, written_as}

@@ -16,7 +16,6 @@ use Rattle.rows.specs.declared.geometry.RelativeAnswer.TheVariants as Seen
 use Rattle.rows.specs.declared.geometry.RowAnswer.{RowAnswer}
 use Rattle.rows.specs.declared.geometry.RowAnswer.TheVariants as Row
 use Rattle.rows.specs.declared.geometry.Written.{Written}
-use Rattle.rows.specs.declared.geometry.Written.TheVariants as Written
 use Rattle.rows.specs.Fault.{non_convergent, arithmetic_overflow, Result}
 use Rattle.rows.specs.View.{at, row_at, Out, Kept}
 use Rattle.rows.specs.Answer.{written_as}

@@ -1,6 +1,6 @@
 -- What each kind of joint holds: the one match on a kind. All else about a kind follows from it: its rows, how many they are, the
 -- tests of its numbers, and what demand 3 promises of it.
-use Rattle.rows.specs.Words.{Kind, Linear, Turning, Motions, Cone}
+use Rattle.rows.specs.Words.{Kind, Linear, Turning, Motions}
 
 -- a rod between the anchors; or b's anchor at a's, on the line through it along frame a's Z, or on the plane through it across that,
 -- while frame b turns freely, keeps its Z along a's, or stays within a cone and a twist

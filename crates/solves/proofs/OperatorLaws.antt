@@ -1,7 +1,7 @@
 -- `dot`, `transpose`, `operator` and `cross_mass`: from reads of the scratch to the definitions over lists.
-use Prim.Native.Nat.{ℕ, zero, ◌+◌, ◌*◌, ◌≤◌, ◌<◌}
-use mathlib.Core.Path.{◌≡◌, refl, sym, ◌∙◌, ap, subst}
-use mathlib.Core.Bool.{Bool, true, false, not, cond, ◌&&◌}
+use Prim.Native.Nat.{ℕ, ◌+◌, ◌*◌, ◌≤◌, ◌<◌}
+use mathlib.Core.Path.{◌≡◌, sym, ◌∙◌, ap, subst}
+use mathlib.Core.Bool.{Bool, true, false, ◌&&◌}
 use mathlib.Core.List.{List}
 use native.Mathlib.Omega.{arith}
 use lib.Dec.{eqb}
@@ -9,8 +9,8 @@ use borrow.Author.Tests.{eq-eqb, ne_eqb}
 use lib.ListN.{length, set, replicate}
 use lib.Ieee.{Float}
 use Rattle.arith.specs.Real.{ratio, is_finite, ◌⊕◌, ◌⊗◌}
-use Rattle.arith.specs.Flow.{go, stop, ◌>>=◌, turns, tab, loop, each, every}
-use Rattle.arith.specs.FlowLaws.{turns_more, cond_no, not_yes, not-no, loop-none, each_none, each_more, each-stop, each-end, then-then}
+use Rattle.arith.specs.Flow.{go, stop, ◌>>=◌, tab, loop, each, every}
+use Rattle.arith.specs.FlowLaws.{turns_more, cond_no, loop-none, each_none, each_more, each-stop, each-end, then-then}
 use Rattle.vectors.specs.declared.vector.Vec3.{Vec3}
 use Rattle.vectors.specs.Vector.{dot_of, finite_of}
 use Rattle.vectors.specs.Matrix.{apply_of}

@@ -14,7 +14,7 @@ use Rattle.arith.specs.Run.{ran, up_to}
 use Rattle.arith.specs.RunLaws.{run_is, Reached, reached-none, reached-again, reached-over, reached-spent, over}
 use Rattle.rows.specs.Fault.{non_convergent, arithmetic_overflow, Result}
 use Rattle.rows.specs.View.{Kept}
-use Rattle.rows.specs.Region.{Over, kept_refl, kept_then}
+use Rattle.rows.specs.Region.{kept_refl, kept_then}
 use Rattle.rows.specs.declared.End.{End}
 use Rattle.solves.specs.declared.Ended.{Ended}
 use Rattle.solves.specs.declared.Next.{Next}

@@ -1,5 +1,5 @@
 -- How what functions do composes: `?` after a call, and the frames with it. From an answer's case to the definition's result, and its number.
-use Rattle.std.specs.Prelude.{ℕ, ◌≡◌, Bool, true, false, not, List, Float}
+use Rattle.std.specs.Prelude.{ℕ, ◌≡◌, Bool, true, false, List, Float}
 use Rattle.std.proofs.Common.{sym, ◌∙◌, ap}
 use Rattle.arith.specs.Real.{is_finite}
 use Rattle.arith.specs.Flow.{Turn, go, stop, ◌>>=◌, return_if}

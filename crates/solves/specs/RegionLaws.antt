@@ -1,5 +1,5 @@
 -- Laws of `Region`: vectors that a write keeps, changes in one place or fills.
-use Rattle.std.specs.Prelude.{ℕ, ◌+◌, ◌≤◌, ◌<◌, ◌≡◌, List, [], ◌∷◌, ◌++◌, length, get_or, set, Float}
+use Rattle.std.specs.Prelude.{ℕ, ◌+◌, ◌≤◌, ◌<◌, ◌≡◌, List, [], ◌∷◌, ◌++◌, length, set, Float}
 use Rattle.std.proofs.Common.{sym, ◌∙◌, ap, arith, get_or-set_same}
 use Rattle.std.specs.Float.{nan}
 use Rattle.arith.specs.Flow.{tab}

@@ -1,5 +1,7 @@
 // The linear solves of the constrained integrator: solver.rs below `solve`, over one lent scratch.
 // A table of rows is a place of the scratch with the bodies of each row beside it: `ia[k]` and `ib[k]` for row k.
+#![tactic(auto)]
+
 mod gradients;
 pub mod layout;
 mod least_squares;

@@ -7,7 +7,6 @@ use lib.Ieee.{Float, of_bits, round}
 use mathlib.Core.Path.{◌≡◌, refl, sym, ap, ◌∙◌}
 use mathlib.Core.Bool.{Bool, true, false, cond, not, ◌&&◌, ◌||◌}
 use Rattle.arith.specs.Real.{F, ratio}
-use Rattle.arith.specs.FlowLaws.{not_yes, not-no}
 use Rattle.vectors.specs.declared.vector.Vec3.{Vec3}
 use Rattle.vectors.specs.declared.matrix.Mat3.{Mat3}
 use Rattle.vectors.specs.declared.matrix.Inverted.{Inverted}

@@ -1,7 +1,7 @@
 -- The end of a run and the run as a whole, from the calls' contracts link by link; and what the run is to the caller.
 use Prim.Native.Nat.{ℕ, zero, suc, ◌+◌, ◌*◌, ◌-◌, ◌%◌, ◌≤◌, ◌<◌}
 use mathlib.Core.Path.{◌≡◌, refl, sym, ◌∙◌, ap}
-use mathlib.Core.Bool.{Bool, true, false, not, cond}
+use mathlib.Core.Bool.{Bool, true, false, cond}
 use mathlib.Core.List.{List, ◌++◌}
 use native.Mathlib.Omega.{arith}
 use lib.ListN.{length, drop, replicate, length-replicate, get_or-replicate}
@@ -9,7 +9,7 @@ use lib.Seq.{ext_get_or}
 use lib.Ieee.{Float, nan}
 use Rattle.arith.specs.Real.{ratio}
 use Rattle.arith.specs.Flow.{go, stop, every}
-use Rattle.arith.specs.FlowLaws.{not-no, cond_yes, cond_no}
+use Rattle.arith.specs.FlowLaws.{cond_yes, cond_no}
 use Rattle.arith.specs.Run.{ran, try, after, ◌>>=◌, up_to}
 use Rattle.arith.specs.RunLaws.{run_is, then-go, then-stop, try-go}
 use Rattle.rows.specs.declared.body.RigidBody.{RigidBody}

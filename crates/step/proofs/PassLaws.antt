@@ -1,7 +1,7 @@
 -- The passes of both stages and their loop: links of a Run from the calls' contracts; what differs by the stage; the loop by `Reached`.
 use Prim.Native.Nat.{ℕ, ◌+◌, ◌<◌}
 use mathlib.Core.Path.{◌≡◌, refl, sym, ◌∙◌, ap, subst}
-use mathlib.Core.Bool.{Bool, true, false, not}
+use mathlib.Core.Bool.{Bool, true, false}
 use mathlib.Core.List.{List}
 use native.Mathlib.Omega.{arith}
 use native.Mathlib.Nat.{zero-add}
@@ -18,7 +18,6 @@ use Rattle.rows.specs.declared.End.{End}
 use Rattle.rows.specs.declared.End.TheVariants as Ends
 use Rattle.solves.specs.declared.Ended.{Ended}
 use Rattle.solves.specs.declared.Pass.{Pass}
-use Rattle.solves.specs.declared.Pass.TheVariants as Pass
 use Rattle.solves.specs.declared.Table.{Table}
 use Rattle.solves.specs.Region.{Does}
 use Rattle.solves.specs.RegionLaws.{kept-vec}
@@ -27,7 +26,7 @@ use Rattle.solves.specs.Answer.{ran_as, pass_as, is_done, ended_as}
 use Rattle.solves.specs.DoesLaws.{ran-done, fails, fails-over, went, failed}
 use Rattle.solves.specs.View.{Work}
 use Rattle.solves.specs.ViewLaws.{kept-rows, system-kept}
-use Rattle.arith.specs.FlowLaws.{not_yes, not-no, cond_yes, cond_no}
+use Rattle.arith.specs.FlowLaws.{cond_yes, cond_no}
 use Rattle.step.specs.declared.passes.Passed.{Passed}
 use Rattle.step.specs.declared.passes.Looped.{Looped}
 use Rattle.step.specs.declared.passes.Ran.{Ran}

@@ -1,5 +1,5 @@
 -- The rows of all joints, one joint behind the other: `row_bodies` lists the bodies of each row, `write_rows` writes the rows.
-use Prim.Native.Nat.{ℕ, zero, suc, ◌+◌, ◌*◌, ◌-◌, ◌≤◌, ◌<◌}
+use Prim.Native.Nat.{ℕ, zero, suc, ◌+◌, ◌*◌, ◌≤◌, ◌<◌}
 use mathlib.Core.Path.{◌≡◌, refl, sym, ◌∙◌, ap, subst}
 use mathlib.Core.Bool.{Bool, cond}
 use mathlib.Core.List.{List, [], ◌∷◌, ◌++◌}
@@ -13,7 +13,6 @@ use Rattle.rows.specs.declared.body.MomentumBody.{MomentumBody}
 use Rattle.rows.specs.declared.geometry.Joint.{Joint}
 use Rattle.rows.specs.declared.geometry.EqualityRow.{EqualityRow}
 use Rattle.rows.specs.declared.geometry.Written.{Written}
-use Rattle.rows.specs.declared.geometry.Written.TheVariants as Written
 use Rattle.rows.specs.Fault.{Fault, non_convergent, arithmetic_overflow, Result}
 use Rattle.rows.specs.Geometry.{write_equality_rows}
 use Rattle.rows.specs.Count.{row_count}

@@ -1,4 +1,6 @@
 // One step of the constrained integrator: `ConstrainedIntegrator::solve` with the refusals of SPECIFICATION §7.
+#![tactic(auto)]
+
 mod bodies;
 mod checks;
 mod integrator;

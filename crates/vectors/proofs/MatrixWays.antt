@@ -9,7 +9,7 @@ use mathlib.Core.Bool.{Bool, true, false, not, ◌||◌, not-not}
 use Rattle.arith.specs.Real.{◌⊖◌, ◌⊘◌, ratio}
 use Rattle.arith.specs.Root.{sqrt}
 use Rattle.arith.specs.Flow.{Turn, go, stop}
-use Rattle.arith.specs.FlowLaws.{not_yes, not-no, cond_yes, cond_no}
+use Rattle.arith.specs.FlowLaws.{cond_yes, cond_no}
 use Rattle.vectors.specs.declared.vector.Vec3.{Vec3}
 use Rattle.vectors.specs.declared.matrix.Mat3.{Mat3}
 use Rattle.vectors.specs.declared.matrix.CholeskyOutcome.TheVariants.{Done, NonFiniteInput, NotSymmetric, NotPositiveDefinite, ResultOutOfRange}

@@ -2,7 +2,7 @@
 use Rattle.std.specs.Prelude.{◌≡◌, refl, Bool, true, false, not, cond, [], ◌∷◌, ℕ, zero, suc, ◌*◌, T, Float}
 use Rattle.std.proofs.Common.{sym, ◌∙◌, subst}
 use Rattle.std.specs.Float.{nan, inf, fin, binary64}
-use Rattle.std.specs.Float.Ieee.{fits, neg, lt, up, down}
+use Rattle.std.specs.Float.Ieee.{fits, lt, up, down}
 use Rattle.std.specs.Float.Ieee.Fits.{down_pos}
 use Rattle.std.specs.Float.Ieee.Scale.{finite}
 use Rattle.exact.specs.Rat.{qn, leq, negq, ◌*q◌, ◌≤q◌, ≤q-refl, ≤q-total}

@@ -1,5 +1,5 @@
 -- `sqrt` is IEEE 754's square root of every double (`square-root`), and no other double is (`square-root-unique`).
-use Rattle.std.specs.Prelude.{◌≡◌, Bool, true, false, not, List, [], ◌∷◌, ℕ, zero, suc, ◌+◌, ◌*◌, ◌≤◌, ◌<◌, ℤ, pos, T, ltb, Float}
+use Rattle.std.specs.Prelude.{◌≡◌, Bool, true, false, not, List, [], ◌∷◌, ℕ, zero, suc, ◌+◌, ◌*◌, ℤ, pos, T, ltb, Float}
 use Rattle.std.proofs.Math.Path.{refl}
 use Rattle.std.proofs.Common.{sym, ap, ◌∙◌, subst, true≢false, zero-lt-suc, mul-pos, arith, ltb→lt}
 use mathlib.Core.Quot.{sound}

@@ -5,7 +5,6 @@ use Rattle.step.proofs.AnsweredLaws.{run-unrefused, answered-refused, answered-r
 use Rattle.step.proofs.FinishLaws.{solved-scratch}
 use Rattle.step.proofs.StepLaws.{take_long}
 use mathlib.Core.Path.{sym}
-use Prim.Native.Nat.{◌-◌}
 use borrow.Author.Rules.{rules}
 use Rattle.step.proofs.solve.Statement.{statement}
 use Rattle.step.proofs.solve.Tie as tie

@@ -1,6 +1,6 @@
 -- From a rounded sum back to the exact one: where x + y rounds to a finite double of at most M / U, x + y is at most (2 M + 1) / U, whatever x and y are.
 use Rattle.std.proofs.Common.{subst, mul-le-mul_right, le_of_mul-le-mul_right, zero-lt-suc, arith, ltb→lt, pow_pos}
-use Rattle.std.specs.Prelude.{Bool, true, false, cond, ℕ, ◌+◌, ◌-◌, ◌*◌, ◌^◌, ◌≤◌, ◌<◌, T, ltb, Float}
+use Rattle.std.specs.Prelude.{Bool, true, false, cond, ℕ, ◌+◌, ◌*◌, ◌^◌, ◌≤◌, ◌<◌, T, ltb, Float}
 use Rattle.std.specs.Float.{inf, binary64}
 use Rattle.std.specs.Float.Ieee.{odd, units, round, add, sub, neg}
 use Rattle.std.specs.Float.Ieee.Fits.{round_is}

@@ -1,7 +1,7 @@
 -- The rotation law at every size from 1 to 129: each component is within 2 ^ -44 times the bound on the coordinates of the exact turn.
 -- `rotated` is a test at one bound. The sizes of a table pass it with room, and each is at most 1.08
 -- times the one before, so that between two sizes the law of the larger serves.
-use Rattle.std.specs.Prelude.{◌≡◌, refl, Bool, true, ◌&&◌, ℕ, ◌+◌, ◌*◌, ◌^◌, ◌≤◌, ◌<◌, leb}
+use Rattle.std.specs.Prelude.{◌≡◌, refl, Bool, true, ◌&&◌, ℕ, ◌*◌, ◌^◌, ◌≤◌, ◌<◌, leb}
 use Rattle.std.proofs.Common.{sym, subst, le_trans, le_of_lt, not-le_of_lt, lt_of_not-le, lt_of_lt_of_le, le_of_mul-le-mul_right, mul_assoc, leb→le, lit<}
 use mathlib.Core.List.{List, [], ◌∷◌}
 use Rattle.std.proofs.Math.Decide.{dec_le}

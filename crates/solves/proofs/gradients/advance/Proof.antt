@@ -1,23 +1,21 @@
 -- advance: along the direction as far as the curvature says; five ways to end.
 use native.Mathlib.Omega.{arith}
 use borrow.Author.Rules.{rules}
-use Prim.Native.Nat.{◌-◌}
 use Rattle.arith.specs.Laws.Constants.{zero_is}
 use Rattle.solves.specs.View.{DIRECTION, PRODUCT}
-use Rattle.solves.specs.DoesLaws.{does-fails, sum-there, sum_over, went, failed, fails}
+use Rattle.solves.specs.DoesLaws.{does-fails, sum-there, sum_over, went, failed}
 use Rattle.solves.proofs.GradientLaws.{advance-unmoved, advance-unmeasured, advance-flat, advance-wild, advance-done}
 use Rattle.solves.proofs.OperatorLaws.{place_of}
 use Rattle.solves.proofs.gradients.advance.Statement.{statement}
 use Rattle.solves.proofs.gradients.advance.Tie as tie
 
 operator-requires : tie.Need-operator-end-requires
-operator-requires c κs =
-    (
-      c.requires,
-      place_of DIRECTION (omega arith) (omega arith) (omega (arith, c.requires.whole)),
-      place_of PRODUCT (omega arith) (omega arith)
-          (omega (arith, c.requires.whole)),
-    )
+operator-requires c κs = (
+  c.requires,
+  place_of DIRECTION (omega arith) (omega arith) (omega (arith, c.requires.whole)),
+  place_of PRODUCT (omega arith) (omega arith)
+      (omega (arith, c.requires.whole)),
+)
 
 returns : tie.Need-returns-then-not-done
 returns c =

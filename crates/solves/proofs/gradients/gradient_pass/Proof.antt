@@ -1,7 +1,6 @@
 -- gradient_pass: over, or its two halves.
 use native.Mathlib.Omega.{arith}
 use borrow.Author.Rules.{rules}
-use Prim.Native.Nat.{◌-◌}
 use Rattle.solves.specs.DoesLaws.{over-fails, went, failed}
 use Rattle.solves.proofs.GradientLaws.{pass-over, pass-stuck, pass_on}
 use Rattle.solves.proofs.OperatorLaws.{rows-kept}

@@ -1,7 +1,6 @@
 -- gradients: the diagonal, the tolerance, and the search.
 use native.Mathlib.Omega.{arith}
 use borrow.Author.Rules.{rules}
-use Prim.Native.Nat.{◌-◌}
 use Rattle.solves.specs.Region.{vec_at}
 use Rattle.solves.specs.View.{SOLUTION}
 use Rattle.solves.specs.DoesLaws.{sum-there, sum_over, does-as}

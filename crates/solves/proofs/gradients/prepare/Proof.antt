@@ -59,8 +59,7 @@ slice-write-s-2 c =
 
 loop-again : tie.Need-loop-k-preserved invariant-loop decreases-loop
 loop-again c =
-    let at-load-row = c.before.before.before.before.before.before.before in
-    (
+    let at-load-row = c.before.before.before.before.before.before.before in (
       omega (arith, c.loop-k-test.true),
       simp length-set c.loop-k.invariant.1,
       prepared_again c.requires _ c.loop-k.invariant.2 c.loop-k-test.true c.loop-k.invariant.1

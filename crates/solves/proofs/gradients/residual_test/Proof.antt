@@ -1,6 +1,5 @@
 -- residual_test: the length of the residual beside the tolerance, by the cases of `dot`.
 use borrow.Author.Rules.{rules}
-use Prim.Native.Nat.{◌-◌}
 use Rattle.solves.specs.DoesLaws.{sum-there, sum_over}
 use Rattle.solves.proofs.GradientLaws.{test-over, test-there}
 use Rattle.solves.proofs.gradients.residual_test.Statement.{statement}

@@ -1,7 +1,6 @@
 -- settle: over with the true residual, or the next direction.
 use native.Mathlib.Omega.{arith}
 use borrow.Author.Rules.{rules}
-use Prim.Native.Nat.{◌-◌}
 use Rattle.solves.proofs.GradientLaws.{settle-over, settle-next}
 use Rattle.solves.proofs.gradients.settle.Statement.{statement}
 use Rattle.solves.proofs.gradients.settle.Tie as tie

@@ -2,8 +2,6 @@
 use native.Mathlib.Omega.{arith}
 use borrow.Author.Rules.{rules}
 use mathlib.Core.Path.{sym, ◌∙◌}
-use Prim.Native.Nat.{◌-◌}
-use Rattle.arith.specs.FlowLaws.{not-no}
 use mathlib.Core.Bool.{true}
 use Rattle.solves.specs.View.{SOLUTION, PRODUCT}
 use Rattle.solves.specs.DoesLaws.{does-fails, went, failed, fails}
@@ -25,13 +23,12 @@ returns-2 c =
     c.residual_test.ensures c.in-Over.is))
 
 operator-requires : tie.Need-operator-end-requires
-operator-requires c κs =
-    (
-      c.requires,
-      place_of SOLUTION (omega arith) (omega arith) (omega (arith, c.requires.whole)),
-      place_of PRODUCT (omega arith) (omega arith)
-          (omega (arith, c.requires.whole)),
-    )
+operator-requires c κs = (
+  c.requires,
+  place_of SOLUTION (omega arith) (omega arith) (omega (arith, c.requires.whole)),
+  place_of PRODUCT (omega arith) (omega arith)
+      (omega (arith, c.requires.whole)),
+)
 
 returns-3 : tie.Need-returns-then-not-done-2
 returns-3 c =

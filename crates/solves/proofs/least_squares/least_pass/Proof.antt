@@ -2,7 +2,6 @@
 use native.Mathlib.Omega.{arith}
 use borrow.Author.Rules.{rules}
 use mathlib.Core.Path.{◌≡◌, ◌∙◌}
-use Prim.Native.Nat.{◌-◌}
 use lib.ListN.{length}
 use Rattle.arith.specs.Laws.Constants.{zero_is}
 use Rattle.solves.specs.View.{RESIDUAL, DIRECTION, PRODUCT, NORMAL}

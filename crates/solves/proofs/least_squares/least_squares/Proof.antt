@@ -2,11 +2,9 @@
 use native.Mathlib.Omega.{arith}
 use borrow.Author.Rules.{rules}
 use mathlib.Core.Path.{◌∙◌}
-use Prim.Native.Nat.{◌-◌}
-use Rattle.arith.specs.Run.{ran}
 use Rattle.solves.specs.Region.{vec_at}
 use Rattle.solves.specs.View.{SOLUTION, RESIDUAL, NORMAL}
-use Rattle.solves.specs.DoesLaws.{ran-fails, sum-there, sum_over, went, failed, fails}
+use Rattle.solves.specs.DoesLaws.{ran-fails, sum-there, sum_over, went, failed}
 use Rattle.solves.proofs.OperatorLaws.{rows-kept, place_of}
 use Rattle.solves.proofs.LeastLaws.{least-unmoved, least-unmeasured, least-intolerant, least-whole}
 use Rattle.solves.proofs.SearchLaws.{tenth-14, new-ended}
@@ -14,13 +12,12 @@ use Rattle.solves.proofs.least_squares.least_squares.Statement.{statement}
 use Rattle.solves.proofs.least_squares.least_squares.Tie as tie
 
 operator-requires : tie.Need-operator-end-requires
-operator-requires c κs =
-    (
-      c.requires,
-      place_of RESIDUAL (omega arith) (omega arith) (omega (arith, c.requires.whole)),
-      place_of NORMAL (omega arith) (omega arith)
-          (omega (arith, c.requires.whole)),
-    )
+operator-requires c κs = (
+  c.requires,
+  place_of RESIDUAL (omega arith) (omega arith) (omega (arith, c.requires.whole)),
+  place_of NORMAL (omega arith) (omega arith)
+      (omega (arith, c.requires.whole)),
+)
 
 returns-3 : tie.Need-returns-in_default-tolerance_for
 returns-3 c =

@@ -1,8 +1,7 @@
 -- operator: back to the bodies, through their masses, along the rows; by OperatorLaws `operator-rates` and the laws of a failure beside it.
 use native.Mathlib.Omega.{arith}
 use mathlib.Core.Path.{◌∙◌}
-use Prim.Native.Nat.{◌-◌}
-use Rattle.solves.specs.DoesLaws.{does-fails, went, failed, fails}
+use Rattle.solves.specs.DoesLaws.{does-fails, went, failed}
 use Rattle.solves.proofs.OperatorLaws.{rows-kept, operator-pushes-failed, operator-scales-failed, operator-rates}
 use Rattle.solves.proofs.operator.operator.Statement.{statement}
 use Rattle.solves.proofs.operator.operator.Tie as tie

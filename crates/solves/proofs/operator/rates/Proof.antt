@@ -3,8 +3,7 @@ use native.Mathlib.Omega.{arith}
 use mathlib.Core.Path.{◌≡◌, refl}
 use Prim.Native.Nat.{◌≤◌, ◌-◌}
 use lib.ListN.{length, length-set}
-use Rattle.arith.specs.Flow.{go, loop}
-use Rattle.arith.specs.FlowLaws.{not_yes, not-no}
+use Rattle.arith.specs.Flow.{go}
 use Rattle.solves.specs.Region.{vec_at, Does}
 use Rattle.solves.specs.View.{rows_on, shares_in, Beside}
 use Rattle.solves.specs.Solver.{rates as rates_of}
@@ -47,8 +46,7 @@ returns c =
 
 loop-again : tie.Need-loop-k-preserved invariant-loop decreases-loop
 loop-again c =
-    let at-load-row = c.before.before.before.before.before in
-    (
+    let at-load-row = c.before.before.before.before.before in (
       omega (arith, c.loop-k-test.true),
       simp length-set c.loop-k.invariant.1,
       rates-again c.requires.0 c.requires.1 _ c.loop-k.invariant.2 c.loop-k-test.true c.loop-k.invariant.1

@@ -4,7 +4,7 @@ use borrow.Author.Rules.{rules}
 use mathlib.Core.Path.{◌≡◌, refl}
 use Prim.Native.Nat.{◌*◌, ◌≤◌, ◌-◌}
 use lib.ListN.{length}
-use Rattle.arith.specs.Flow.{go, loop}
+use Rattle.arith.specs.Flow.{go}
 use Rattle.rows.specs.View.{Out}
 use Rattle.solves.specs.Region.{Does}
 use Rattle.solves.specs.View.{shares_in, masses_at}
@@ -28,14 +28,13 @@ loop-holds c =
     (omega arith, refl, scale-none _ _ c.requires.1)
 
 loop-again : tie.Need-loop-k-preserved invariant-loop decreases-loop
-loop-again c =
-    (
-      omega arith,
-      omega (arith, c.store_generalized.ensures.0.size, c.loop-k.invariant.1),
-      scale-again _ _ c.requires.1 c.loop-k.invariant.2 c.loop-k-test.true
-          c.load_generalized-value.ensures c.load_mass-mass.ensures
-          (share-there c.scaled.ensures c.in-Value.is) c.store_generalized.ensures,
-    )
+loop-again c = (
+  omega arith,
+  omega (arith, c.store_generalized.ensures.0.size, c.loop-k.invariant.1),
+  scale-again _ _ c.requires.1 c.loop-k.invariant.2 c.loop-k-test.true
+      c.load_generalized-value.ensures c.load_mass-mass.ensures
+      (share-there c.scaled.ensures c.in-Value.is) c.store_generalized.ensures,
+)
 
 returns-2 : tie.Need-returns invariant-loop decreases-loop
 returns-2 c =

@@ -41,13 +41,12 @@ push-row-requires c κs =
     (whole at-loop, search on-a, search on-b, c.requires.0.bodies)
 
 loop-again : tie.Need-loop-k-preserved invariant-loop decreases-loop
-loop-again c =
-    (
-      omega (arith, c.loop-k-test.true),
-      omega (arith, c.loop-k.invariant.1, c.push_row.ensures.kept.size),
-      transpose-again c.requires.0 c.requires.1 _ c.loop-k.invariant.2 c.loop-k-test.true c.load_row-row.ensures refl
-          c.push_row.ensures,
-    )
+loop-again c = (
+  omega (arith, c.loop-k-test.true),
+  omega (arith, c.loop-k.invariant.1, c.push_row.ensures.kept.size),
+  transpose-again c.requires.0 c.requires.1 _ c.loop-k.invariant.2 c.loop-k-test.true c.load_row-row.ensures refl
+      c.push_row.ensures,
+)
 
 -- the shares when all rows are in, with what the last test found of them
 summed : {y : Result (List Generalized)} (c : tie.After-loop-k invariant-loop decreases-loop) → let s = c.args.s.now in let t = c.args.t in y ≡ checked (shares_in c.loop-k.s t.bodies)

@@ -1,7 +1,7 @@
 -- `backward` meets its contract: row by row, from the last to the first, by SweepLaws `backwards-more`.
 use native.Mathlib.Omega.{arith}
 use Prim.Native.Nat.{◌<◌, ◌-◌}
-use lib.ListN.{length, get_or, length-set}
+use lib.ListN.{get_or, length-set}
 use Rattle.solves.proofs.SweepLaws.{BackwardSo, backwards-none, backwards-more, backwards-end}
 use Rattle.solves.proofs.path.backward.Statement.{statement}
 use Rattle.solves.proofs.path.backward.Tie as tie

@@ -1,7 +1,6 @@
 -- `forward` meets its contract: row by row by SweepLaws `forwards-more`.
 use native.Mathlib.Omega.{arith}
-use Prim.Native.Nat.{◌<◌, ◌-◌}
-use lib.ListN.{get_or}
+use Prim.Native.Nat.{◌-◌}
 use Rattle.solves.proofs.SweepLaws.{ForwardSo, forwards-none, forwards-more, forwards-end}
 use Rattle.solves.proofs.path.forward.Statement.{statement}
 use Rattle.solves.proofs.path.forward.Tie as tie

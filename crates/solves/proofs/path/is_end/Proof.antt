@@ -1,8 +1,6 @@
 -- `is_end` meets its contract: by the three tests of the definition.
 use native.Mathlib.Omega.{arith}
 use borrow.Author.Rules.{rules}
-use Prim.Native.Nat.{◌<◌}
-use lib.ListN.{get_or}
 use Rattle.solves.proofs.BlockLaws.{row-there, a_body, b-body}
 use Rattle.solves.proofs.WalkLaws.{end-visited, end-a, end-b}
 use Rattle.solves.proofs.path.is_end.Statement.{statement}

@@ -2,11 +2,9 @@
 use native.Mathlib.Omega.{arith}
 use borrow.Author.Rules.{rules}
 use mathlib.Core.Path.{◌∙◌}
-use Prim.Native.Nat.{◌-◌}
-use Rattle.arith.specs.Run.{ran}
 use Rattle.solves.specs.Region.{vec_at}
 use Rattle.solves.specs.View.{SOLUTION}
-use Rattle.solves.specs.DoesLaws.{ran-fails, sum-there, sum_over, went, failed, fails}
+use Rattle.solves.specs.DoesLaws.{ran-fails, sum-there, sum_over, went, failed}
 use Rattle.solves.proofs.OperatorLaws.{along-kept}
 use Rattle.arith.specs.Laws.Constants.{tenth-12}
 use Rattle.solves.proofs.SearchLaws.{new-ended}

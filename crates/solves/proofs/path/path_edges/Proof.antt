@@ -1,8 +1,7 @@
 -- `path_edges` meets its contract: turn by turn by BlockLaws `edges_more`, where a body is full by `edges-lost-a` and `edges-lost-b`.
 use native.Mathlib.Omega.{arith}
-use Prim.Native.Nat.{◌≤◌, ◌<◌, ◌-◌}
-use lib.ListN.{get_or}
-use Rattle.arith.specs.FlowLaws.{loop-end, not_yes, not-no}
+use Prim.Native.Nat.{◌≤◌, ◌-◌}
+use Rattle.arith.specs.FlowLaws.{loop-end}
 use Rattle.solves.specs.PathView.{blocks_at}
 use Rattle.solves.proofs.BlockLaws.{row-there, a_body, b-body, EdgesSo, edges_none, edges-yes, edges-no, edges-lost-a, edges-lost-b, edges_more}
 use Rattle.solves.proofs.WalkLaws.{false-true}
@@ -42,13 +41,12 @@ returns-2 c =
     }
 
 loop-again : tie.Need-loop-k-preserved invariant-loop decreases-loop
-loop-again c =
-    (
-      omega arith,
-      edges_more c.requires.blocked c.loop-k.invariant.1 c.loop-k-test.true
-          (edges-yes c.add_edge.result c.add_edge.new.edges c.add_edge.ensures c.if-not-add_edge.false)
-          (edges-yes c.add_edge-in-loop-k.result c.add_edge-in-loop-k.new.edges c.add_edge-in-loop-k.ensures c.if-not-add_edge-2.false),
-    )
+loop-again c = (
+  omega arith,
+  edges_more c.requires.blocked c.loop-k.invariant.1 c.loop-k-test.true
+      (edges-yes c.add_edge.result c.add_edge.new.edges c.add_edge.ensures c.if-not-add_edge.false)
+      (edges-yes c.add_edge-in-loop-k.result c.add_edge-in-loop-k.new.edges c.add_edge-in-loop-k.ensures c.if-not-add_edge-2.false),
+)
 
 pub path_edges_spec : {M : Type 1} → statement M
 path_edges_spec =

@@ -2,7 +2,7 @@
 use native.Mathlib.Omega.{arith}
 use borrow.Author.Rules.{rules}
 use mathlib.Core.Path.{refl}
-use lib.ListN.{length, length-set}
+use lib.ListN.{length-set}
 use Rattle.arith.specs.Laws.Constants.{zero_is}
 use Rattle.solves.specs.DoesLaws.{sum-there, sum_over}
 use Rattle.solves.proofs.FactorLaws.{entry-lost, entry-wild, entry-low, entry-pivot, entry-side}

@@ -3,7 +3,7 @@ use native.Mathlib.Omega.{arith}
 use borrow.Author.Rules.{rules}
 use Prim.Native.Nat.{◌≤◌, ◌-◌}
 use Rattle.solves.specs.Path.{path_row}
-use Rattle.solves.specs.DoesLaws.{does-fails, went, failed, fails}
+use Rattle.solves.specs.DoesLaws.{does-fails, went, failed}
 use Rattle.solves.proofs.OperatorLaws.{along-kept}
 use Rattle.solves.proofs.FactorLaws.{BandSo, band_on, rows_none, rows_more, rows-stop, rows_end, factor-from}
 use Rattle.solves.proofs.path.path_factor.Statement.{statement}
@@ -21,12 +21,11 @@ loop-holds c =
     (omega arith, rows_none c.requires _)
 
 loop-again : tie.Need-loop-i-preserved invariant-loop decreases-loop
-loop-again c =
-    (
-      omega (arith, c.loop-i-test.true),
-      rows_more c.requires _ c.loop-i.i c.loop-i.invariant.1
-          (went _ c.path_row-end.result c.done.ensures c.path_row-end.ensures c.if-not-done.false),
-    )
+loop-again c = (
+  omega (arith, c.loop-i-test.true),
+  rows_more c.requires _ c.loop-i.i c.loop-i.invariant.1
+      (went _ c.path_row-end.result c.done.ensures c.path_row-end.ensures c.if-not-done.false),
+)
 
 pub path_factor_spec : {M : Type 1} → statement M
 path_factor_spec =

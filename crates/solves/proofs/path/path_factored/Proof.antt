@@ -1,7 +1,7 @@
 -- `path_factored` meets its contract: by FactorLaws from what scales and factor gave.
 use native.Mathlib.Omega.{arith}
 use borrow.Author.Rules.{rules}
-use Rattle.solves.specs.DoesLaws.{does-fails, went, failed, fails}
+use Rattle.solves.specs.DoesLaws.{does-fails, went, failed}
 use Rattle.solves.proofs.OperatorLaws.{along-kept}
 use Rattle.solves.proofs.FactorLaws.{factored-unscaled, factored-on}
 use Rattle.solves.proofs.path.path_factored.Statement.{statement}

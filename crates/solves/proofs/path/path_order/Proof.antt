@@ -11,11 +11,10 @@ path-edges-requires c κs =
     record { blocked = c.path_blocks-blocks.ensures.are; linking = linked-none }
 
 path-walks-requires : tie.Need-path_walks-walked-requires
-path-walks-requires c κs =
-    (
-      record { blocked = c.path_blocks-blocks.ensures.are; linking = c.path_edges.ensures.links c.if-not-path_edges.false },
-      listed-none,
-    )
+path-walks-requires c κs = (
+  record { blocked = c.path_blocks-blocks.ensures.are; linking = c.path_edges.ensures.links c.if-not-path_edges.false },
+  listed-none,
+)
 
 returns-3 : tie.Need-returns-then-walked-n
 returns-3 c =

@@ -26,12 +26,11 @@ returns c =
     (not_yes _ c.if-not-walked.true))
 
 loop-again : tie.Need-loop-first-preserved invariant-loop decreases-loop
-loop-again c =
-    (
-      omega arith,
-      walks_more c.requires.0 c.loop-first.invariant.1 c.loop-first-test.true c.walk_from-walked.ensures
-          (not-no _ c.if-not-walked.false),
-    )
+loop-again c = (
+  omega arith,
+  walks_more c.requires.0 c.loop-first.invariant.1 c.loop-first-test.true c.walk_from-walked.ensures
+      (not-no _ c.if-not-walked.false),
+)
 
 returns-2 : tie.Need-returns invariant-loop decreases-loop
 returns-2 c =

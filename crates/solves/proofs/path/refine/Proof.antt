@@ -2,9 +2,8 @@
 use native.Mathlib.Omega.{arith}
 use borrow.Author.Rules.{rules}
 use mathlib.Core.Path.{◌∙◌}
-use Prim.Native.Nat.{◌-◌}
 use Rattle.solves.specs.View.{SOLUTION, PRODUCT}
-use Rattle.solves.specs.DoesLaws.{does-fails, went, failed, fails}
+use Rattle.solves.specs.DoesLaws.{does-fails, went, failed}
 use Rattle.solves.proofs.OperatorLaws.{rows-kept, place_of}
 use Rattle.solves.proofs.SolveLaws.{refine-failed, refine-done}
 use Rattle.solves.proofs.path.refine.Statement.{statement}

@@ -2,14 +2,11 @@
 use native.Mathlib.Omega.{arith}
 use borrow.Author.Rules.{rules}
 use Prim.Native.Nat.{◌-◌}
-use Rattle.arith.specs.Flow.{loop}
-use Rattle.arith.specs.Run.{ran}
-use Rattle.rows.specs.View.{at}
 use Rattle.solves.specs.Region.{vec_at}
 use Rattle.solves.specs.View.{system_on, refined_at, factor_at, list_of_first}
 use Rattle.solves.specs.View.{Refining}
 use Rattle.solves.specs.View.{RHS, SOLUTION}
-use Rattle.solves.specs.DoesLaws.{ran-fails, went, failed, fails, does-more}
+use Rattle.solves.specs.DoesLaws.{ran-fails, went, failed, does-more}
 use Rattle.solves.specs.ViewLaws.{refining-work}
 use Rattle.solves.proofs.OperatorLaws.{along-kept}
 use Rattle.solves.proofs.SearchLaws.{new-ended, Came, came-none, came-spent}

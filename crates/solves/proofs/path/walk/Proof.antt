@@ -1,8 +1,7 @@
 -- `walk` meets its contract: turn by turn by WalkLaws `walk_more`; a turn that ends the walk by `walk-met` or `walk_ends`.
 use native.Mathlib.Omega.{arith}
 use borrow.Author.Rules.{rules}
-use Prim.Native.Nat.{◌≤◌, ◌<◌, ◌-◌}
-use lib.ListN.{get_or}
+use Prim.Native.Nat.{◌≤◌, ◌-◌}
 use Rattle.solves.specs.PathView.{blocks_at, order_at}
 use Rattle.solves.proofs.BlockLaws.{row-there, a_body, b-body}
 use Rattle.solves.proofs.WalkLaws.{WalkSo, walk_none, walk-met, append-fits, walk_ends, walk_more, walk-spent}
@@ -39,12 +38,11 @@ returns-2 c =
     c.neighbor.ensures c.neighbor-in-loop-k.ensures c.next_block-next.ensures c.if-next-eq-NONE.true)
 
 loop-again : tie.Need-loop-k-preserved invariant-loop decreases-loop
-loop-again c =
-    (
-      omega (arith, c.loop-k-test.true),
-      walk_more c.requires.0 c.loop-k.invariant.1 c.loop-k-test.true c.if-visited-current.false c.append-listed.ensures
-          c.neighbor.ensures c.neighbor-in-loop-k.ensures c.next_block-next.ensures c.if-next-eq-NONE.false,
-    )
+loop-again c = (
+  omega (arith, c.loop-k-test.true),
+  walk_more c.requires.0 c.loop-k.invariant.1 c.loop-k-test.true c.if-visited-current.false c.append-listed.ensures
+      c.neighbor.ensures c.neighbor-in-loop-k.ensures c.next_block-next.ensures c.if-next-eq-NONE.false,
+)
 
 returns-3 : tie.Need-returns invariant-loop decreases-loop
 returns-3 c =

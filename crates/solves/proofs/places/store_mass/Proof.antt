@@ -2,7 +2,7 @@
 use native.Mathlib.Omega.{arith}
 use borrow.Author.Rules.{rules}
 use Prim.Native.Nat.{◌+◌, ◌*◌}
-use lib.ListN.{length, length-set}
+use lib.ListN.{length-set}
 use Rattle.solves.proofs.PlaceLaws.{stored-mass}
 use Rattle.solves.proofs.places.store_mass.Statement.{statement}
 use Rattle.solves.proofs.places.store_mass.Tie as tie

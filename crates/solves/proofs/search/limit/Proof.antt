@@ -1,7 +1,6 @@
 -- limit: by the case of `which`.
 use native.Mathlib.Omega.{arith}
 use borrow.Author.Rules.{rules}
-use Prim.Native.Nat.{◌-◌}
 use Rattle.solves.proofs.search.limit.Statement.{statement}
 use Rattle.solves.proofs.search.limit.Tie as tie
 

@@ -2,7 +2,6 @@
 use native.Mathlib.Omega.{arith}
 use borrow.Author.Rules.{rules}
 use Prim.Native.Nat.{◌-◌}
-use Rattle.arith.specs.Flow.{loop}
 use Rattle.solves.specs.Region.{vec_at}
 use Rattle.solves.specs.View.{system_on}
 use Rattle.solves.specs.View.{RHS, SOLUTION, DIAGONAL}

@@ -1,7 +1,6 @@
 -- search_pass: the pass of one search or the other, by the case of `which`.
 use native.Mathlib.Omega.{arith}
 use borrow.Author.Rules.{rules}
-use Prim.Native.Nat.{◌-◌}
 use Rattle.solves.proofs.search.search_pass.Statement.{statement}
 use Rattle.solves.proofs.search.search_pass.Tie as tie
 

@@ -1,7 +1,6 @@
 -- linear_solve: zeros and the right side, then the solve that is chosen.
 use native.Mathlib.Omega.{arith}
 use mathlib.Core.Path.{◌∙◌}
-use Prim.Native.Nat.{◌-◌}
 use Rattle.arith.specs.FlowLaws.{not_yes, not-no}
 use Rattle.solves.specs.DoesLaws.{solves-numbered}
 use Rattle.solves.proofs.OperatorLaws.{rows-kept}
@@ -20,13 +19,12 @@ returns c =
     c.least_squares.ensures)
 
 path-order-requires : tie.Need-path_order-path-requires
-path-order-requires c κs =
-    (
-      c.requires.most,
-      λ k h. omega (arith, c.requires.a-there k h, c.requires.bodies),
-      λ k h. omega
-          (arith, c.requires.b_there k h, c.requires.bodies),
-    )
+path-order-requires c κs = (
+  c.requires.most,
+  λ k h. omega (arith, c.requires.a-there k h, c.requires.bodies),
+  λ k h. omega
+      (arith, c.requires.b_there k h, c.requires.bodies),
+)
 
 gradients-requires : tie.Need-gradients-requires
 gradients-requires c κs =

@@ -6,7 +6,7 @@ use Prim.Native.Nat.{◌+◌, ◌*◌, ◌≤◌, ◌-◌}
 use mathlib.Core.Bool.{true}
 use Rattle.arith.specs.Real.{ratio}
 use Rattle.arith.specs.Flow.{every}
-use Rattle.arith.specs.FlowLaws.{not_yes, not-no, every-none, every_more, every-fail, every-end}
+use Rattle.arith.specs.FlowLaws.{every-none, every_more, every-fail, every-end}
 use Rattle.rows.specs.View.{vec3_at}
 use Rattle.step.specs.Layout.{CANDIDATE}
 use Rattle.step.specs.Checks.{within_of}
@@ -25,12 +25,11 @@ returns c =
     (sym (within-at c.within.ensures c.load3.ensures ground-is) ∙ c.if-not-within.true)
 
 loop-again : tie.Need-loop-k-preserved invariant-loop decreases-loop
-loop-again c =
-    (
-      omega arith,
-      every_more _ c.loop-k.invariant.1
-          (sym (within-at c.within.ensures c.load3.ensures ground-is) ∙ c.if-not-within.false),
-    )
+loop-again c = (
+  omega arith,
+  every_more _ c.loop-k.invariant.1
+      (sym (within-at c.within.ensures c.load3.ensures ground-is) ∙ c.if-not-within.false),
+)
 
 pub in_ground_spec : {M : Type 1} → statement M
 in_ground_spec =

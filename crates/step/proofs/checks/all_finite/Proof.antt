@@ -6,7 +6,7 @@ use mathlib.Core.Bool.{true}
 use lib.ListN.{length}
 use Rattle.arith.specs.Real.{is_finite}
 use Rattle.arith.specs.Flow.{every}
-use Rattle.arith.specs.FlowLaws.{not_yes, not-no, every-none, every_more, every-fail, every-end}
+use Rattle.arith.specs.FlowLaws.{every-none, every_more, every-fail, every-end}
 use Rattle.rows.specs.View.{at}
 use Rattle.step.proofs.checks.all_finite.Statement.{statement}
 use Rattle.step.proofs.checks.all_finite.Tie as tie
@@ -22,12 +22,11 @@ returns c =
     every-fail _ _ (omega arith) (sym c.is_finite.ensures ∙ c.if-not-is_finite.true)
 
 loop-again : tie.Need-loop-k-preserved invariant-loop decreases-loop
-loop-again c =
-    (
-      omega arith,
-      omega arith,
-      every_more _ c.loop-k.invariant.2 (sym c.is_finite.ensures ∙ c.if-not-is_finite.false),
-    )
+loop-again c = (
+  omega arith,
+  omega arith,
+  every_more _ c.loop-k.invariant.2 (sym c.is_finite.ensures ∙ c.if-not-is_finite.false),
+)
 
 pub all_finite_spec : {M : Type 1} → statement M
 all_finite_spec =

@@ -23,12 +23,11 @@ returns c =
     (test-no body_in_range c.body_in_range.ensures c.load_record.ensures c.if-not-body_in_range.true)
 
 loop-again : tie.Need-loop-k-preserved invariant-loop decreases-loop
-loop-again c =
-    (
-      omega arith,
-      every_more _ c.loop-k.invariant.1
-          (test-yes body_in_range c.body_in_range.ensures c.load_record.ensures c.if-not-body_in_range.false),
-    )
+loop-again c = (
+  omega arith,
+  every_more _ c.loop-k.invariant.1
+      (test-yes body_in_range c.body_in_range.ensures c.load_record.ensures c.if-not-body_in_range.false),
+)
 
 pub bodies_in_range_spec : {M : Type 1} → statement M
 bodies_in_range_spec =

@@ -23,12 +23,11 @@ returns c =
     (test-no has_inverse c.has_inverse.ensures c.load_record.ensures c.if-not-has_inverse.true)
 
 loop-again : tie.Need-loop-k-preserved invariant-loop decreases-loop
-loop-again c =
-    (
-      omega arith,
-      every_more _ c.loop-k.invariant.1
-          (test-yes has_inverse c.has_inverse.ensures c.load_record.ensures c.if-not-has_inverse.false),
-    )
+loop-again c = (
+  omega arith,
+  every_more _ c.loop-k.invariant.1
+      (test-yes has_inverse c.has_inverse.ensures c.load_record.ensures c.if-not-has_inverse.false),
+)
 
 pub inertias_invert_spec : {M : Type 1} → statement M
 inertias_invert_spec =

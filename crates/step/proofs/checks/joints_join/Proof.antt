@@ -4,7 +4,7 @@ use native.Mathlib.Omega.{arith}
 use Prim.Native.Nat.{◌≤◌, ◌-◌}
 use mathlib.Core.Bool.{true}
 use Rattle.arith.specs.Flow.{every}
-use Rattle.arith.specs.FlowLaws.{not_yes, not-no, every-none, every_more, every-fail, every-end}
+use Rattle.arith.specs.FlowLaws.{every-none, every_more, every-fail, every-end}
 use Rattle.step.specs.Checks.{joins_two, joint_in}
 use Rattle.step.proofs.checks.joints_join.Statement.{statement}
 use Rattle.step.proofs.checks.joints_join.Tie as tie

@@ -4,7 +4,7 @@ use native.Mathlib.Omega.{arith}
 use Prim.Native.Nat.{◌≤◌, ◌-◌}
 use mathlib.Core.Bool.{true}
 use Rattle.arith.specs.Flow.{every}
-use Rattle.arith.specs.FlowLaws.{not_yes, not-no, every-none, every_more, every-fail, every-end}
+use Rattle.arith.specs.FlowLaws.{every-none, every_more, every-fail, every-end}
 use Rattle.step.specs.Checks.{joint_ok, joint_in}
 use Rattle.step.proofs.checks.joints_ok.Statement.{statement}
 use Rattle.step.proofs.checks.joints_ok.Tie as tie

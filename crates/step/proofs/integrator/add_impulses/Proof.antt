@@ -1,6 +1,5 @@
 -- `add_impulses` is `add_impulses`: before turn k the first k sums stand in their places (TableLaws).
 use lib.ListN.{length, length-set}
-use Rattle.arith.specs.FlowLaws.{not_yes, not-no}
 use Rattle.step.proofs.TableLaws.{Summed, sum-none, sum-again, sum-stops, sum-ends}
 use native.Mathlib.Omega.{arith}
 use mathlib.Core.Path.{◌≡◌, refl}
@@ -20,13 +19,12 @@ returns c =
     c.is_finite.ensures c.if-not-is_finite.true
 
 loop-again : tie.Need-loop-k-preserved invariant-loop decreases-loop
-loop-again c =
-    (
-      omega arith,
-      simp length-set (omega arith),
-      sum-again _ _ _ _ c.loop-k.invariant.2 c.loop-k-test.true c.requires.1 (omega arith)
-          c.is_finite.ensures c.if-not-is_finite.false,
-    )
+loop-again c = (
+  omega arith,
+  simp length-set (omega arith),
+  sum-again _ _ _ _ c.loop-k.invariant.2 c.loop-k-test.true c.requires.1 (omega arith)
+      c.is_finite.ensures c.if-not-is_finite.false,
+)
 
 returns-2 : tie.Need-returns invariant-loop decreases-loop
 returns-2 c =

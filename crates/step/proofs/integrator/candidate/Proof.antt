@@ -20,12 +20,11 @@ returns-2 c =
     c.move_bodies-moved.result c.done-2.ensures c.if-not-done-2.true c.move_bodies-moved.ensures _
 
 write-rows-requires : tie.Need-write_rows-requires
-write-rows-requires c κs =
-    (
-      omega arith,
-      omega arith,
-      joined-sixteen c.requires.1.joined,
-    )
+write-rows-requires c κs = (
+  omega arith,
+  omega arith,
+  joined-sixteen c.requires.1.joined,
+)
 
 returns-3 : tie.Need-returns
 returns-3 c =

@@ -16,14 +16,13 @@ abbrev decreases-loop : tie.decreases-loop-k
 decreases-loop index₀ from n body k₀ k-end index k = k-end - k
 
 loop-again : tie.Need-loop-k-preserved invariant-loop decreases-loop
-loop-again c =
-    (
-      omega arith,
-      omega arith,
-      omega arith,
-      simp length-set (omega arith),
-      spread-more (omega arith) (omega arith) c.loop-k.invariant.4,
-    )
+loop-again c = (
+  omega arith,
+  omega arith,
+  omega arith,
+  simp length-set (omega arith),
+  spread-more (omega arith) (omega arith) c.loop-k.invariant.4,
+)
 
 returns : tie.Need-returns invariant-loop decreases-loop
 returns c =

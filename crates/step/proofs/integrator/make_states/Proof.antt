@@ -43,15 +43,14 @@ add-k c =
     omega (arith, at-match)
 
 loop-again : tie.Need-loop-k-preserved invariant-loop decreases-loop
-loop-again c =
-    (
-      omega arith,
-      omega arith,
-      state-again c.args.bodies.now _ _ c.loop-k.invariant.2 c.loop-k-test.true c.requires.2
-          c.requires.1 c.load_candidate-body.ensures refl
-          (state-go c.state.ensures c.in-Value.is ∙ ap (state_of _) c.load_state.ensures)
-          c.store_state.ensures,
-    )
+loop-again c = (
+  omega arith,
+  omega arith,
+  state-again c.args.bodies.now _ _ c.loop-k.invariant.2 c.loop-k-test.true c.requires.2
+      c.requires.1 c.load_candidate-body.ensures refl
+      (state-go c.state.ensures c.in-Value.is ∙ ap (state_of _) c.load_state.ensures)
+      c.store_state.ensures,
+)
 
 pub make_states_spec : {M : Type 1} → statement M
 make_states_spec =

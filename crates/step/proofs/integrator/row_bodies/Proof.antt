@@ -22,17 +22,16 @@ abbrev decreases-loop : tie.decreases-loop-k
 decreases-loop ia₀ ib₀ count joints n₀ k₀ ia ib n k = count - k
 
 loop-holds : tie.Need-loop-k-init invariant-loop decreases-loop
-loop-holds c =
-    (
-      omega arith,
-      omega arith,
-      refl,
-      refl,
-      (λ body-count q j h. absurd (omega arith)),
-      (λ body-count q j h. absurd (omega arith)),
-      search before-none,
-      sides-none _,
-    )
+loop-holds c = (
+  omega arith,
+  omega arith,
+  refl,
+  refl,
+  (λ body-count q j h. absurd (omega arith)),
+  (λ body-count q j h. absurd (omega arith)),
+  search before-none,
+  sides-none _,
+)
 
 fill-requires : tie.Need-fill-requires invariant-loop decreases-loop
 fill-requires c κs =
@@ -64,12 +63,11 @@ loop-again c =
     )
 
 returns : tie.Need-returns invariant-loop decreases-loop
-returns c =
-    (
-      record { most = omega arith; a-there = c.loop-k.invariant.4; b_there = c.loop-k.invariant.5 },
-      sides-end _ (omega arith) c.loop-k-test.false c.loop-k.invariant.7,
-      search turns-end,
-    )
+returns c = (
+  record { most = omega arith; a-there = c.loop-k.invariant.4; b_there = c.loop-k.invariant.5 },
+  sides-end _ (omega arith) c.loop-k-test.false c.loop-k.invariant.7,
+  search turns-end,
+)
 
 pub row_bodies_spec : {M : Type 1} → statement M
 row_bodies_spec =

@@ -3,7 +3,6 @@ use mathlib.Core.Bool.{true}
 use mathlib.Core.List.{List}
 use Rattle.arith.specs.Flow.{every}
 use Rattle.arith.specs.FlowLaws.{every-none, every_more}
-use Rattle.rows.specs.View.{at}
 use Rattle.step.proofs.TableLaws.{row_test, row-test, met-fails, met-ends}
 use native.Mathlib.Omega.{arith}
 use mathlib.Core.Path.{◌≡◌}

@@ -40,11 +40,10 @@ returns-2 c =
     c.stage_loop-met.result c.stage_loop-met.ensures c.done-2.ensures c.if-not-done-2.true)
 
 finish-run-requires : tie.Need-finish_run-last-requires
-finish-run-requires c κs =
-    (
-      record { ready = rows_of _ (omega arith) (omega arith) c.requires.1 c.row_bodies-n.ensures.0; long = omega arith },
-      omega arith,
-    )
+finish-run-requires c κs = (
+  record { ready = rows_of _ (omega arith) (omega arith) c.requires.1 c.row_bodies-n.ensures.0; long = omega arith },
+  omega arith,
+)
 
 add-run-ended : tie.Need-overflow_add-met
 add-run-ended c =

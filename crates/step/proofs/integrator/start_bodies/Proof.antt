@@ -25,15 +25,14 @@ returns c =
     (end-stops _ end c.done.ensures (answered c.new-made.ensures) c.if-not-done.true))
 
 loop-again : tie.Need-loop-k-preserved invariant-loop decreases-loop
-loop-again c =
-    (
-      omega arith,
-      omega arith,
-      begin-again c.args.bodies.now _ _ c.loop-k.invariant.2 c.loop-k-test.true c.requires.2
-          c.load_record-record.ensures c.inverse_spd-inverted.ensures refl
-          (end_goes _ c.new-made.result.outcome c.done.ensures (answered c.new-made.ensures) c.if-not-done.false)
-          c.store_start.ensures,
-    )
+loop-again c = (
+  omega arith,
+  omega arith,
+  begin-again c.args.bodies.now _ _ c.loop-k.invariant.2 c.loop-k-test.true c.requires.2
+      c.load_record-record.ensures c.inverse_spd-inverted.ensures refl
+      (end_goes _ c.new-made.result.outcome c.done.ensures (answered c.new-made.ensures) c.if-not-done.false)
+      c.store_start.ensures,
+)
 
 pub start_bodies_spec : {M : Type 1} → statement M
 start_bodies_spec =

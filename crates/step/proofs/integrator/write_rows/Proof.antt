@@ -69,8 +69,7 @@ add-k c =
 
 loop-again : tie.Need-loop-k-preserved invariant-loop decreases-loop
 loop-again c =
-    let at-load-moved = c.before.before.before.before.before.before in
-    (
+    let at-load-moved = c.before.before.before.before.before.before in (
       omega arith,
       omega (
         arith,

@@ -2,7 +2,6 @@
 use borrow.Author.Rules.{rules}
 use native.Mathlib.Omega.{arith}
 use mathlib.Core.Path.{◌∙◌, sym}
-use Rattle.arith.specs.FlowLaws.{not-no}
 use Rattle.solves.specs.DoesLaws.{ran-done, fails}
 use Rattle.step.proofs.VelocityLaws.{apply-stops, apply-then}
 use Rattle.step.proofs.velocity.apply.Statement.{statement}

@@ -25,15 +25,14 @@ returns c =
     (end-stops _ end c.done.ensures (answered c.kick-kicked.ensures) c.if-not-done.true))
 
 loop-again : tie.Need-loop-k-preserved invariant-loop decreases-loop
-loop-again c =
-    (
-      omega arith,
-      omega arith,
-      kick-again _ _ c.loop-k.invariant.2 c.loop-k-test.true c.requires.1 c.load_generalized-share.ensures
-          c.load_candidate.ensures refl
-          (end_goes _ c.kick-kicked.result.outcome c.done.ensures (answered c.kick-kicked.ensures) c.if-not-done.false)
-          c.store_candidate.ensures,
-    )
+loop-again c = (
+  omega arith,
+  omega arith,
+  kick-again _ _ c.loop-k.invariant.2 c.loop-k-test.true c.requires.1 c.load_generalized-share.ensures
+      c.load_candidate.ensures refl
+      (end_goes _ c.kick-kicked.result.outcome c.done.ensures (answered c.kick-kicked.ensures) c.if-not-done.false)
+      c.store_candidate.ensures,
+)
 
 returns-2 : tie.Need-returns invariant-loop decreases-loop
 returns-2 c =

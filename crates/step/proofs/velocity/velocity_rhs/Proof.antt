@@ -18,14 +18,13 @@ abbrev decreases-loop : tie.decreases-loop-k
 decreases-loop s₀ ia ib t n a₀ b₀ k₀ s a b k = n - k
 
 loop-holds : tie.Need-loop-k-init invariant-loop decreases-loop
-loop-holds c =
-    (
-      omega arith,
-      refl,
-      rhs-none c.requires.ready,
-      no-body-remembered c.no_motion-a.ensures,
-      no-body-remembered c.no_motion-b.ensures,
-    )
+loop-holds c = (
+  omega arith,
+  refl,
+  rhs-none c.requires.ready,
+  no-body-remembered c.no_motion-a.ensures,
+  no-body-remembered c.no_motion-b.ensures,
+)
 
 motion-again-requires : tie.Need-motion_again-a-requires invariant-loop decreases-loop
 motion-again-requires c κs =
@@ -81,8 +80,7 @@ add-k c =
 
 loop-again : tie.Need-loop-k-preserved invariant-loop decreases-loop
 loop-again c =
-    let at-load-row = c.before.before.before.before in
-    (
+    let at-load-row = c.before.before.before.before in (
       omega arith,
       simp length-set c.loop-k.invariant.1,
       rhs-again c.requires.ready c.loop-k.invariant.2 c.loop-k-test.true at-load-row.load_row-row.ensures
