@@ -64,6 +64,9 @@ fn send(rt: HostRuntime, input: Input, text: &[u8])
     let mut stdout = rt.stdout();
     let sent = stdout.write_all(text);
     if sent.is_err() {
-        streams::complain(&mut stderr, b"pose: the answer could not be written whole\n");
+        streams::complain(
+            &mut stderr,
+            b"pose: the answer could not be written whole\n",
+        );
     }
 }

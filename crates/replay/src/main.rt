@@ -85,8 +85,14 @@ fn main(rt: HostRuntime) {
             let mut from = plans;
             let mut stdout = rt.stdout();
             match replay(&mut from, &mut stdout) {
-                Round::Unread => streams::complain(&mut stderr, b"replay: plans.bin could not be read to its end\n"),
-                Round::Unwritten => streams::complain(&mut stderr, b"replay: an answer could not be written whole\n"),
+                Round::Unread => streams::complain(
+                    &mut stderr,
+                    b"replay: plans.bin could not be read to its end\n",
+                ),
+                Round::Unwritten => streams::complain(
+                    &mut stderr,
+                    b"replay: an answer could not be written whole\n",
+                ),
                 _ => {}
             }
         }

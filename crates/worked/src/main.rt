@@ -95,6 +95,9 @@ fn main(rt: HostRuntime) {
     let mut stdout = rt.stdout();
     if !show_all(&mut stdout) {
         let mut stderr = rt.stderr();
-        streams::complain(&mut stderr, b"worked: a report could not be written whole\n");
+        streams::complain(
+            &mut stderr,
+            b"worked: a report could not be written whole\n",
+        );
     }
 }
