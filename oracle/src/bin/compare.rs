@@ -38,7 +38,7 @@ fn options() -> Result<Options, String> {
         seed: 0,
         count: 0,
         container: None,
-        pose: vec!["target/bin/pose".to_string()],
+        pose: vec!["crates/pose/out/pose".to_string()],
         save: PathBuf::from("oracle/target/differences"),
         workers: 2,
         seconds: 60,

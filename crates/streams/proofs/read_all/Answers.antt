@@ -1,10 +1,11 @@
--- `read_all`: one more read, by `reading-more`; its answer comes back from the machine as it was.
+-- `read_all`: one more read, by `reading-more`; a read that brought nothing, by `reading-stops`. Its answer comes back from the
+-- machine as it was.
 use Rattle.std.proofs.Common.{◌≡◌, arith}
 use borrow.Author.Rules.{sfits_of}
 use mir.Syntax.{w64}
 use mir.Val.{to_z, of_z}
 use mir.Facts.{to_z-of_z}
-use Rattle.streams.proofs.Readings.{reading-more}
+use Rattle.streams.proofs.Readings.{reading-more, reading-stops}
 use Rattle.streams.proofs.read_all.Goals as goal
 
 pub loop-count-preserved : goal.loop-count-preserved
@@ -17,3 +18,10 @@ loop-count-preserved g c =
       within = omega (arith, c.read_to-read.ensures.within, c.bytes-n.ensures);
       reading = reading-more _ _ c.loop-count.invariant.reading c.read_to-read.ensures c.bytes-n.ensures back c.if-n-eq0.false;
     }
+
+pub returns-then-n-eq0 : goal.returns-then-n-eq0
+returns-then-n-eq0 g c =
+    let answer = c.read_to-read.result.answer in
+    let back : to_z w64 (of_z w64 answer) ≡ answer = to_z-of_z {w = w64} (sfits_of c.read_to-read.type_inv.1.1.0.1) in
+    reading-stops _ _ c.loop-count.invariant.reading c.read_to-read.ensures c.bytes-n.ensures back c.if-n-eq0.true
+    (omega arith) c.loop-count.invariant.size (omega arith)
