@@ -1,5 +1,6 @@
 -- Sine and cosine of an angle from 0 to 4, the arc tangent of a quotient and the remainder by a whole turn: SPECIFICATION §2.3 to §2.5.
-use Rattle.arith.specs.Words.{ℕ, zero, suc, ◌*◌, cond, ◌&&◌, List, [], ◌∷◌, Float, binary64, neg, eq, lt, le, rem, SineCosine, SinCos, Angle}
+use Rattle.std.specs.Prelude.{ℕ, zero, suc, ◌*◌, cond, ◌&&◌, List, [], ◌∷◌, Float}
+use Rattle.arith.specs.Words.{binary64, neg, eq, lt, le, rem, SineCosine, SinCos, Angle}
 use Rattle.arith.specs.Real.{◌⊕◌, ◌⊖◌, ◌⊗◌, ◌⊘◌, F, ratio, is_finite, abs_of}
 use Rattle.arith.specs.Root.{sqrt}
 

@@ -1,5 +1,5 @@
 -- How a call of the solver fails, as far as the Rust's CollisionError occurs, with the number of each (SPECIFICATION §7.2).
-use Rattle.arith.specs.Words.{ℕ}
+use Rattle.std.specs.Prelude.{ℕ}
 
 pub data Fault : Type 0 where
   non_convergent arithmetic_overflow : Fault

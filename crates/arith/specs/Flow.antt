@@ -1,6 +1,6 @@
 -- Loops and early returns as definitions, one set for the whole project.
 -- `Turn A E` is Rust's Result: `go a` goes on with a, `stop e` leaves with e (an error, or an early return). In a `do` block `x ← e` is Rust's `let x = e?`.
-use Rattle.arith.specs.Words.{ℕ, zero, suc, Bool, true, cond, ◌&&◌, List, [], ◌∷◌, ◌++◌}
+use Rattle.std.specs.Prelude.{ℕ, zero, suc, Bool, true, cond, ◌&&◌, List, [], ◌∷◌, ◌++◌}
 
 pub data Turn (A E : Type 0) : Type 0 where
   go : A → Turn A E

@@ -1,5 +1,6 @@
 -- The hypotenuse: SPECIFICATION §2.2.
-use Rattle.arith.specs.Words.{false, cond, ◌&&◌, Float, inf, binary64, eq, lt}
+use Rattle.std.specs.Prelude.{false, cond, ◌&&◌, Float}
+use Rattle.arith.specs.Words.{inf, binary64, eq, lt}
 use Rattle.arith.specs.Real.{◌⊕◌, ◌⊗◌, ◌⊘◌, ratio, is_finite, abs_of}
 use Rattle.arith.specs.Root.{sqrt}
 

@@ -1,5 +1,6 @@
 -- The operations on doubles under short names, constants, and the definitions of src/number.rt.
-use Rattle.arith.specs.Words.{ℕ, Bool, true, false, cond, Float, nan, inf, fin, binary64, of_bits, round, lt}
+use Rattle.std.specs.Prelude.{ℕ, Bool, true, false, cond, Float}
+use Rattle.arith.specs.Words.{nan, inf, fin, binary64, of_bits, round, lt}
 use Rattle.std.specs.Float.Ieee as Ieee
 
 infixl 60 ◌⊕◌ ◌⊖◌

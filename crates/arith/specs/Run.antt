@@ -1,6 +1,6 @@
 -- A run with its two counters. `Run A E` is a Turn that counted: `go a` or `stop e`, with the nonlinear and the linear passes so far.
 -- In a `do` block of a file that imports these `◌>>=◌` and `◌>>◌`, `x ← e` is `let x = e?` and the counts add up; a failure keeps them.
-use Rattle.arith.specs.Words.{ℕ, zero, suc, ◌+◌, Bool, cond}
+use Rattle.std.specs.Prelude.{ℕ, zero, suc, ◌+◌, Bool, cond}
 use Rattle.arith.specs.Flow.{Turn, go, stop}
 
 pub record Run (A E : Type 0) : Type 0 where

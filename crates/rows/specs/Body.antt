@@ -1,5 +1,6 @@
 -- body.rs: a body with its momenta, as the solver moves it.
-use Rattle.rows.specs.Words.{◌^◌, Bool, cond, not, ◌&&◌, Float, eq, le, ◌⊕◌, ◌⊗◌, ◌⊘◌, ratio, Turn, go, stop, ◌>>=◌, loop, return_if, Vec3, Quat, Mat3}
+use Rattle.std.specs.Prelude.{◌^◌, Bool, cond, not, ◌&&◌, Float}
+use Rattle.rows.specs.Words.{eq, le, ◌⊕◌, ◌⊗◌, ◌⊘◌, ratio, Turn, go, stop, ◌>>=◌, loop, return_if, Vec3, Quat, Mat3}
 use Rattle.rows.specs.Words.{add_of, sub_of, scale_of, div_of, conjugate_of, is_normalized_of, integrate_of, apply_of, RigidBody, BodyState, MomentumBody}
 use Rattle.rows.specs.Fault.{non_convergent, arithmetic_overflow, Result, quat_or, try_finite, try_length, try_rotate, or_leave}
 

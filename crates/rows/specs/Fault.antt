@@ -1,5 +1,6 @@
 -- How a call of the solver fails, and mod.rs: `Turn A Fault` is its Result.
-use Rattle.rows.specs.Words.{cond, Float, Turn, go, stop, Vec3, OptionVec3, OptionF64, Quat, OptionQuat, finite_of, checked_length_of, rotate_vector_of}
+use Rattle.std.specs.Prelude.{cond, Float}
+use Rattle.rows.specs.Words.{Turn, go, stop, Vec3, OptionVec3, OptionF64, Quat, OptionQuat, finite_of, checked_length_of, rotate_vector_of}
 pub use Rattle.arith.specs.Fault.{Fault, non_convergent, arithmetic_overflow, number}
 
 abbrev pub Result : Type 0 → Type 0

@@ -1,7 +1,6 @@
 -- The names that the definitions use of the toolchain, of the crates beneath and of the code's types, passed on: nothing is defined here.
-pub use Rattle.vectors.specs.Words.{◌^◌, List, [], ◌∷◌, Bool, cond, not, ◌&&◌, ◌||◌, true, false, Float, binary64, neg, eq, le, ◌⊕◌, ◌⊖◌, ◌⊗◌, ◌⊘◌, ratio}
+pub use Rattle.vectors.specs.Words.{binary64, neg, eq, le, ◌⊕◌, ◌⊖◌, ◌⊗◌, ◌⊘◌, ratio}
 pub use Rattle.vectors.specs.Words.{is_finite, abs_of, max_of, sqrt, Turn, go, stop, ◌>>=◌, loop, return_if, PI, atan2_of, rem_tau_of}
-pub use Rattle.arith.specs.Words.{◌++◌}
 pub use Rattle.arith.specs.declared.angle.Angle.{Angle}
 pub use Rattle.vectors.specs.declared.vector.Vec3.{Vec3}
 pub use Rattle.vectors.specs.declared.vector.OptionVec3.{OptionVec3}

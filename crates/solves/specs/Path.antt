@@ -1,7 +1,7 @@
 -- solver.rs, fn path_solve up to its refinements. A path's Schur matrix is block tridiagonal once its rows are ordered along the path, and a
 -- Cholesky factor of band 12 solves it.
-use Rattle.solves.specs.Words.{ℕ, ◌+◌, ◌*◌, ◌-◌, min, List, [], ◌∷◌, ◌++◌, Bool, true, false, cond, not, ◌&&◌, ◌||◌, length, get_or, set, replicate, eqb}
-use Rattle.solves.specs.Words.{Float, binary64, le, ◌⊕◌, ◌⊖◌, ◌⊗◌, ◌⊘◌, ratio, is_finite, sqrt, go, stop, ◌>>=◌, turns, loop, tab, each, return_if, Turn}
+use Rattle.std.specs.Prelude.{ℕ, ◌+◌, ◌*◌, ◌-◌, min, List, [], ◌∷◌, ◌++◌, Bool, true, false, cond, not, ◌&&◌, ◌||◌, length, get_or, set, replicate, eqb, Float}
+use Rattle.solves.specs.Words.{binary64, le, ◌⊕◌, ◌⊖◌, ◌⊗◌, ◌⊘◌, ratio, is_finite, sqrt, go, stop, ◌>>=◌, turns, loop, tab, each, return_if, Turn}
 use Rattle.solves.specs.Words.{at, EqualityRow, non_convergent, Result, MassResponse}
 use Rattle.solves.specs.System.{System, rows_in}
 use Rattle.solves.specs.Solver.{row_in, operator, cross_mass, difference}

@@ -1,6 +1,7 @@
 -- least_squares, path_solve and linear_solve of solver.rs, pass by pass. In a `do` block `x ← e` is `let x = e?` with the passes that it counted;
 -- `try` marks what counts none, `tick` is `self.linear_iterations += 1`.
-use Rattle.solves.specs.Words.{ℕ, ◌+◌, ◌*◌, ◌^◌, List, Bool, cond, replicate, Float, binary64, le, ◌⊘◌, ratio, sqrt, go, stop, Turn, non_convergent}
+use Rattle.std.specs.Prelude.{ℕ, ◌+◌, ◌*◌, ◌^◌, List, Bool, cond, replicate, Float}
+use Rattle.solves.specs.Words.{binary64, le, ◌⊘◌, ratio, sqrt, go, stop, Turn, non_convergent}
 use Rattle.arith.specs.Run.{◌>>=◌, ◌>>◌, try, tick, fail_if, again, leave_if, up_to}
 use Rattle.solves.specs.System.{System, rows_in, side_of, Counting}
 use Rattle.solves.specs.Solver.{operator, dot, plus, minus, within, tolerance_for, Search, prepare, true_residual, scaled_square, next_direction, advance}

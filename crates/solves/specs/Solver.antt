@@ -1,6 +1,7 @@
 -- solver.rs below `solve`, what counts no pass: over plain values, in the Rust's names and order of operations; sums start from +0 and go from the
 -- left. In a `do` block `x ← e` is `let x = e?`. The path of joints is in Path.antt, what counts its passes in Search.antt.
-use Rattle.solves.specs.Words.{ℕ, List, [], ◌∷◌, ◌++◌, Bool, false, cond, not, ◌||◌, length, get_or, set, replicate, eqb, Float, nan, binary64, le, ◌⊕◌}
+use Rattle.std.specs.Prelude.{ℕ, List, [], ◌∷◌, ◌++◌, Bool, false, cond, not, ◌||◌, length, get_or, set, replicate, eqb, Float}
+use Rattle.solves.specs.Words.{nan, binary64, le, ◌⊕◌}
 use Rattle.solves.specs.Words.{◌⊖◌, ◌⊗◌, ◌⊘◌, ratio, is_finite, sqrt, go, stop, ◌>>=◌, turns, loop, tab, each, return_if, Vec3, zero_vec, dot_of, add_of}
 use Rattle.solves.specs.Words.{scale_of, at, apply_of, EqualityRow, non_convergent, arithmetic_overflow, Result, try_finite, MassResponse, Generalized}
 use Rattle.solves.specs.System.{System, rows_in}

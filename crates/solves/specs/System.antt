@@ -1,5 +1,6 @@
 -- What a linear solve is about: the rows, and the mass response of each body.
-use Rattle.solves.specs.Words.{ℕ, List, [], ◌∷◌, length, EqualityRow, Fault, MassResponse}
+use Rattle.std.specs.Prelude.{ℕ, List, [], ◌∷◌, length}
+use Rattle.solves.specs.Words.{EqualityRow, Fault, MassResponse}
 use Rattle.arith.specs.Run.{Run}
 
 abbrev pub BODIES_MOST : ℕ  -- the most bodies of a solve

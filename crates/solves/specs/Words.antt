@@ -1,6 +1,5 @@
 -- The names that the definitions use of the toolchain, of the crates beneath and of the code's types, passed on: nothing is defined here.
-pub use Rattle.arith.specs.Words.{ℕ, ◌+◌, ◌*◌, ◌-◌, ◌^◌, min, List, [], ◌∷◌, ◌++◌, Bool, true, false, cond, not, ◌&&◌, ◌||◌, length, get_or, set, replicate, eqb}
-pub use Rattle.arith.specs.Words.{Float, nan, binary64, le}
+pub use Rattle.arith.specs.Words.{nan, binary64, le}
 pub use Rattle.arith.specs.Real.{◌⊕◌, ◌⊖◌, ◌⊗◌, ◌⊘◌, ratio, is_finite}
 pub use Rattle.arith.specs.Root.{sqrt}
 pub use Rattle.arith.specs.Flow.{go, stop, ◌>>=◌, turns, loop, tab, each, return_if, Turn}

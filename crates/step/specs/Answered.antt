@@ -1,6 +1,7 @@
 -- What a step says: its answer is the definition's, and the joints of an accepted step are met by the records that it hands back.
 -- SPECIFICATION §0, demands 1, 2 and 3.
-use Rattle.step.specs.Words.{ℕ, ◌≤◌, ◌<◌, List, ◌≡◌, length, Float, stop, Joint, Fault, number, Place, record_place, Met, Stands, Proper, Outcome, Report}
+use Rattle.std.specs.Prelude.{ℕ, ◌≤◌, ◌<◌, List, ◌≡◌, length, Float}
+use Rattle.step.specs.Words.{stop, Joint, Fault, number, Place, record_place, Met, Stands, Proper, Outcome, Report}
 use Rattle.step.specs.Records.{SCRATCH, record_at, count_of_bodies}
 use Rattle.step.specs.Checks.{number_of, joint_in, refusal_of}
 use Rattle.step.specs.Step.{stepped, run_for, cleared, solve_of}

@@ -1,6 +1,7 @@
 -- The parts of `solve` in solver.rs that count no pass: what stands before the first pass, candidates, their rows and rates, states.
 -- `Result A` is the Rust's Result, and in a `do` block `x ← e` is `let x = e?`. Bodies and rows are in rows/specs, the linear solves in solves/specs.
-use Rattle.step.specs.Words.{ℕ, ◌^◌, List, [], ◌++◌, Bool, cond, ◌&&◌, length, get_or, Float, nan, neg, le, tab, every, go, stop, ◌>>=◌, loop, each, ratio}
+use Rattle.std.specs.Prelude.{ℕ, ◌^◌, List, [], ◌++◌, Bool, cond, ◌&&◌, length, get_or, Float}
+use Rattle.step.specs.Words.{nan, neg, le, tab, every, go, stop, ◌>>=◌, loop, each, ratio}
 use Rattle.step.specs.Words.{is_finite, abs_of, ◌⊕◌, ◌⊘◌, quat, to_mat3_of, inverse_spd_of, finite_mat, mat_product_of, transpose_of, at, dot_of, div_of, RigidBody}
 use Rattle.step.specs.Words.{BodyState, MomentumBody, Joint, EqualityRow, arithmetic_overflow, Result, body_with, new_of, omega_of, kick_of, drift_of}
 use Rattle.step.specs.Words.{state_with, state_of, write_equality_rows, System, Generalized, MassResponse, no_vec, row_in, generalized_in, try_number, transpose}

@@ -1,5 +1,6 @@
 -- Refusals 1 to 9 of SPECIFICATION §7, each number over all bodies or joints before the next.
-use Rattle.step.specs.Words.{ℕ, ◌/◌, ◌%◌, ◌^◌, List, Bool, true, cond, not, ◌&&◌, ◌||◌, length, get_or, Float, nan, neg, eq, lt, le, ltb, leb, eqb, every}
+use Rattle.std.specs.Prelude.{ℕ, ◌/◌, ◌%◌, ◌^◌, List, Bool, true, cond, not, ◌&&◌, ◌||◌, length, get_or, Float, ltb, leb, eqb}
+use Rattle.step.specs.Words.{nan, neg, eq, lt, le, every}
 use Rattle.step.specs.Words.{ratio, is_finite, abs_of, PI, quat, is_normalized_of, done, inverse_spd_of, Vec3, at, vec, finite_of, RigidBody, JointFrame, Joint}
 use Rattle.step.specs.Words.{Kind, Cone, Turning, Motions, motions_of, BODIES_MOST, Outcome}
 use Rattle.step.specs.Records.{RECORD, SCRATCH, record_at, count_of_bodies}

@@ -1,5 +1,6 @@
 -- The record of a body: 26 doubles, namely origin 3, rotation 4, linear velocity 3, angular velocity 3, mass, local centre of mass 3, inertia 9 by columns.
-use Rattle.step.specs.Words.{ℕ, ◌+◌, ◌*◌, ◌/◌, List, length, Float, tab, Quat, Mat3, quat, from_cols, Vec3, at, vec3_at, RigidBody}
+use Rattle.std.specs.Prelude.{ℕ, ◌+◌, ◌*◌, ◌/◌, List, length, Float}
+use Rattle.step.specs.Words.{tab, Quat, Mat3, quat, from_cols, Vec3, at, vec3_at, RigidBody}
 
 abbrev pub RECORD : ℕ  -- its doubles (SPECIFICATION §6.1)
 RECORD = 26

@@ -1,7 +1,8 @@
 -- ConstrainedIntegrator::solve of solver.rs over plain values, pass by pass, with the refusals and the ground of SPECIFICATION §7 and §11.
 -- In a `do` block `x ← e` is `let x = e?` with the passes that it counted; `try` marks what counts none, `begin` is `nonlinear_iterations = iteration + 1`.
 -- Bodies.antt has the parts that count nothing, solves/specs/Search.antt the linear solves.
-use Rattle.step.specs.Words.{ℕ, ◌/◌, ◌%◌, List, [], ◌++◌, ◌∷◌, Bool, cond, length, drop, replicate, Float, ltb, leb, tab, every, go, stop, Turn, ratio}
+use Rattle.std.specs.Prelude.{ℕ, ◌/◌, ◌%◌, List, [], ◌++◌, ◌∷◌, Bool, cond, length, drop, replicate, Float, ltb, leb}
+use Rattle.step.specs.Words.{tab, every, go, stop, Turn, ratio}
 use Rattle.step.specs.Words.{at, RigidBody, BodyState, MomentumBody, Joint, arithmetic_overflow, Fault, non_convergent, System, rows_in, Counting}
 use Rattle.step.specs.Words.{linear_solve, Outcome}
 use Rattle.arith.specs.Run.{◌>>=◌, ◌>>◌, try, begin, again, leave_if, up_to}

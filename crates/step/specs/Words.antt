@@ -1,6 +1,5 @@
 -- The names that the definitions use of the toolchain, of the crates beneath and of the code's types, passed on: nothing is defined here.
-pub use Rattle.arith.specs.Words.{ℕ, ◌+◌, ◌*◌, ◌/◌, ◌%◌, ◌^◌, ◌≤◌, ◌<◌, List, [], ◌++◌, ◌∷◌, Bool, true, cond, not, ◌&&◌, ◌||◌, ◌≡◌, length, get_or, drop}
-pub use Rattle.arith.specs.Words.{replicate, Float, nan, neg, eq, lt, le, ltb, leb, eqb}
+pub use Rattle.arith.specs.Words.{nan, neg, eq, lt, le}
 pub use Rattle.arith.specs.Flow.{tab, every, go, stop, ◌>>=◌, loop, each, Turn}
 pub use Rattle.arith.specs.Real.{ratio, is_finite, abs_of, ◌⊕◌, ◌⊘◌}
 pub use Rattle.arith.specs.Angle.{PI}

@@ -1,5 +1,6 @@
 -- matrix.rs: matrices of three columns of three doubles, their Cholesky factor, and the inverse of solver_mass.rs.
-use Rattle.vectors.specs.Words.{ℕ, ◌+◌, ◌^◌, List, [], ◌∷◌, Bool, cond, not, ◌&&◌, ◌||◌, true, false, Float, nan, binary64, eq, lt, get_or, set, eqb, ◌⊕◌}
+use Rattle.std.specs.Prelude.{ℕ, ◌+◌, ◌^◌, List, [], ◌∷◌, Bool, cond, not, ◌&&◌, ◌||◌, true, false, Float, get_or, set, eqb}
+use Rattle.vectors.specs.Words.{nan, binary64, eq, lt, ◌⊕◌}
 use Rattle.vectors.specs.Words.{◌⊖◌, ◌⊗◌, ◌⊘◌, ratio, is_finite, abs_of, max_of, sqrt, Turn, go, stop, turns, loop, Vec3, Mat3, CholeskyOutcome, Done}
 use Rattle.vectors.specs.Words.{NonFiniteInput, NotSymmetric, NotPositiveDefinite, ResultOutOfRange, Cholesky3, Factored, Solved, Inverted}
 use Rattle.vectors.specs.Vector.{vec, zero_vec, axis_x, axis_y, axis_z, add_of, scale_of, div_of, finite_of}

@@ -1,5 +1,6 @@
 -- quaternion.rs: quaternions (x, y, z, w) as rotations.
-use Rattle.vectors.specs.Words.{◌^◌, Bool, cond, not, ◌&&◌, ◌||◌, true, false, Float, neg, lt, le, ◌⊕◌, ◌⊖◌, ◌⊗◌, ◌⊘◌, ratio, is_finite, abs_of, max_of}
+use Rattle.std.specs.Prelude.{◌^◌, Bool, cond, not, ◌&&◌, ◌||◌, true, false, Float}
+use Rattle.vectors.specs.Words.{neg, lt, le, ◌⊕◌, ◌⊖◌, ◌⊗◌, ◌⊘◌, ratio, is_finite, abs_of, max_of}
 use Rattle.vectors.specs.Words.{hypot_of, SinCos, sin_cos_of, Vec3, OptionVec3, Mat3, Quat, OptionQuat, OptionMat3}
 use Rattle.vectors.specs.Vector.{vec, cross_of, add_of, scale_of, div_of, finite_of, length_of, normalize_by}
 use Rattle.vectors.specs.Matrix.{from_cols, zero_mat}

@@ -1,5 +1,6 @@
 -- vector.rs: vectors of three doubles, by component, sums from the left.
-use Rattle.vectors.specs.Words.{ℕ, ◌+◌, List, Bool, cond, not, ◌&&◌, ◌||◌, Float, nan, neg, eq, get_or, ◌⊕◌, ◌⊖◌, ◌⊗◌, ◌⊘◌, ratio, is_finite, abs_of, max_of}
+use Rattle.std.specs.Prelude.{ℕ, ◌+◌, List, Bool, cond, not, ◌&&◌, ◌||◌, Float, get_or}
+use Rattle.vectors.specs.Words.{nan, neg, eq, ◌⊕◌, ◌⊖◌, ◌⊗◌, ◌⊘◌, ratio, is_finite, abs_of, max_of}
 use Rattle.vectors.specs.Words.{hypot_of, Vec3, OptionVec3, OptionF64}
 
 abbrev pub vec : Float → Float → Float → Vec3

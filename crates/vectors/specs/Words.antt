@@ -1,5 +1,5 @@
 -- The names that the definitions use of the toolchain, of the crate beneath and of the code's types, passed on: nothing is defined here.
-pub use Rattle.arith.specs.Words.{ℕ, ◌+◌, ◌^◌, List, [], ◌∷◌, Bool, cond, not, ◌&&◌, ◌||◌, true, false, Float, nan, binary64, neg, eq, lt, le, get_or, set, eqb}
+pub use Rattle.arith.specs.Words.{nan, binary64, neg, eq, lt, le}
 pub use Rattle.arith.specs.Real.{◌⊕◌, ◌⊖◌, ◌⊗◌, ◌⊘◌, ratio, is_finite, abs_of, max_of}
 pub use Rattle.arith.specs.Hypot.{hypot_of}
 pub use Rattle.arith.specs.Root.{sqrt}
