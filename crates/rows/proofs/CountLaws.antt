@@ -122,5 +122,5 @@ module _ (kind : Kind) {m : Motions} (e : m ≡ motions_of kind) where
 
   pub frame-count : {linear : Linear} {turning : Turning} {p q : ℕ} → m ≡ Frame linear turning → p ≡ linear_count linear → q ≡ turning_count turning
       → p + q ≡ row_count kind
-  frame-count {linear} {turning} {p} {q} h x y =
+  frame-count {turning} {p} {q} h x y =
       ap (λ (n : ℕ). p + n) y ∙ ap (λ (n : ℕ). n + turning_count turning) x ∙ ap motion_count (sym h ∙ e)

@@ -97,7 +97,7 @@ module _ (joint : Joint) (e : Ends) where
 
   lines-is : (linear : Linear) {l : Axes} → l ≡ axes_of linear → lines l ≡ linear_rows linear joint e
   unfolding linear_rows
-  lines-is linear h = ap lines h
+  lines-is _ h = ap lines h
 
   on-axis : (locked : Bool) {v w : Vec3} {x : Rows} → v ≡ w → x ≡ row_if locked (linear_row joint e v) → x ≡ row_if locked (linear_row joint e w)
   on-axis locked h p = p ∙ ap (λ (x : Vec3). row_if locked (linear_row joint e x)) h

@@ -162,7 +162,7 @@ turning_finite (Cone cone) = is_finite cone.swing_x && is_finite cone.swing_y &&
 
 abbrev pub motions_finite : Motions → Bool
 motions_finite (Rod L) = is_finite L
-motions_finite (Frame linear turning) = turning_finite turning
+motions_finite (Frame _ turning) = turning_finite turning
 
 -- `Met` speaks of real numbers: every number of the joint is finite, and N is above 0 for both frame rotations, alone and in bodies
 -- at the places a and b

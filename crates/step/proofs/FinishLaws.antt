@@ -223,7 +223,7 @@ pub solved-in : (bodies : List Float) {run : Counting (List BodyState)} {P : ℕ
     (ran (ran_as r.end states) nonlinear linear))
     → u ≡ replicate SCRATCH (ratio 0 1)
     → stepped outcome r.nonlinear r.linear after u ≡ concluded bodies (replicate SCRATCH (ratio 0 1)) run
-solved-in bodies {run} r states d {outcome} {after} e z =
+solved-in bodies {run} r _ d {outcome} {after} e z =
     ap (stepped outcome r.nonlinear r.linear after) z ∙ e r.nonlinear r.linear (replicate SCRATCH (ratio 0 1))
     ∙ ap (concluded bodies (replicate SCRATCH (ratio 0 1))) d.is
 

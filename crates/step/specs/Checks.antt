@@ -66,7 +66,7 @@ abbrev pub turning_ok : Turning → Bool
 turning_ok turning = elim turning [ Turning.Free ↦ true | Turning.Align ↦ true | Turning.Cone cone ↦ cone_ok cone ]
 
 abbrev pub motions_ok : Motions → Bool  -- the numbers of a kind
-motions_ok motions = elim motions [ Motions.Rod length ↦ length_ok length | Motions.Frame linear turning ↦ turning_ok turning ]
+motions_ok motions = elim motions [ Motions.Rod length ↦ length_ok length | Motions.Frame _ turning ↦ turning_ok turning ]
 
 abbrev pub joint_ok : Joint → Bool
 joint_ok joint = frame_ok joint.frame_a && frame_ok joint.frame_b && motions_ok (motions_of joint.kind)

@@ -46,7 +46,7 @@ yes-T e = subst T (sym e) tt
 
 motions-in : (motions : Motions) → T (motions_ok motions) → MotionsIn motions
 motions-in (Rod length) t = t
-motions-in (Frame linear turning) t = tt
+motions-in (Frame _ turning) t = tt
 
 local-in : (body : RigidBody) → body_in_range body ≡ true → T (within_of body.center_of_mass (ratio 64 1))
 local-in body e =

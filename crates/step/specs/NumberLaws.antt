@@ -77,7 +77,7 @@ turning-finite (Turns.Cone cone) t = cone-finite cone t
 
 pub motions-finite : (motions : Motions) → T (motions_ok motions) → T (motions_finite motions)
 motions-finite (Rod length) t = tested length (length-in length t).0
-motions-finite (Frame linear turning) t = turning-finite turning t
+motions-finite (Frame _ turning) t = turning-finite turning t
 
 -- ---- the table's end
 abbrev no_joint : Joint

@@ -64,7 +64,7 @@ frame_in frame = finite_of frame.local_anchor && Inside frame.local_anchor (rati
 
 abbrev pub MotionsIn : Motions → Type 0
 MotionsIn (Rod length) = T (length_in length)
-MotionsIn (Frame linear turning) = Unit {0}
+MotionsIn (Frame _ turning) = Unit {0}
 
 frame-parts : (f : JointFrame) → T (frame_in f) → T (Inside f.local_anchor (ratio 64 1)) × UnitQuat f.local_rotation
 frame-parts f t =
