@@ -108,19 +108,19 @@ module _ {A B E : Type 0} (most : ℕ) (e : E) (pass : A → Run (Turn A B) E) (
     reached-over (stop f) p = let w = turned p in run_is (omega arith) (omega arith) ∙ w.2
 
 -- ---- from an answer back to the links that gave it
-pub ends-then : {A B E : Type 0} (r : Run A E) (f : A → Run B E) {b : B} → (r >>= f).ends ≡ go b → (a : A) × (r.ends ≡ go a) × ((f a).ends ≡ go b)
+pub ends-then : {A B E : Type 0} (r : Run A E) (f : A → Run B E) (b : B) → (r >>= f).ends ≡ go b → (a : A) × (r.ends ≡ go a) × ((f a).ends ≡ go b)
 unfolding ◌>>=◌
-ends-then {A} {B} {E} r f {b} h = by r.ends refl h
+ends-then {A} {B} {E} r f b h = by r.ends refl h
   where
     by : (t : Turn A E) → r.ends ≡ t → (onward f t).ends ≡ go b → (a : A) × (r.ends ≡ go a) × ((f a).ends ≡ go b)
     by (go a) q g = (a, q, g)
     by (stop e) q g = absurd (let z : ◌≡◌ {A = ℕ} 0 1 = cc in omega arith)
 
-pub left-if : {A B E : Type 0} {test : Bool} {b : B} (c : B) (rest : Run (Turn A B) E) → (rest.ends ≡ go (stop c) → ⊥)
+pub left-if : {A B E : Type 0} (test : Bool) (b c : B) (rest : Run (Turn A B) E) → (rest.ends ≡ go (stop c) → ⊥)
     → (leave_if test b rest).ends ≡ go (stop c) → (test ≡ true) × (b ≡ c)
 unfolding leave_if
-left-if {test = true} {b} c rest never h = (refl, cc)
-left-if {test = false} {b} c rest never h = absurd (never h)
+left-if true b c rest never h = (refl, cc)
+left-if false b c rest never h = absurd (never h)
 
-pub not_left : {A B E : Type 0} {a : A} {b : B} → ◌≡◌ {A = Turn (Turn A B) E} (go (go a)) (go (stop b)) → ⊥
-not_left {a} {b} h = let z : ◌≡◌ {A = ℕ} 0 1 = cc in omega arith
+pub not_left : {A B E : Type 0} (a : A) (b : B) → ◌≡◌ {A = Turn (Turn A B) E} (go (go a)) (go (stop b)) → ⊥
+not_left a b h = let z : ◌≡◌ {A = ℕ} 0 1 = cc in omega arith

@@ -42,12 +42,12 @@ module _ {A B E : Type 0} {m : ℕ} where
       by (stop e) = omega (arith, h.most)
 
   -- a call that counts nothing
-  pub most-try : (r : Turn A E) {f : A → Run B E} → ((x : A) → AtMost m (f x)) → AtMost m (try r >>= f)
-  most-try r {f} h = most-call {a = 0} {b = m} (try r) f (record { most = omega arith }) h (omega arith)
+  pub most-try : (r : Turn A E) (f : A → Run B E) → ((x : A) → AtMost m (f x)) → AtMost m (try r >>= f)
+  most-try r f h = most-call {a = 0} {b = m} (try r) f (record { most = omega arith }) h (omega arith)
 
 module _ {A E : Type 0} {m : ℕ} where
-  pub most-none : {r : Turn A E} → AtMost m (try r)
-  most-none {r} = record { most = omega arith }
+  pub most-none : (r : Turn A E) → AtMost m (try r)
+  most-none r = record { most = omega arith }
 
   pub most-tick : (f : Unit {0} → Run A E) → AtMost m (f tt) → AtMost (suc m) (tick >>= f)
   unfolding ◌>>=◌
@@ -59,10 +59,10 @@ module _ {A E : Type 0} {m : ℕ} where
   most-if false e f h = record { most = omega (arith, h.most) }
 
 module _ {A B E : Type 0} {m : ℕ} where
-  pub most-leave : (test : Bool) (b : B) {rest : Run (Turn A B) E} → AtMost m rest → AtMost m (leave_if test b rest)
+  pub most-leave : (test : Bool) (b : B) (rest : Run (Turn A B) E) → AtMost m rest → AtMost m (leave_if test b rest)
   unfolding leave_if
-  most-leave true b {rest} h = record { most = omega arith }
-  most-leave false b {rest} h = h
+  most-leave true b rest h = record { most = omega arith }
+  most-leave false b rest h = h
 
   pub most-loop : (pass : A → Run (Turn A B) E) → ((a : A) → AtMost m (pass a)) → (k : ℕ) (e : E) (a : A)
       → AtMost (k * m) (up_to k e pass a)

@@ -159,26 +159,26 @@ time_step_head s seen =
     found.TimeStep)
 
 unfoldable pub body_head : List ℕ → ℕ → Found
-body_head s body-count =
-    cond (leb 16 body-count) (found.Refused TooMany)
+body_head s bodies =
+    cond (leb 16 bodies) (found.Refused TooMany)
     (cond (ltb (length s) BODY) (found.Refused Truncated)
     found.Body)
 
 unfoldable pub joint_head : List ℕ → ℕ → Found
-joint_head s joint-count =
-    cond (leb 16 joint-count) (found.Refused TooMany)
+joint_head s joints =
+    cond (leb 16 joints) (found.Refused TooMany)
     (cond (ltb (length s) FRAME_A) (found.Refused Truncated)
     (cond (ltb 5 (byte s KIND)) (found.Refused KindByte)
     (cond (ltb (length s) (joint_size (byte s KIND))) (found.Refused Truncated)
     (found.Joint (joint_size (byte s KIND))))))
 
 unfoldable pub head_of : List ℕ → Bool → ℕ → ℕ → Found
-head_of s seen body-count joint-count =
+head_of s seen bodies joints =
     cond (eqb (length s) 0) found.End
     (cond (ltb (length s) 2) (found.Refused Mark)
     (cond (marked s DT) (time_step_head s seen)
-    (cond (marked s BD) (body_head s body-count)
-    (cond (marked s JT) (joint_head s joint-count)
+    (cond (marked s BD) (body_head s bodies)
+    (cond (marked s JT) (joint_head s joints)
     (found.Refused Mark)))))
 
 -- ---- the tables with one more record; the rest of their space is as it was

@@ -232,30 +232,25 @@ fn filled(file: &[u8], tables: Plan, notes: Notes) -> Plan
 }
 
 // The bodies that begin at these places of the file.
-fn put_bodies(table: &mut [f64], file: &[u8], places: [usize; 16], body_count: usize)
-    requires body_count_bound { (body_count ≤ 16) × (length table.old ≡ File.TABLE) }
-    requires all { Noting.All (Noting.BodyAt file.now) places body_count }
-    ensures { table.new ≡ Noting.bodies_from file.now places body_count table.old }
+fn put_bodies(table: &mut [f64], file: &[u8], places: [usize; 16], count: usize)
+    requires count_bound { (count ≤ 16) × (length table.old ≡ File.TABLE) }
+    requires all { Noting.All (Noting.BodyAt file.now) places count }
+    ensures { table.new ≡ Noting.bodies_from file.now places count table.old }
 {
-    for k in 0..body_count {
+    for k in 0..count {
         let at = places[k];
         put_body(table, layout::DOUBLES * k, &file[at..]);
     }
 }
 
 // The joints likewise.
-fn joints_from(
-    table: [Joint; 16],
-    file: &[u8],
-    places: [usize; 16],
-    joint_count: usize,
-) -> [Joint; 16]
-    requires joint_count_bound { joint_count ≤ 16 }
-    requires all { Noting.All (Noting.JointAt file.now) places joint_count }
-    ensures { result ≡ Noting.joints_from file.now places joint_count table }
+fn joints_from(table: [Joint; 16], file: &[u8], places: [usize; 16], count: usize) -> [Joint; 16]
+    requires count_bound { count ≤ 16 }
+    requires all { Noting.All (Noting.JointAt file.now) places count }
+    ensures { result ≡ Noting.joints_from file.now places count table }
 {
     let mut joints = table;
-    for k in 0..joint_count {
+    for k in 0..count {
         let at = places[k];
         joints[k] = joint_at(&file[at..]);
     }
@@ -263,8 +258,8 @@ fn joints_from(
 }
 
 // The tests at a record, in the order of SPECIFICATION §12.
-fn head(file: &[u8], has_dt: bool, body_count: usize, joint_count: usize) -> Found
-    ensures { result ≡ File.head_of file.now has_dt body_count joint_count }
+fn head(file: &[u8], has_dt: bool, bodies: usize, joints: usize) -> Found
+    ensures { result ≡ File.head_of file.now has_dt bodies joints }
 {
     if file.len() == 0 {
         return Found::End;
@@ -276,10 +271,10 @@ fn head(file: &[u8], has_dt: bool, body_count: usize, joint_count: usize) -> Fou
         return time_step_head(file, has_dt);
     }
     if marked(file, layout::BODY_MARK) {
-        return body_head(file, body_count);
+        return body_head(file, bodies);
     }
     if marked(file, layout::JOINT_MARK) {
-        return joint_head(file, joint_count);
+        return joint_head(file, joints);
     }
     Found::Refused(ReadOutcome::Mark)
 }
@@ -306,10 +301,10 @@ fn time_step_head(file: &[u8], has_dt: bool) -> Found
     Found::TimeStep
 }
 
-fn body_head(file: &[u8], body_count: usize) -> Found
-    ensures { result ≡ File.body_head file.now body_count }
+fn body_head(file: &[u8], bodies: usize) -> Found
+    ensures { result ≡ File.body_head file.now bodies }
 {
-    if 16 <= body_count {
+    if 16 <= bodies {
         return Found::Refused(ReadOutcome::TooMany);
     }
     if file.len() < layout::BODY {
@@ -319,10 +314,10 @@ fn body_head(file: &[u8], body_count: usize) -> Found
 }
 
 // The kind byte, the fifth, is looked at before the record's end is.
-fn joint_head(file: &[u8], joint_count: usize) -> Found
-    ensures { result ≡ File.joint_head file.now joint_count }
+fn joint_head(file: &[u8], joints: usize) -> Found
+    ensures { result ≡ File.joint_head file.now joints }
 {
-    if 16 <= joint_count {
+    if 16 <= joints {
         return Found::Refused(ReadOutcome::TooMany);
     }
     if file.len() < layout::FRAME_A {

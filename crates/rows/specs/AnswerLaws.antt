@@ -33,8 +33,8 @@ vector-number : (r : OptionVec3) → vector_number r ≡ refusal_number (vector_
 vector-number (Some v) = refl
 vector-number None = refl
 
-pub vector-answered : {d : Result Vec3} {r : OptionVec3} → vector_or arithmetic_overflow r ≡ d → VectorAnswered d r
-vector-answered {r} e = record { is = e; numbered = vector-number r ∙ ap refusal_number e }
+pub vector-answered : {d : Result Vec3} (r : OptionVec3) → vector_or arithmetic_overflow r ≡ d → VectorAnswered d r
+vector-answered r e = record { is = e; numbered = vector-number r ∙ ap refusal_number e }
 
 -- a contract of vectors, and `.ok_or(f)`
 module _ (f : Fault) {o d : OptionVec3} (e : o ≡ d) where
@@ -121,8 +121,8 @@ state-number : (r : StateAnswer) → state_number r ≡ refusal_number (state_as
 state-number (State.Value state) = refl
 state-number State.ArithmeticOverflow = refl
 
-pub state-answered : {d : Result BodyState} {r : StateAnswer} → state_as r ≡ d → StateAnswered d r
-state-answered {r} e = record { is = e; numbered = state-number r ∙ ap refusal_number e }
+pub state-answered : {d : Result BodyState} (r : StateAnswer) → state_as r ≡ d → StateAnswered d r
+state-answered r e = record { is = e; numbered = state-number r ∙ ap refusal_number e }
 
 -- rows
 pub written-number : (r : Written) (s : List Float) (i a b : ℕ) → written_number r ≡ refusal_number (written_as r s i a b)

@@ -106,10 +106,10 @@ module _ {P : ℕ → Type 0} {s t : List Float} (kept : Kept P s t) where
   }
 
 -- Three doubles, one after the other.
-pub stored3 : {s : List Float} (i : ℕ) {v : Vec3} → i + 3 ≤ length s
+pub stored3 : (s : List Float) (i : ℕ) (v : Vec3) → i + 3 ≤ length s
     → (Kept (λ k. Out i 3 k) s (set (set (set s i v.x) (i + 1) v.y) (i + 2) v.z))
     × (vec3_at (set (set (set s i v.x) (i + 1) v.y) (i + 2) v.z) i ≡ v)
-stored3 {s} i {v} h =
+stored3 s i v h =
     let s₁ = set s i v.x in
     let s₂ = set s₁ (i + 1) v.y in
     let k₁ = kept_set s i v.x in
@@ -126,8 +126,8 @@ stored3 {s} i {v} h =
     )
 
 -- A loop that fills: none yet, one more, all.
-pub filled_none : (off : ℕ) {f : ℕ → Float} (s : List Float) → Filled off 0 f s s
-filled_none off {f} s = record { kept = kept_refl _ s; there = λ k h. absurd (omega arith) }
+pub filled_none : (off : ℕ) (f : ℕ → Float) (s : List Float) → Filled off 0 f s s
+filled_none off f s = record { kept = kept_refl _ s; there = λ k h. absurd (omega arith) }
 
 pub filled_more : {off k : ℕ} {f : ℕ → Float} {s t : List Float} {v : Float} → Filled off k f s t → off + k < length t → v ≡ f k
     → Filled off (k + 1) f s (set t (off + k) v)

@@ -29,7 +29,7 @@ pub record Sofar (g : Float → Float → Float) (o a b n : ℕ) (s : List Float
 
 module _ {g : Float → Float → Float} {o a b n : ℕ} where
   pub two_none : {s : List Float} → n ≤ ROWS_MOST → o + VECTOR ≤ length s → Ahead o a → Ahead o b → Sofar g o a b n s 0 s
-  two_none {s} h l p q = record { room = (h, l, p, q); turns = omega arith; filled = filled_none o s }
+  two_none {s} h l p q = record { room = (h, l, p, q); turns = omega arith; filled = filled_none o _ s }
 
   module _ {s t : List Float} {k : ℕ} (f : Sofar g o a b n s k t) where
     pub two-more : k < n → Sofar g o a b n s (k + 1) (set t (o + k) (g (at t (a + k)) (at t (b + k))))

@@ -19,20 +19,20 @@ module _ (system : System) (rhs : List Float) (tolerance : Float) where
   least-one : (s : Search) → AtMost 1 (least_pass system tolerance s)
   unfolding least_pass
   least-one s =
-      most-leave _ _ (most-try _ λ product. most-try _ λ denominator. most-if _ _ _
-      (most-try _ λ normal. most-try _ λ next. most-tick _ most-none))
+      most-leave _ _ _ (most-try _ _ λ product. most-try _ _ λ denominator. most-if _ _ _
+      (most-try _ _ λ normal. most-try _ _ λ next. most-tick _ (most-none _)))
 
   settle-one : (diagonal : List Float) (s : Search) → AtMost 1 (settle system rhs diagonal tolerance s)
   unfolding settle
-  settle-one diagonal s = most-try _ λ tested. most-leave _ _ (most-tick _ most-none)
+  settle-one diagonal s = most-try _ _ λ tested. most-leave _ _ _ (most-tick _ (most-none _))
 
   gradient-one : (diagonal : List Float) (s : Search) → AtMost 1 (gradient_pass system rhs diagonal tolerance s)
   unfolding gradient_pass
-  gradient-one diagonal s = most-try _ λ near. most-leave _ _ (most-try _ λ moved. settle-one diagonal moved)
+  gradient-one diagonal s = most-try _ _ λ near. most-leave _ _ _ (most-try _ _ λ moved. settle-one diagonal moved)
 
   refinement-one : (order : List ℕ) (factor : Factor) (s : Refined) → AtMost 1 (refinement system rhs order factor tolerance s)
   unfolding refinement
-  refinement-one order factor s = most-try _ λ s. most-tick _ (most-try _ λ near. most-leave _ _ most-none)
+  refinement-one order factor s = most-try _ _ λ s. most-tick _ (most-try _ _ λ near. most-leave _ _ _ (most-none _))
 
 -- ---- a solve counts at most its limit
 less : {A : Type 0} {m n : ℕ} {r : Counting A} → AtMost m r → m ≤ n → AtMost n r
@@ -42,13 +42,13 @@ module _ (system : System) (rhs : List Float) where
   pub solve-most : (choice : Choice) (solution : List Float) → AtMost (limit_by choice (rows_in system)) (solve_by choice system rhs solution)
   unfolding solve_by least_squares path_along gradients
   solve-most by_least_squares solution =
-      most-try _ λ normal. most-try _ λ norm. most-try _ λ tolerance.
+      most-try _ _ λ normal. most-try _ _ λ norm. most-try _ _ λ tolerance.
       less (most-loop (least_pass system tolerance) (least-one system rhs tolerance) (least_most (rows_in system)) _ _) (omega arith)
   solve-most (by_path order) solution =
-      most-try _ λ factor. most-try _ λ tolerance.
+      most-try _ _ λ factor. most-try _ _ λ tolerance.
       less (most-loop (refinement system rhs order factor tolerance) (refinement-one system rhs tolerance order factor) 4 _ _) (omega arith)
   solve-most by_gradients solution =
-      most-try _ λ p. most-try _ λ tolerance.
+      most-try _ _ λ p. most-try _ _ λ tolerance.
       less (most-loop (gradient_pass system rhs p.diagonal tolerance) (gradient-one system rhs tolerance p.diagonal) (gradient_most (rows_in system)) _ _)
       (omega arith)
 

@@ -42,24 +42,24 @@ pub nonlinear-most : (job : Job) (start : Started) (impulses : List Float)
     → AtMost (limit (rows_in start.system)) (nonlinear_pass job start impulses)
 unfolding nonlinear_pass
 nonlinear-most job start impulses =
-    most-call {a = 0} {b = limit (rows_in start.system)} _ _ (record { most = omega arith }) (λ _. most-try _ λ found.
-    most-leave _ _ (most-call _ _ (linear-most _ _ _) (λ solution. most-try _ λ next. most-none {m = 0}) (omega arith))) (omega arith)
+    most-call {a = 0} {b = limit (rows_in start.system)} _ _ (record { most = omega arith }) (λ _. most-try _ _ λ found.
+    most-leave _ _ _ (most-call _ _ (linear-most _ _ _) (λ solution. most-try _ _ λ next. (most-none {m = 0} _)) (omega arith))) (omega arith)
 
 pub velocity-most : (job : Job) (system : System) (candidate : List MomentumBody)
     → AtMost (limit (rows_in system)) (velocity_pass job system candidate)
 unfolding velocity_pass
 velocity-most job system candidate =
-    most-try _ λ rhs. most-leave _ _ (most-call _ _ (linear-most _ _ _) (λ solution. most-try _ λ next. most-none {m = 0}) (omega arith))
+    most-try _ _ λ rhs. most-leave _ _ _ (most-call _ _ (linear-most _ _ _) (λ solution. most-try _ _ λ next. (most-none {m = 0} _)) (omega arith))
 
 pub finish-most : (job : Job) (bodies : List RigidBody) (found : Found) → AtMost (3 * limit (length found.rows)) (finish_of job bodies found)
 unfolding finish_of velocity_loop
 finish-most job bodies found =
-    most-try _ λ masses. most-call {b = 0} _ _
+    most-try _ _ λ masses. most-call {b = 0} _ _
     (most-loop (velocity_pass job (record {
       rows =
           found.rows;
       masses = masses;
-    })) (velocity-most job _) 3 _ _) (λ candidate. most-none) (omega arith)
+    })) (velocity-most job _) 3 _ _) (λ candidate. (most-none _)) (omega arith)
 
 -- ---- of rows in the scratch, which are few
 module _ (ia ib : List ℕ) (s : List Float) (table : Table) (few : table.rows ≤ ROWS_MOST) where

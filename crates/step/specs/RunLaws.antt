@@ -26,9 +26,9 @@ use Rattle.step.specs.TurnLaws.{correction, each_at, went_on, goes_with}
 -- a correction is never a loop's answer
 never-left : {A B : Type 0} (solve : Counting (List Float)) (make : List Float → Result A) (b : B) → (correction solve make).ends ≡ go (stop b) → ⊥
 never-left solve make b h =
-    let r₁ = ends-then _ _ h in
-    let r₂ = ends-then _ _ r₁.2 in
-    not_left r₂.2
+    let r₁ = ends-then _ _ _ h in
+    let r₂ = ends-then _ _ _ r₁.2 in
+    not_left _ _ r₂.2
 
 -- ---- the nonlinear loop
 module _ (job : Job) (start : Started) where
@@ -36,9 +36,9 @@ module _ (job : Job) (start : Started) where
       → (candidate_of job start impulses ≡ go found) × (rows_met found.rows ≡ true)
   unfolding nonlinear_pass
   pass-found impulses found h =
-      let r₁ = ends-then _ _ h in
-      let r₂ = ends-then _ _ r₁.2 in
-      let r₃ = left-if found _ (never-left _ (add_impulses impulses) found) r₂.2 in
+      let r₁ = ends-then _ _ _ h in
+      let r₂ = ends-then _ _ _ r₁.2 in
+      let r₃ = left-if _ _ found _ (never-left _ (add_impulses impulses) found) r₂.2 in
       (r₂.1 ∙ ap go r₃.1, ap (λ (f : Found). rows_met f.rows) (sym r₃.1) ∙ r₃.0)
 
   pub loop-found : (found : Found) → (nonlinear_loop job start).ends ≡ go found
@@ -77,16 +77,16 @@ module _ (job : Job) (system : System) where
   pass-stays : (a b : List MomentumBody) → (velocity_pass job system a).ends ≡ go (go b) → Stay a b
   unfolding velocity_pass
   pass-stays a b h =
-      let r₁ = ends-then _ _ h in
-      let r₂ = ends-then _ _ (went_on _ _ b _ r₁.2) in
-      let r₃ = ends-then _ _ r₂.2 in
-      subst (Stay a) (goes_with b r₃.2) (reacted a r₂.0 r₃.0 r₃.1)
+      let r₁ = ends-then _ _ _ h in
+      let r₂ = ends-then _ _ _ (went_on _ _ b _ r₁.2) in
+      let r₃ = ends-then _ _ _ r₂.2 in
+      subst (Stay a) (goes_with _ b r₃.2) (reacted a r₂.0 r₃.0 r₃.1)
 
   pass-left : (a b : List MomentumBody) → (velocity_pass job system a).ends ≡ go (stop b) → a ≡ b
   unfolding velocity_pass
   pass-left a b h =
-      let r = ends-then _ _ h in
-      (left-if b _ (never-left _ (reaction_of system.rows a) b) r.2).1
+      let r = ends-then _ _ _ h in
+      (left-if _ _ b _ (never-left _ (reaction_of system.rows a) b) r.2).1
 
   pub loop-stays : (a b : List MomentumBody) → (velocity_loop job system a).ends ≡ go b → Stay a b
   unfolding velocity_loop
@@ -151,8 +151,8 @@ finished : (job : Job) (bodies : List RigidBody) (found : Found) (states : List 
     → (last : List MomentumBody) × Stay found.candidate last × (states_of bodies last ≡ go states)
 unfolding finish_of
 finished job bodies found states h =
-    let r₁ = ends-then _ _ h in
-    let r₂ = ends-then _ _ r₁.2 in
+    let r₁ = ends-then _ _ _ h in
+    let r₂ = ends-then _ _ _ r₁.2 in
     (r₂.0, loop-stays job _ found.candidate r₂.0 r₂.1, r₂.2)
 
 pub record Traced (bodies : List RigidBody) (joints : List Joint) (count : ℕ) (states : List BodyState) : Type 0 where
@@ -171,8 +171,8 @@ pub ran : (job : Job) (bodies : List RigidBody) (states : List BodyState) → (r
     → Traced bodies job.joints job.count states
 unfolding run_of
 ran job bodies states h =
-    let r₁ = ends-then _ _ h in
-    let r₂ = ends-then _ _ r₁.2 in
+    let r₁ = ends-then _ _ _ h in
+    let r₂ = ends-then _ _ _ r₁.2 in
     let start = r₁.0 in
     let found = r₂.0 in
     let l = loop-found job start found r₂.1 in

@@ -43,5 +43,5 @@ unfolding leave_if
 went_on true b a rest h = absurd (let z : ◌≡◌ {A = ℕ} 0 1 = cc in omega arith)
 went_on false b a rest h = h
 
-pub goes_with : {A B E : Type 0} {a : A} (b : A) → ◌≡◌ {A = Turn (Turn A B) E} (go (go a)) (go (go b)) → a ≡ b
-goes_with {a} b h = cc
+pub goes_with : {A B E : Type 0} (a b : A) → ◌≡◌ {A = Turn (Turn A B) E} (go (go a)) (go (go b)) → a ≡ b
+goes_with a b h = cc

@@ -17,46 +17,46 @@ use vectors::matrix::Mat3;
 use vectors::quaternion::Quat;
 use vectors::vector::Vec3;
 
-fn load4(s: &[f64], place: usize) -> Quat
-    requires { place + 4 ≤ length s.now }
-    ensures { result ≡ quat_at s.now place }
+fn load4(s: &[f64], i: usize) -> Quat
+    requires { i + 4 ≤ length s.now }
+    ensures { result ≡ quat_at s.now i }
 {
     Quat {
-        x: s[place],
-        y: s[place + 1],
-        z: s[place + 2],
-        w: s[place + 3],
+        x: s[i],
+        y: s[i + 1],
+        z: s[i + 2],
+        w: s[i + 3],
     }
 }
 
-fn store4(s: &mut [f64], place: usize, q: Quat)
-    requires { place + 4 ≤ length s.old }
-    ensures { (Kept (λ j. Out place 4 j) s.old s.new) × (quat_at s.new place ≡ q) }
+fn store4(s: &mut [f64], i: usize, q: Quat)
+    requires { i + 4 ≤ length s.old }
+    ensures { (Kept (λ j. Out i 4 j) s.old s.new) × (quat_at s.new i ≡ q) }
 {
-    s[place] = q.x;
-    s[place + 1] = q.y;
-    s[place + 2] = q.z;
-    s[place + 3] = q.w;
+    s[i] = q.x;
+    s[i + 1] = q.y;
+    s[i + 2] = q.z;
+    s[i + 3] = q.w;
 }
 
-fn load_mat3(s: &[f64], place: usize) -> Mat3
-    requires { place + 9 ≤ length s.now }
-    ensures { result ≡ mat_at s.now place }
+fn load_mat3(s: &[f64], i: usize) -> Mat3
+    requires { i + 9 ≤ length s.now }
+    ensures { result ≡ mat_at s.now i }
 {
-    let x = load3(s, place);
-    let y = load3(s, place + 3);
-    let z = load3(s, place + 6);
+    let x = load3(s, i);
+    let y = load3(s, i + 3);
+    let z = load3(s, i + 6);
     Mat3::from_cols(x, y, z)
 }
 
-fn store_mat3(s: &mut [f64], place: usize, m: Mat3)
-    requires { place + 9 ≤ length s.old }
-    ensures { (Kept (λ j. Out place 9 j) s.old s.new) × (mat_at s.new place ≡ cols_of m) }
+fn store_mat3(s: &mut [f64], i: usize, m: Mat3)
+    requires { i + 9 ≤ length s.old }
+    ensures { (Kept (λ j. Out i 9 j) s.old s.new) × (mat_at s.new i ≡ cols_of m) }
 {
     let c = m.to_columns();
-    store3(s, place, Vec3::new(c[0][0], c[0][1], c[0][2]));
-    store3(s, place + 3, Vec3::new(c[1][0], c[1][1], c[1][2]));
-    store3(s, place + 6, Vec3::new(c[2][0], c[2][1], c[2][2]));
+    store3(s, i, Vec3::new(c[0][0], c[0][1], c[0][2]));
+    store3(s, i + 3, Vec3::new(c[1][0], c[1][1], c[1][2]));
+    store3(s, i + 6, Vec3::new(c[2][0], c[2][1], c[2][2]));
 }
 
 // Record k of a body slice.
@@ -64,68 +64,68 @@ pub(crate) fn load_record(bodies: &[f64], k: usize) -> RigidBody
     requires { RECORD * k + RECORD ≤ length bodies.now }
     ensures { result ≡ record_at bodies.now k }
 {
-    let place = RECORD * k;
+    let i = RECORD * k;
     RigidBody {
-        origin: load3(bodies, place),
-        rotation: load4(bodies, place + 3),
-        linear_velocity: load3(bodies, place + 7),
-        angular_velocity: load3(bodies, place + 10),
-        mass: bodies[place + 13],
-        center_of_mass: load3(bodies, place + 14),
-        inertia: load_mat3(bodies, place + 17),
+        origin: load3(bodies, i),
+        rotation: load4(bodies, i + 3),
+        linear_velocity: load3(bodies, i + 7),
+        angular_velocity: load3(bodies, i + 10),
+        mass: bodies[i + 13],
+        center_of_mass: load3(bodies, i + 14),
+        inertia: load_mat3(bodies, i + 17),
     }
 }
 
-// The 13 numbers at a place as a state.
-pub(crate) fn load_state(s: &[f64], place: usize) -> BodyState
-    requires { place + MOVING ≤ length s.now }
-    ensures { result ≡ state_at s.now place }
+// The 13 numbers at i as a state.
+pub(crate) fn load_state(s: &[f64], i: usize) -> BodyState
+    requires { i + MOVING ≤ length s.now }
+    ensures { result ≡ state_at s.now i }
 {
     BodyState {
-        origin: load3(s, place),
-        rotation: load4(s, place + 3),
-        linear_velocity: load3(s, place + 7),
-        angular_velocity: load3(s, place + 10),
+        origin: load3(s, i),
+        rotation: load4(s, i + 3),
+        linear_velocity: load3(s, i + 7),
+        angular_velocity: load3(s, i + 10),
     }
 }
 
-pub(crate) fn store_state(s: &mut [f64], place: usize, state: BodyState)
-    requires { place + MOVING ≤ length s.old }
-    ensures { (Kept (λ j. Out place MOVING j) s.old s.new) × (state_at s.new place ≡ state) }
+pub(crate) fn store_state(s: &mut [f64], i: usize, state: BodyState)
+    requires { i + MOVING ≤ length s.old }
+    ensures { (Kept (λ j. Out i MOVING j) s.old s.new) × (state_at s.new i ≡ state) }
 {
-    store3(s, place, state.origin);
-    store4(s, place + 3, state.rotation);
-    store3(s, place + 7, state.linear_velocity);
-    store3(s, place + 10, state.angular_velocity);
+    store3(s, i, state.origin);
+    store4(s, i + 3, state.rotation);
+    store3(s, i + 7, state.linear_velocity);
+    store3(s, i + 10, state.angular_velocity);
 }
 
-fn store_moving(s: &mut [f64], place: usize, body: MomentumBody)
-    requires { place + MOVING ≤ length s.old }
-    ensures { (Kept (λ j. Out place MOVING j) s.old s.new) × (moving_at s.new place ≡ moving_of body) }
+fn store_moving(s: &mut [f64], i: usize, body: MomentumBody)
+    requires { i + MOVING ≤ length s.old }
+    ensures { (Kept (λ j. Out i MOVING j) s.old s.new) × (moving_at s.new i ≡ moving_of body) }
 {
-    store3(s, place, body.center);
-    store4(s, place + 3, body.rotation);
-    store3(s, place + 7, body.momentum);
-    store3(s, place + 10, body.spin);
+    store3(s, i, body.center);
+    store4(s, i + 3, body.rotation);
+    store3(s, i + 7, body.momentum);
+    store3(s, i + 10, body.spin);
 }
 
 // What does not move: mass, local centre and inverse inertia.
-fn store_fixed(s: &mut [f64], place: usize, body: MomentumBody)
-    requires { place + MOVING ≤ length s.old }
-    ensures { (Kept (λ j. Out place MOVING j) s.old s.new) × (fixed_at s.new place ≡ fixed_of body) }
+fn store_fixed(s: &mut [f64], i: usize, body: MomentumBody)
+    requires { i + MOVING ≤ length s.old }
+    ensures { (Kept (λ j. Out i MOVING j) s.old s.new) × (fixed_at s.new i ≡ fixed_of body) }
 {
-    store3(s, place + 1, body.center_of_mass);
-    store_mat3(s, place + 4, body.inverse_inertia);
-    s[place] = body.mass;
+    store3(s, i + 1, body.center_of_mass);
+    store_mat3(s, i + 4, body.inverse_inertia);
+    s[i] = body.mass;
 }
 
 pub(crate) fn store_start(s: &mut [f64], k: usize, body: MomentumBody)
     requires { (USED ≤ length s.old) × (k < BODIES_MOST) }
     ensures { (Kept (λ j. Out (START + RECORD * k) RECORD j) s.old s.new) × (start_body_at s.new k ≡ held_of body) }
 {
-    let place = START + RECORD * k;
-    store_moving(s, place, body);
-    store_fixed(s, place + MOVING, body);
+    let i = START + RECORD * k;
+    store_moving(s, i, body);
+    store_fixed(s, i + MOVING, body);
 }
 
 pub(crate) fn store_candidate(s: &mut [f64], k: usize, body: MomentumBody)
@@ -136,17 +136,17 @@ pub(crate) fn store_candidate(s: &mut [f64], k: usize, body: MomentumBody)
     store_moving(s, CANDIDATE + MOVING * k, body);
 }
 
-// The body whose moving numbers stand at `place`; mass and inertia are those of the start.
-fn load_body(s: &[f64], place: usize, k: usize) -> MomentumBody
-    requires { (place + MOVING ≤ length s.now) × (USED ≤ length s.now) × (k < BODIES_MOST) }
-    ensures { result ≡ body_from s.now place (START + RECORD * k) }
+// The body whose moving numbers stand at i; mass and inertia are those of the start.
+fn load_body(s: &[f64], i: usize, k: usize) -> MomentumBody
+    requires { (i + MOVING ≤ length s.now) × (USED ≤ length s.now) × (k < BODIES_MOST) }
+    ensures { result ≡ body_from s.now i (START + RECORD * k) }
 {
     let j = START + RECORD * k;
     MomentumBody {
-        center: load3(s, place),
-        rotation: load4(s, place + 3),
-        momentum: load3(s, place + 7),
-        spin: load3(s, place + 10),
+        center: load3(s, i),
+        rotation: load4(s, i + 3),
+        momentum: load3(s, i + 7),
+        spin: load3(s, i + 10),
         mass: s[j + 13],
         center_of_mass: load3(s, j + 14),
         inverse_inertia: load_mat3(s, j + 17),

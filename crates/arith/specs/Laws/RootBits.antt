@@ -98,15 +98,15 @@ odd_low m h = omega arith
 abbrev pub Joined : ℕ → ℕ → ℕ → Type 0
 Joined m h r = (r < 9218868437227405312) × (of_bits binary64 r ≡ round_root binary64 (m * 2 ^ h))
 
-pub join-even : {m h : ℕ} (q : ℕ) → 2 ^ 52 ≤ m → m < 2 ^ 53 → 52 ≤ h → h < 4000 → h % 2 ≡ 0
+pub join-even : (m h q : ℕ) → 2 ^ 52 ≤ m → m < 2 ^ 53 → 52 ≤ h → h < 4000 → h % 2 ≡ 0
     → NearRoot (m * 2 ^ 52) q → Joined m h ((h / 2 - 26) * 4503599627370496 + q)
-join-even {m} {h} q a b c d e n =
+join-even m h q a b c d e n =
     let j = joined m (h / 2 - 26) q a (even-room m b) (drop-lt h d) n in
     (j.0, j.1 ∙ ap (λ (x : ℕ). round_root binary64 (m * 2 ^ x)) (even-at h e c))
 
-pub join-odd : {m h : ℕ} (q : ℕ) → 2 ^ 52 ≤ m → m < 2 ^ 53 → 52 ≤ h → h < 4000 → (h % 2 ≡ 0 → ⊥)
+pub join-odd : (m h q : ℕ) → 2 ^ 52 ≤ m → m < 2 ^ 53 → 52 ≤ h → h < 4000 → (h % 2 ≡ 0 → ⊥)
     → NearRoot (2 * m * 2 ^ 52) q → Joined m h ((h / 2 - 26) * 4503599627370496 + q)
-join-odd {m} {h} q a b c d e n =
+join-odd m h q a b c d e n =
     let x = 52 + (h / 2 - 26 + (h / 2 - 26)) in
     let j = joined (2 * m) (h / 2 - 26) q (odd_low m a) (odd-room m b) (drop-lt h d) n in (
       j.0,
@@ -143,9 +143,9 @@ high_value x t h =
     (odd_sign 53 false (4503599627370496 + t) x 1074)
 
 -- `sqrt` of the bits of a subnormal, whose digits t are not 0
-pub sqrt-low : {b : ℕ} → 0 < b → b < 9218868437227405312 → b / 4503599627370496 ≡ 0
+pub sqrt-low : (b : ℕ) → 0 < b → b < 9218868437227405312 → b / 4503599627370496 ≡ 0
     → sqrt binary64 (of_bits binary64 b) ≡ round_root binary64 (b % 4503599627370496 * 2 ^ 1074)
-sqrt-low {b} p h e =
+sqrt-low b p h e =
     let t = b % 4503599627370496 in
     ap (λ (x : Float). sqrt binary64 x) (fields b h ∙ ap (λ (x : ℕ). of_fields binary64 false x t) e)
     ∙ sqrt-at binary64 (of_fields binary64 false 0 t) (t * 2 ^ 0) (subst (λ (x : ℕ). 0 < x) (sym (mul-one t)) (omega arith)) (low_value t)
@@ -173,8 +173,8 @@ pub record Shifted (t z : ℕ) : Type 0 where
   pub hi : (t * 2 ^ (z - 11)) % 2 ^ 64 < 2 ^ 53
   pub same : (t * 2 ^ (z - 11)) % 2 ^ 64 * 2 ^ (1085 - z) ≡ t * 2 ^ 1074
 
-pub shifted : {t : ℕ} → 0 < t → t < 2 ^ 52 → Shifted t (count_leading_zeros 64 t)
-shifted {t} p h =
+pub shifted : (t : ℕ) → 0 < t → t < 2 ^ 52 → Shifted t (count_leading_zeros 64 t)
+shifted t p h =
     let k = leading_top 64 t p (lt_of_lt_of_le h (lit≤ tt)) in
     go k.0 (count_leading_zeros 64 t) k.1 k.2 k.3
   where

@@ -36,8 +36,8 @@ quotient_le s t d p h e k = le_of_suc-le-suc (lt_of_not-le (λ g. let z = mul-le
 total-at : (m s r t p : ℕ) → s * s + r ≡ m → t * s + p ≡ r * 33554432 → m * 4503599627370496 + t * t ≡ (s * 67108864 + t) * (s * 67108864 + t) + p * 134217728
 total-at m s r t p e k = omega arith
 
-pub halves : {m s : ℕ} → 2 ^ 52 ≤ m → m < 2 ^ 54 → s * s ≤ m → m < (s + 1) * (s + 1) → Halves m s
-halves {m} {s} a b lo hi =
+pub halves : (m s : ℕ) → 2 ^ 52 ≤ m → m < 2 ^ 54 → s * s ≤ m → m < (s + 1) * (s + 1) → Halves m s
+halves m s a b lo hi =
     let d = wide m s in
     let s-lo : 67108864 ≤ s = root-lo m s a hi in
     let r = rest_le m s hi in
@@ -61,28 +61,28 @@ pub stay : (n q a b : ℕ) → n + b ≡ q * q + a → b < q → a ≤ b + q →
 stay n q a b e h k = (omega arith, omega arith)
 
 -- ---- what the function asks of each step, on plain numbers: d is below 2 ^ 54, t at most 2 ^ 26, and so on
-pub d-fits : {d : ℕ} (s : ℕ) → s < 134217728 → d ≤ s * 67108864 → d < 2 ^ 64
-d-fits {d} s a b = omega arith
+pub d-fits : (d s : ℕ) → s < 134217728 → d ≤ s * 67108864 → d < 2 ^ 64
+d-fits d s a b = omega arith
 
-pub p-fits : {p : ℕ} (s : ℕ) → s < 134217728 → p < s → p * 134217728 < 2 ^ 64
-p-fits {p} s a b = omega arith
+pub p-fits : (p s : ℕ) → s < 134217728 → p < s → p * 134217728 < 2 ^ 64
+p-fits p s a b = omega arith
 
-pub sum_fits : (s : ℕ) {t x : ℕ} → s < 134217728 → t ≤ 67108864 → x ≤ 4503599627370496 → x + (s * 67108864 + t) < 2 ^ 64
-sum_fits s {t} {x} a b c = omega arith
+pub sum_fits : (s t x : ℕ) → s < 134217728 → t ≤ 67108864 → x ≤ 4503599627370496 → x + (s * 67108864 + t) < 2 ^ 64
+sum_fits s t x a b c = omega arith
 
 -- t * t is below q: where t is 0 since s is not
 square-less : (s t : ℕ) → 67108864 ≤ s → t * t ≤ 4503599627370496 → t * t < s * 67108864 + t
 square-less s zero a b = omega arith
 square-less s (suc t) a b = omega arith
 
-pub near_up : {m s : ℕ} → Halves m s → wide m s / s * (wide m s / s) + (s * 67108864 + wide m s / s) < wide m s % s * 134217728
+pub near_up : (m s : ℕ) → Halves m s → wide m s / s * (wide m s / s) + (s * 67108864 + wide m s / s) < wide m s % s * 134217728
     → NearRoot (m * 2 ^ 52) (s * 67108864 + wide m s / s + 1)
-near_up {m} {s} h =
+near_up m s h =
     up (m * 2 ^ 52) (s * 67108864 + wide m s / s) (wide m s % s * 134217728) (wide m s / s * (wide m s / s))
     h.total (omega (arith, h.p-hi))
 
-pub near-stay : {m s : ℕ} → Halves m s → wide m s % s * 134217728 ≤ wide m s / s * (wide m s / s) + (s * 67108864 + wide m s / s)
+pub near-stay : (m s : ℕ) → Halves m s → wide m s % s * 134217728 ≤ wide m s / s * (wide m s / s) + (s * 67108864 + wide m s / s)
     → NearRoot (m * 2 ^ 52) (s * 67108864 + wide m s / s)
-near-stay {m} {s} h =
+near-stay m s h =
     stay (m * 2 ^ 52) (s * 67108864 + wide m s / s) (wide m s % s * 134217728)
     (wide m s / s * (wide m s / s)) h.total (square-less s (wide m s / s) h.s-lo h.tt-hi)

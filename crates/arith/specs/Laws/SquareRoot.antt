@@ -123,8 +123,8 @@ square-root x f = record {
   of-above = λ p a. nearest x f p a;
 }
 
-pub rooted : {x r : Float} → T (fits binary64 x) → r ≡ sqrt binary64 x → Rooted x r
-rooted {x} f e = record { is = e; ieee = subst (IsSquareRoot x) (sym e) (square-root x f) }
+pub rooted : (x : Float) {r : Float} → T (fits binary64 x) → r ≡ sqrt binary64 x → Rooted x r
+rooted x f e = record { is = e; ieee = subst (IsSquareRoot x) (sym e) (square-root x f) }
 
 -- ---- no other
 not-both : (x : ℚ) (r s : Float) → Nearest x r → Nearest x s → val r <q val s → ⊥

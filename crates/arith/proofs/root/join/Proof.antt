@@ -10,13 +10,13 @@ even : tie.Need-returns-then-h-eq0
 even c =
     let at-if1 = c.before in let at_entry = at-if1.before in
     let pre = at_entry.requires in
-    join-even _ pre.0 pre.1 pre.2 pre.3 at-if1.if-h-eq0.true c.nearest_root.ensures
+    join-even _ _ _ pre.0 pre.1 pre.2 pre.3 at-if1.if-h-eq0.true c.nearest_root.ensures
 
 odd : tie.Need-returns-else-h-eq0
 odd c =
     let at-if1 = c.before in let at_entry = at-if1.before in
     let pre = at_entry.requires in
-    join-odd _ pre.0 pre.1 pre.2 pre.3 at-if1.if-h-eq0.false c.nearest_root-else-h-eq0.ensures
+    join-odd _ _ _ pre.0 pre.1 pre.2 pre.3 at-if1.if-h-eq0.false c.nearest_root-else-h-eq0.ensures
 
 pub join_spec : {M : Type 1} → statement M
 join_spec =

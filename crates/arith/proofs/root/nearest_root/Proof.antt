@@ -10,7 +10,7 @@ use Rattle.arith.proofs.root.nearest_root.Tie as tie
 known : (c : tie.After-whole_root-s) → let at_entry = c.before in Halves at_entry.args.m c.whole_root-s.result
 known c =
     let at_entry = c.before in
-    halves at_entry.requires.0 at_entry.requires.1 c.whole_root-s.ensures.0 c.whole_root-s.ensures.1
+    halves _ _ at_entry.requires.0 at_entry.requires.1 c.whole_root-s.ensures.0 c.whole_root-s.ensures.1
 
 positive : (s : ℕ) → 67108864 ≤ s → 0 < s
 positive s h = omega arith
@@ -28,10 +28,10 @@ up_fits : (s : ℕ) {t d : ℕ} → s < 134217728 → t ≤ 67108864 → d ≤ 1
 up_fits s {t} {d} a b c = omega arith
 
 mul-d-2 : tie.Need-overflow_mul-d-2
-mul-d-2 c = record { fits = d-fits c.whole_root-s.result (known c).s-hi (known c).d-hi }
+mul-d-2 c = record { fits = d-fits _ c.whole_root-s.result (known c).s-hi (known c).d-hi }
 
 mul-p : tie.Need-overflow_mul-p
-mul-p c = record { fits = p-fits c.whole_root-s.result (known c).s-hi (known c).p-hi }
+mul-p c = record { fits = p-fits _ c.whole_root-s.result (known c).s-hi (known c).p-hi }
 
 mul-q : tie.Need-overflow_mul-q
 mul-q c = record { fits = h_fits c.whole_root-s.result (known c).s-hi }
@@ -40,7 +40,7 @@ add-q : tie.Need-overflow_add-q
 add-q c = record { fits = q-fits c.whole_root-s.result (known c).s-hi (known c).t-hi }
 
 add-if1 : tie.Need-overflow_add-t
-add-if1 c = record { fits = sum_fits c.whole_root-s.result (known c).s-hi (known c).t-hi (known c).tt-hi }
+add-if1 c = record { fits = sum_fits c.whole_root-s.result _ _ (known c).s-hi (known c).t-hi (known c).tt-hi }
 
 add-result : tie.Need-overflow_add-result
 add-result c =
@@ -50,12 +50,12 @@ add-result c =
 returns : tie.Need-returns-then-t-q
 returns c =
     let at-whole-root = c.before in
-    near_up (known at-whole-root) c.if-t-q.true
+    near_up _ _ (known at-whole-root) c.if-t-q.true
 
 returns-2 : tie.Need-returns-else-t-q
 returns-2 c =
     let at-whole-root = c.before in
-    near-stay (known at-whole-root) c.if-t-q.false
+    near-stay _ _ (known at-whole-root) c.if-t-q.false
 
 pub nearest_root_spec : {M : Type 1} → statement M
 nearest_root_spec =

@@ -15,7 +15,7 @@ use Rattle.arith.proofs.root.root_bits.Tie as tie
 up : (c : tie.Then-e-eq0) → let at_entry = c.before in let digits = at_entry.args.b % 4503599627370496 in Shifted digits (count_leading_zeros 64 digits)
 up c =
     let at_entry = c.before in
-    shifted (digits-pos _ at_entry.requires.0 c.if-e-eq0.true) (mod-lt _ (lit< tt))
+    shifted _ (digits-pos _ at_entry.requires.0 c.if-e-eq0.true) (mod-lt _ (lit< tt))
   where
     digits-pos : (b : ℕ) → 0 < b → b / 4503599627370496 ≡ 0 → 0 < b % 4503599627370496
     digits-pos b p e = omega arith
@@ -37,7 +37,7 @@ returns c =
     let at-if1 = c.before in let at_entry = at-if1.before in (
       c.join.ensures.0,
       c.join.ensures.1 ∙ ap (λ (x : ℕ). round_root binary64 x) (up at-if1).same
-          ∙ sym (sqrt-low at_entry.requires.0 at_entry.requires.1 at-if1.if-e-eq0.true),
+          ∙ sym (sqrt-low _ at_entry.requires.0 at_entry.requires.1 at-if1.if-e-eq0.true),
     )
 
 returns-2 : tie.Need-returns-else-e-eq0

@@ -23,22 +23,22 @@ float-from-bits-result c = no-nan-bits c.root_bits.ensures.0
 returns : tie.Need-returns-then-b-lt9218868437227405312
 returns c =
     let at_entry = c.before.before.before in
-    rooted (held at_entry) (c.root_bits.ensures.1 ∙ ap (λ (x : Float). sqrt binary64 x) (of_bits-to_bits binary64 _ (held at_entry)))
+    rooted _ (held at_entry) (c.root_bits.ensures.1 ∙ ap (λ (x : Float). sqrt binary64 x) (of_bits-to_bits binary64 _ (held at_entry)))
 
 returns-2 : tie.Need-returns-else-b-lt9218868437227405312
 returns-2 c =
     let at-if1 = c.before in let at_entry = at-if1.before in
-    rooted (held at_entry) (infinite (held at_entry) at-if1.if-x.true c.if-b-lt9218868437227405312.false)
+    rooted _ (held at_entry) (infinite (held at_entry) at-if1.if-x.true c.if-b-lt9218868437227405312.false)
 
 returns-3 : tie.Need-returns-then-x-2
 returns-3 c =
     let at_entry = c.before.before in
-    rooted (held at_entry) (at_zero c.if-x-2.true)
+    rooted _ (held at_entry) (at_zero c.if-x-2.true)
 
 returns-4 : tie.Need-returns-else-x-2
 returns-4 c =
     let at-if1 = c.before in let at_entry = at-if1.before in
-    rooted (held at_entry) (nowhere _ at-if1.if-x.false c.if-x-2.false)
+    rooted _ (held at_entry) (nowhere _ at-if1.if-x.false c.if-x-2.false)
 
 pub sqrt_spec : {M : Type 1} → statement M
 sqrt_spec =

@@ -11,4 +11,4 @@ store3_spec =
     tie.close (tie.spec
     (λ c. search rules) (λ c. search rules) (λ c. search rules) (λ c. search rules)
     (λ c. simp length-set (omega arith)) (λ c. search rules) (λ c. search rules)
-    (λ c. simp length-set (omega arith)) (λ c. search rules) (λ c. stored3 _ c.requires))
+    (λ c. simp length-set (omega arith)) (λ c. search rules) (λ c. stored3 _ _ _ c.requires))

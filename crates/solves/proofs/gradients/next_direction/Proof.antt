@@ -27,7 +27,7 @@ returns c =
 pub next_direction_spec : {M : Type 1} → statement M
 next_direction_spec =
     tie.close (tie.spec
-    invariant-loop decreases-loop (λ c. (omega arith, refl, filled_none _ _)) (λ c. omega arith) (λ c. omega arith)
+    invariant-loop decreases-loop (λ c. (omega arith, refl, filled_none _ _ _)) (λ c. omega arith) (λ c. omega arith)
     (λ c. omega arith) (λ c. omega arith) (λ c. omega arith) (λ c. omega arith) (λ c. omega arith)
     (λ c. omega arith) (λ c. omega arith) (λ c. omega arith) (λ c. omega arith) (λ c. omega arith)
     (λ c. omega arith) (λ c. omega arith) loop-again (λ c. omega arith) returns)

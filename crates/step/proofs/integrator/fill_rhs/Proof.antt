@@ -30,6 +30,6 @@ returns c =
 pub fill_rhs_spec : {M : Type 1} → statement M
 fill_rhs_spec =
     tie.close (tie.spec
-    invariant-loop decreases-loop (λ c. (omega arith, refl, filled_none _ _)) (λ c. omega arith) (λ c. omega arith)
+    invariant-loop decreases-loop (λ c. (omega arith, refl, filled_none _ _ _)) (λ c. omega arith) (λ c. omega arith)
     (λ c. omega arith) (λ c. omega arith) (λ c. omega arith) (λ c. omega arith) (λ c. omega arith)
     (λ c. omega arith) (λ c. omega arith) (λ c. omega arith) loop-again (λ c. omega arith) returns)

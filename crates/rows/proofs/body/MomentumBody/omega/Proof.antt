@@ -5,4 +5,4 @@ use Rattle.rows.proofs.body.MomentumBody.omega.Statement.{statement}
 use Rattle.rows.proofs.body.MomentumBody.omega.Tie as tie
 
 pub omega_spec : {M : Type 1} → statement M
-omega_spec = tie.close (tie.spec (λ c κs. search rules) (λ c. vector-answered c.inverse_angular_mass.ensures))
+omega_spec = tie.close (tie.spec (λ c κs. search rules) (λ c. vector-answered _ c.inverse_angular_mass.ensures))

@@ -20,14 +20,14 @@ returns-4 c = search (state-answered, state-angular-lost, vector-stop)
 
 returns-5 : tie.Need-returns-then-same_transform
 returns-5 c =
-    state-answered
+    state-answered _
     (state-kept _ _ c.origin.ensures c.in-Some-origin.is c.div.ensures
     c.finite.ensures c.in-Some-finite.is c.try_normalize.ensures c.in-Some.is
     c.in_frame.ensures c.in-Some-in_frame.is c.same_transform.ensures c.if-same_transform.true)
 
 returns-6 : tie.Need-returns
 returns-6 c =
-    state-answered
+    state-answered _
     (state-new _ _ c.origin.ensures c.in-Some-origin.is c.div.ensures
     c.finite.ensures c.in-Some-finite.is c.try_normalize.ensures c.in-Some.is
     c.in_frame.ensures c.in-Some-in_frame.is c.same_transform.ensures c.if-same_transform.false)
