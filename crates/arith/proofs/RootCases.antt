@@ -34,7 +34,8 @@ not-above-zero = refl
 
 pub bits_pos : (x : Float) → T (fits binary64 x) → lt (of_bits binary64 0) x ≡ true → 0 < to_bits binary64 x
 bits_pos x f h = elim (eq-zero-or-pos (to_bits binary64 x)) [
-  | inl e ↦ no (sym not-above-zero ∙ ap (λ (z : Float). lt (of_bits binary64 0) z) (ap (λ (n : ℕ). of_bits binary64 n) (sym e) ∙ of_bits-to_bits binary64 x f) ∙ h)
+  | inl e ↦ no (sym not-above-zero ∙ ap (λ (z : Float). lt (of_bits binary64 0) z) (ap (λ (n : ℕ). of_bits binary64 n) (sym e) ∙ of_bits-to_bits binary64 x f)
+      ∙ h)
   | inr p ↦ p
 ]
 

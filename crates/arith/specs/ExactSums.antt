@@ -1,4 +1,5 @@
--- The exact Taylor sums of sine and cosine in fractions, through the powers 41 and 42: they stand for the true values in the laws of `sin_cos_of` and `atan2_of`.
+-- The exact Taylor sums of sine and cosine in fractions, through the powers 41 and 42: they stand for the true values in the laws
+-- of `sin_cos_of` and `atan2_of`.
 use Rattle.std.specs.Prelude.{ℕ, zero, suc, ◌+◌, ◌<◌}
 use Rattle.std.proofs.Common.{mul-pos, zero-lt-suc}
 use Rattle.exact.specs.Rat.{ℚ, mk, qn, ◌-q◌, ◌*q◌}

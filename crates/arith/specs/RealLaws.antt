@@ -3,7 +3,8 @@ use Rattle.std.specs.Float.Ieee as Ieee
 use Rattle.std.specs.Prelude.{Float, ◌≡◌, refl, Bool, true, false, ◌&&◌, ◌||◌, ℕ, suc, ◌+◌, ◌*◌, ◌<◌, ℤ, pos, T, ltb, eqb}
 use Rattle.std.specs.Float.{nan, inf, fin, binary64}
 use Rattle.std.specs.Float.Ieee.{of_bits, up, down, lt, eq}
-use Rattle.std.proofs.Common.{sym, ap, ◌∙◌, subst, true≢false, zero-mul, mul-one, mul-pos, zero-lt-suc, lt_irrefl, not-suc-le-zero, lt_of_lt_of_le, le-add_right, ltb→lt, lt→ltb, eqb→eq}
+use Rattle.std.proofs.Common.{sym, ap, ◌∙◌, subst, true≢false, zero-mul, mul-one, mul-pos, zero-lt-suc, lt_irrefl, not-suc-le-zero, lt_of_lt_of_le}
+use Rattle.std.proofs.Common.{le-add_right, ltb→lt, lt→ltb, eqb→eq}
 use Rattle.std.specs.Bool.{beq}
 use Rattle.std.proofs.Math.Dec.{not_T}
 use Rattle.std.specs.Float.Ieee.Fits.{up_pos, and_l}

@@ -3,7 +3,7 @@ ghost use Rattle.std.specs.Prelude.{◌≡◌, false};
 ghost use Rattle.std.specs.Float.{inf};
 ghost use Rattle.arith.specs.Real.{is_finite, abs_of, max_of};
 
-// `f64::INFINITY` is not in the language.
+// +infinity, by its bits.
 pub(crate) fn infinity() -> f64
     ensures { result ≡ inf false }
 {

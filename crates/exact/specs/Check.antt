@@ -148,7 +148,8 @@ finish z v x m e f o h k t r =
           (ring (val z ∷ v ∷ x ∷ []) ((var 1 :- var 2) :+ (var 0 :- var 1)) (var 0 :- var 2) tt) (abs-add (v -q x) (val z -q v) e (rnd f) k w.1),
     )
 
-add-rel : (f g : Float) (x y : ℚ) (a b : Bd) → T (ok (add_b a b)) → (T (ok a) → Rel f x a) → (T (ok b) → Rel g y b) → Rel (add binary64 f g) (x +q y) (add_b a b)
+add-rel : (f g : Float) (x y : ℚ) (a b : Bd) → T (ok (add_b a b)) → (T (ok a) → Rel f x a) → (T (ok b) → Rel g y b)
+    → Rel (add binary64 f g) (x +q y) (add_b a b)
 unfolding add_b rounded same
 add-rel f g x y (bd m e o) (bd n d p) t ha hb =
     let s = split (o && p) (limit (m + n + (e + d))) t in let s' = split o p s.0 in
@@ -159,7 +160,8 @@ add-rel f g x y (bd m e o) (bd n d p) t ha hb =
     finish (add binary64 f g) (val f +q val g) (x +q y) (m + n) (e + d) (m + n + (e + d)) (o && p) X D t
     (add-err f g (m + n + (e + d)) A.0 B.0 (own (val f +q val g) (x +q y) (m + n) (e + d) X D))
 
-sub-rel : (f g : Float) (x y : ℚ) (a b : Bd) → T (ok (add_b a b)) → (T (ok a) → Rel f x a) → (T (ok b) → Rel g y b) → Rel (sub binary64 f g) (x -q y) (add_b a b)
+sub-rel : (f g : Float) (x y : ℚ) (a b : Bd) → T (ok (add_b a b)) → (T (ok a) → Rel f x a) → (T (ok b) → Rel g y b)
+    → Rel (sub binary64 f g) (x -q y) (add_b a b)
 unfolding add_b rounded same
 sub-rel f g x y (bd m e o) (bd n d p) t ha hb =
     let s = split (o && p) (limit (m + n + (e + d))) t in let s' = split o p s.0 in
@@ -170,7 +172,8 @@ sub-rel f g x y (bd m e o) (bd n d p) t ha hb =
     finish (sub binary64 f g) (val f -q val g) (x -q y) (m + n) (e + d) (m + n + (e + d)) (o && p) X D t
     (sub-err f g (m + n + (e + d)) A.0 B.0 (own (val f -q val g) (x -q y) (m + n) (e + d) X D))
 
-mul-rel : (f g : Float) (x y : ℚ) (a b : Bd) → T (ok (mul_b a b)) → (T (ok a) → Rel f x a) → (T (ok b) → Rel g y b) → Rel (mul binary64 f g) (x *q y) (mul_b a b)
+mul-rel : (f g : Float) (x y : ℚ) (a b : Bd) → T (ok (mul_b a b)) → (T (ok a) → Rel f x a) → (T (ok b) → Rel g y b)
+    → Rel (mul binary64 f g) (x *q y) (mul_b a b)
 unfolding mul_b rounded same
 mul-rel f g x y (bd m e o) (bd n d p) t ha hb =
     let F = mul_up (m + e) (n + d) in let E = mul_up (m + e) d + mul_up e n in

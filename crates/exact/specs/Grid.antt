@@ -1,6 +1,7 @@
 -- How far `round` goes: of num / den, in whole numbers. g is the result in units of the format's least value, 2 ^ -low.
 use Rattle.std.specs.Prelude.{◌≡◌, ◌⊎◌, not, T, eqb}
-use Rattle.std.proofs.Common.{sym, subst, inl, inr, le_trans, le_of_eq, mul-le-mul_right, mul-pos, div-add-mod', mod-lt, div-mul-le_self, eq-zero-or-pos, arith, leb→le, eqb→eq, pow-add, pow_pos}
+use Rattle.std.proofs.Common.{sym, subst, inl, inr, le_trans, le_of_eq, mul-le-mul_right, mul-pos, div-add-mod', mod-lt, div-mul-le_self, eq-zero-or-pos, arith}
+use Rattle.std.proofs.Common.{leb→le, eqb→eq, pow-add, pow_pos}
 use Prim.Native.Nat.{ℕ, ◌+◌, ◌-◌, ◌*◌, ◌/◌, ◌%◌, ◌^◌, ◌≤◌, ◌<◌, compare, Ordering}
 use Rattle.std.proofs.Math.Dec.{is_le, compare_is_eq, nleb→lt, eqb_refl}
 use Rattle.std.proofs.Math.Arith.{lt_of_le-ne}

@@ -132,7 +132,8 @@ norm_o-ok ρ (rat q) = (
       ∙ sym (add_ok ρ (con_p ρ q.p) (neg_p ρ (con_p ρ q.n)) ∙ ap₂ ◌+q◌ (con-ok ρ q.p) (neg-ok ρ (con_p ρ q.n) ∙ ap negq (con-ok ρ q.n))),
 )
 norm_o-ok ρ (a ⊕ b) = add_o-ok ρ (ev_r ρ a) (ev_r ρ b) (norm_o ρ a) (norm_o ρ b) (norm_o-ok ρ a) (norm_o-ok ρ b)
-norm_o-ok ρ (a ⊖ b) = add_o-ok ρ (ev_r ρ a) (negq (ev_r ρ b)) (norm_o ρ a) (neg_o ρ (norm_o ρ b)) (norm_o-ok ρ a) (neg_o-ok ρ (ev_r ρ b) (norm_o ρ b) (norm_o-ok ρ b))
+norm_o-ok ρ (a ⊖ b) = add_o-ok ρ (ev_r ρ a) (negq (ev_r ρ b)) (norm_o ρ a) (neg_o ρ (norm_o ρ b)) (norm_o-ok ρ a)
+    (neg_o-ok ρ (ev_r ρ b) (norm_o ρ b) (norm_o-ok ρ b))
 norm_o-ok ρ (a ⊗ b) = mul_o-ok ρ (ev_r ρ a) (ev_r ρ b) (norm_o ρ a) (norm_o ρ b) (norm_o-ok ρ a) (norm_o-ok ρ b)
 
 -- ---- identities

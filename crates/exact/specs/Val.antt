@@ -1,6 +1,7 @@
 -- The value of a finite float as a rational number, and how far each operation of binary64 is from the exact one.
 use Rattle.std.specs.Prelude.{◌≡◌, refl, Bool, true, false, not, cond, ℕ, ◌+◌, ◌-◌, ◌*◌, ◌/◌, ◌^◌, ◌≤◌, ◌<◌, T, ltb, eqb, Float}
-use Rattle.std.proofs.Common.{sym, ap, ap₂, ◌∙◌, subst, subst₂, le_trans, le_of_eq, mul-le-mul_right, le_of_mul-le-mul_right, lt_of_mul-lt-mul_right, zero-lt-suc, mul-pos, mul_right_comm, arith, ltb→lt, nltb→le, eqb→eq, lit≤, pow_pos}
+use Rattle.std.proofs.Common.{sym, ap, ap₂, ◌∙◌, subst, subst₂, le_trans, le_of_eq, mul-le-mul_right, le_of_mul-le-mul_right, lt_of_mul-lt-mul_right}
+use Rattle.std.proofs.Common.{zero-lt-suc, mul-pos, mul_right_comm, arith, ltb→lt, nltb→le, eqb→eq, lit≤, pow_pos}
 use mathlib.Core.Quot.{sound}
 use Rattle.std.proofs.Math.Dec.{nleb→lt}
 use Rattle.std.specs.Float.{nan, inf, fin, binary64}

@@ -1,6 +1,7 @@
 -- The plan file of SPECIFICATION §12: what a file says, the refusals 13 to 18, and the tables that are read from it.
 -- A file is a list of bytes. The tests and the records below look at its head; what comes after a record is read in the same way.
-use Rattle.std.specs.Prelude.{ℕ, zero, suc, ◌+◌, ◌*◌, ◌≤◌, List, [], ◌∷◌, Bool, true, false, cond, ◌&&◌, ltb, leb, eqb, length, get_or, set, drop, replicate, Float}
+use Rattle.std.specs.Prelude.{ℕ, zero, suc, ◌+◌, ◌*◌, ◌≤◌, List, [], ◌∷◌, Bool, true, false, cond, ◌&&◌, ltb, leb, eqb, length, get_or, set, drop, replicate}
+use Rattle.std.specs.Prelude.{Float}
 use Rattle.std.proofs.Math.Seq.{paste}
 use Rattle.std.specs.Float.{binary64}
 use Rattle.std.specs.Float.Ieee.{of_bits}

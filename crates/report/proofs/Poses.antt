@@ -62,7 +62,8 @@ posed-by file scratch e i = ap (λ (x : Reading). posed_by x scratch) (e ∙ ap 
 module _ (file : List ℕ) (scratch : List Float) (out : List ℕ) where
   -- what `pose` ensures of its answer r, and of the scratch and of out as it leaves them
   abbrev pub Poses : List Float → List ℕ → ℕ → Type 0
-  Poses left after r = IsPrefixLen r after × ((r ≡ pose_length file scratch out) × ((after ≡ pose_out file scratch out) × (left ≡ pose_scratch file scratch out)))
+  Poses left after r = IsPrefixLen r after × ((r ≡ pose_length file scratch out)
+      × ((after ≡ pose_out file scratch out) × (left ≡ pose_scratch file scratch out)))
 
   pub poses-none : length out < ROOM → Poses scratch out 0
   poses-none h = ((omega arith, refl), (simp (lt-leb ROOM (length out) h), (simp (lt-leb ROOM (length out) h), simp (lt-leb ROOM (length out) h))))

@@ -15,7 +15,8 @@ use Rattle.report.specs.Text.{room_of, HEAD_LINE, BODY_LINE}
 -- ---- digits
 pub digits-length : (b k n : ℕ) → length (last_digits b k n) ≡ k
 digits-length b zero n = refl
-digits-length b (suc k) n = length-append (last_digits b k (n / b)) (hex_digit_ascii (n % b) ∷ []) ∙ ap (λ (x : ℕ). x + 1) (digits-length b k (n / b)) ∙ add-one k
+digits-length b (suc k) n = length-append (last_digits b k (n / b)) (hex_digit_ascii (n % b) ∷ []) ∙ ap (λ (x : ℕ). x + 1) (digits-length b k (n / b))
+    ∙ add-one k
 
 pub places-most : (k n : ℕ) → places k n ≤ suc k
 unfolding places

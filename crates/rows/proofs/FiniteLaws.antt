@@ -35,7 +35,8 @@ unfolding tab
 finite-lost f zero k h e = absurd (omega arith)
 finite-lost f (suc n) k h e = at_last (ℕ_discrete k n) (finite-lost f n k) ∙ sym (finite-end (tab n f) (f n))
   where
-    at_last : Dec (k ≡ n) → (k < n → is_finite (f k).value ≡ false → false ≡ finite_values (tab n f)) → false ≡ (finite_values (tab n f) && is_finite (f n).value)
+    at_last : Dec (k ≡ n) → (k < n → is_finite (f k).value ≡ false → false ≡ finite_values (tab n f))
+        → false ≡ (finite_values (tab n f) && is_finite (f n).value)
     at_last (yes q) ih = and-false (finite_values (tab n f)) ∙ ap (λ (b : Bool). finite_values (tab n f) && b) (sym e ∙ ap (λ (j : ℕ). is_finite (f j).value) q)
     at_last (no q) ih = ap (λ (b : Bool). b && is_finite (f n).value) (ih (omega arith) e)
 

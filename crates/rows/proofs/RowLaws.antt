@@ -35,7 +35,8 @@ use Rattle.rows.specs.declared.geometry.Relative.{Relative}
 use Rattle.rows.specs.declared.geometry.Swing.{Swing}
 use Rattle.rows.specs.Fault.{Fault, non_convergent, arithmetic_overflow, Result, vector_or, number_or, quat_or, try_finite, try_length, try_rotate}
 use Rattle.rows.specs.Body.{anchor_of}
-use Rattle.rows.specs.Geometry.{epsilon, turning, ends_of, tolerance_of, distance_row, linear_row, row_if, any_locked, half_turned, relative_of, swing_x, swing_y}
+use Rattle.rows.specs.Geometry.{epsilon, turning, ends_of, tolerance_of, distance_row, linear_row, row_if, any_locked, half_turned, relative_of, swing_x}
+use Rattle.rows.specs.Geometry.{swing_y}
 use Rattle.rows.specs.Geometry.{local_of, gradient_row, swing_row, angle_or, twist_locked, twist_row, aligned_of, align_row}
 use Rattle.rows.specs.Unit.{UnitOf}
 use Rattle.rows.specs.Append.{ends_as, axis_as, relative_as}

@@ -19,7 +19,8 @@ use Rattle.vectors.specs.declared.matrix.Mat3.{Mat3}
 use Rattle.vectors.specs.declared.matrix.Inverted.{Inverted}
 use Rattle.vectors.specs.declared.quaternion.Quat.{Quat}
 use Rattle.vectors.specs.Vector.{vec, zero_vec, axis_x, axis_y, axis_z, normalize_by, checked_length_of}
-use Rattle.vectors.specs.Matrix.{column_of, from_cols, correction_of, entry_of, factor_row_of, factor_of, factor_spd_of, factor_solve_of, done, solve_spd_of, inverse_spd_of}
+use Rattle.vectors.specs.Matrix.{column_of, from_cols, correction_of, entry_of, factor_row_of, factor_of, factor_spd_of, factor_solve_of, done, solve_spd_of}
+use Rattle.vectors.specs.Matrix.{inverse_spd_of}
 use Rattle.vectors.specs.Quaternion.{quat, rotate_vector_of}
 use Rattle.rows.specs.declared.body.MomentumBody.{MomentumBody}
 use Rattle.rows.specs.declared.geometry.Kind.TheVariants.{Distance}
@@ -111,7 +112,11 @@ table =
     -- inertia diagonal 4, 4, 1 inverts to 1/4, 1/4, 1
     ∷ (inverted (inverse_spd_of (diagonal (whole 4) (whole 4) (whole 1))), 1 ∷ matrix (diagonal (ratio 1 4) (ratio 1 4) (whole 1)))
     -- rod 5 between (0, 0, 0) and (3, 4, 0): value 0, tolerance 1e-13
-    ∷ (written (write_equality_rows (rod (whole 5)) (resting zero_vec) (resting (vec (whole 3) (whole 4) (whole 0)))), bits (whole 0) ++ bits (ratio 1 (10 ^ 13)))
+    ∷ (
+      written (write_equality_rows (rod (whole 5)) (resting zero_vec) (resting (vec (whole 3) (whole 4) (whole 0)))),
+      bits (whole 0) ++ bits
+          (ratio 1 (10 ^ 13)),
+    )
     ∷ []
 
 unfoldable same : List ℕ → List ℕ → Bool
@@ -126,6 +131,7 @@ right (line ∷ lines) = same line.0 line.1 && right lines
 
 starred : T (right table)
 unfolding right same numbers write_equality_rows ends_of tolerance_of distance_row anchor_of try_finite rotate_vector_of normalize_by checked_length_of
-    correction_of entry_of factor_row_of factor_of factor_spd_of factor_solve_of solve_spd_of inverse_spd_of turns loop ◌>>=◌ horner arc_sum half_tangent octant quadrant
+    correction_of entry_of factor_row_of factor_of factor_spd_of factor_solve_of solve_spd_of inverse_spd_of turns loop ◌>>=◌ horner arc_sum half_tangent
+    octant quadrant
     facing angle_of atan2_of hypot_of scaled_root sqrt round_root root root_in is_finite abs_of add sub mul div neg lt le eq round to_bits of_bits
 starred = tt

@@ -8,7 +8,8 @@ pub use Rattle.vectors.specs.declared.vector.OptionF64.{OptionF64}
 pub use Rattle.vectors.specs.declared.quaternion.Quat.{Quat}
 pub use Rattle.vectors.specs.declared.quaternion.OptionQuat.{OptionQuat}
 pub use Rattle.vectors.specs.declared.matrix.Mat3.{Mat3}
-pub use Rattle.vectors.specs.Vector.{finite_of, checked_length_of, add_of, sub_of, scale_of, div_of, vec, zero_vec, axis_x, axis_y, axis_z, neg_of, dot_of, cross_of}
+pub use Rattle.vectors.specs.Vector.{finite_of, checked_length_of, add_of, sub_of, scale_of, div_of, vec, zero_vec, axis_x, axis_y, axis_z, neg_of, dot_of}
+pub use Rattle.vectors.specs.Vector.{cross_of}
 pub use Rattle.vectors.specs.Vector.{try_normalize_of}
 pub use Rattle.vectors.specs.Quaternion.{rotate_vector_of, conjugate_of, is_normalized_of, integrate_of, product_of, quat_try_normalize_of}
 pub use Rattle.vectors.specs.Matrix.{apply_of}

@@ -243,7 +243,8 @@ go-is e = cc
 stop-not : {x : List ℕ} → ◌≡◌ {A = Turn (List ℕ) (Unit {0})} (go x) (stop tt) → ⊥
 stop-not e = let z : ◌≡◌ {A = ℕ} 0 1 = cc in omega arith
 
-pub edge-linked : {m body : ℕ} (block : ℕ) {edges t : List ℕ} → block < m → m ≤ 96 → body < 16 → Linking m edges → go t ≡ add_edge body block edges → Linking m t
+pub edge-linked : {m body : ℕ} (block : ℕ) {edges t : List ℕ} → block < m → m ≤ 96 → body < 16 → Linking m edges → go t ≡ add_edge body block edges
+    → Linking m t
 unfolding add_edge
 edge-linked {m} {body} block {edges} {t} h l q k e = by (eqb (index edges (2 * body)) none) (eqb (index edges (2 * body + 1)) none) e
   where

@@ -33,7 +33,8 @@ use Rattle.solves.specs.Solver.{row_in, mass_in, dot, operator, plus, minus, dif
 use Rattle.solves.specs.Solver.{prepare_row, prepare, Tested, true_residual, scaled_square, next_direction, advance}
 use Rattle.solves.specs.Search.{gradient_most, settle, gradient_pass, gradients}
 use Rattle.solves.specs.Answer.{ran_as, test_as, true_as}
-use Rattle.solves.specs.View.{row_on, rows_on, mass_at, masses_at, system_on, search_at, prepared_at, Rows, Beside, Operating, Passing, Preparing, Testing, Work}
+use Rattle.solves.specs.View.{row_on, rows_on, mass_at, masses_at, system_on, search_at, prepared_at, Rows, Beside, Operating, Passing, Preparing, Testing}
+use Rattle.solves.specs.View.{Work}
 use Rattle.solves.specs.View.{VECTOR, ROWS_MOST, MASSES, RHS, SOLUTION, RESIDUAL, DIRECTION, PRODUCT, DIAGONAL}
 use Rattle.solves.specs.DoesLaws.{goes_on, returns-if, does-stop, does-as}
 use Rattle.solves.specs.ViewLaws.{row-in, mass-in, passing-vector, passing-moves, passing-testing}
@@ -369,7 +370,8 @@ module _ {s : List Float} {ia ib : List ℕ} (table : Table) (pre : Rows s ia ib
 
     module _ (r : Pass) (h : r ≡ Passes.Again) (d : Does Testing s t (true_as r (vec_at t RESIDUAL n₃)) Truth) {next : Float}
         (en : next ≡ scaled_square (vec_at t RESIDUAL n₃) (vec_at t DIAGONAL n₃)) {u : List Float}
-        (e : Does (Beside DIRECTION) t u (vec_at u DIRECTION n₃) (next_direction (vec_at t RESIDUAL n₃) (vec_at t DIAGONAL n₃) (next ⊘ rho) (vec_at t DIRECTION n₃)))
+        (e : Does (Beside DIRECTION) t u (vec_at u DIRECTION n₃) (next_direction (vec_at t RESIDUAL n₃) (vec_at t DIAGONAL n₃) (next ⊘ rho)
+        (vec_at t DIRECTION n₃)))
       where
         diag : vec_at t DIAGONAL n₃ ≡ vec_at s DIAGONAL n₃
         diag = kept-vec d.kept DIAGONAL n₃ (λ i x y. omega (arith, pre.most))
@@ -384,7 +386,8 @@ module _ {s : List Float} {ia ib : List ℕ} (table : Table) (pre : Rows s ia ib
         res = kept-vec e.kept RESIDUAL n₃ (λ i x y. omega (arith, pre.most))
 
         dir : vec_at u DIRECTION n₃
-            ≡ next_direction (vec_at t RESIDUAL n₃) (vec_at s DIAGONAL n₃) (scaled_square (vec_at t RESIDUAL n₃) (vec_at s DIAGONAL n₃) ⊘ rho) (vec_at s DIRECTION n₃)
+            ≡ next_direction (vec_at t RESIDUAL n₃) (vec_at s DIAGONAL n₃) (scaled_square (vec_at t RESIDUAL n₃) (vec_at s DIAGONAL n₃) ⊘ rho)
+            (vec_at s DIRECTION n₃)
         dir =
             e.is
             ∙ λ j. next_direction (vec_at t RESIDUAL n₃) (diag j) (next-is j ⊘ rho) (kept-vec d.kept DIRECTION n₃ (λ i x y. omega (arith, pre.most)) j)
@@ -424,7 +427,8 @@ module _ {s : List Float} {ia ib : List ℕ} (table : Table) (pre : Rows s ia ib
     pass-stuck d = record { kept = d.kept; is = try-stop _ d.is ∙ leave-no _ _ refl ∙ try-go _ (test-is e h) }
 
     pub pass_on : {u : List Float} {x : Counting (Turn Search (List Float))} → Does Passing s t (go (search_at t n₄ rho)) (advance M₄ (search_at s n₄ rho))
-        → Does Passing t u x (settle (system_on ia ib t table) (vec_at t RHS n₄) (vec_at t DIAGONAL n₄) tolerance (search_at t n₄ rho)) → Does Passing s u x Whole
+        → Does Passing t u x (settle (system_on ia ib t table) (vec_at t RHS n₄) (vec_at t DIAGONAL n₄) tolerance (search_at t n₄ rho))
+        → Does Passing s u x Whole
     unfolding gradient_pass
     pass_on {u} {x} d f = record {
       kept = kept_then d.kept f.kept (λ i x. x);
@@ -484,6 +488,7 @@ module _ {s : List Float} {ia ib : List ℕ} (table : Table) (pre : Rows s ia ib
       gradients-whole {t} {y} d = record {
         kept = kept_then kk d.kept (λ i q. q);
         is = d.is
-            ∙ (λ j. up_to (gradient_most (len j)) non_convergent (gradient_pass (work-system table pre kk j) (rhs₁ j) (vec_at s₁ DIAGONAL n₅) tolerance) (begun j))
+            ∙ (λ j. up_to (gradient_most (len j)) non_convergent (gradient_pass (work-system table pre kk j) (rhs₁ j) (vec_at s₁ DIAGONAL n₅) tolerance)
+            (begun j))
             ∙ try-go _ (e ∙ ap (tolerance_for (ratio 1 (10 ^ 12))) rhs₁) ∙ try-go _ d₁.is;
       }

@@ -208,7 +208,8 @@ module _ {s : List Float} {ia ib : List ℕ} (table : Table) (pre : Rows s ia ib
         len = sym (tab-length m (row_on ia ib s table.place))
 
         pub least-whole : {t : List Float} {y : Counting (List Float)}
-            → Does Work s₂ t y (up_to (least_most m) non_convergent (least_pass (system_on ia ib s₂ table) tolerance) (search_at s₂ m norm)) → Does Work s t y Least
+            → Does Work s₂ t y (up_to (least_most m) non_convergent (least_pass (system_on ia ib s₂ table) tolerance) (search_at s₂ m norm))
+            → Does Work s t y Least
         unfolding least_squares
         least-whole {t} {y} d = record {
           kept = kept_then k₂ d.kept (λ i q. q);

@@ -26,7 +26,8 @@ use Rattle.solves.specs.RegionLaws.{vec-at, vec_in, kept-vec, vec-more}
 use Rattle.solves.specs.Solver.{row_in, generalized_in, mass_in, try_number, sum_products, dot, push_into, push_row, transpose}
 use Rattle.solves.specs.Solver.{scaled, scale_all, rate, rates, operator, no_share, through, add_through, cross_end, cross_mass}
 use Rattle.solves.specs.Checked.{added, finite_share, all_finite, checked}
-use Rattle.solves.specs.View.{row_on, rows_on, generalized_at, shares_in, mass_at, masses_at, system_on, Rows, RowsAlong, VectorPlace, Shares, Beside, Operating}
+use Rattle.solves.specs.View.{row_on, rows_on, generalized_at, shares_in, mass_at, masses_at, system_on, Rows, RowsAlong, VectorPlace, Shares, Beside}
+use Rattle.solves.specs.View.{Operating}
 use Rattle.solves.specs.View.{BODIES_MOST, VECTOR, RHS, GENERALIZED, MASSES, END, no_generalized, no_mass}
 use Rattle.solves.specs.DoesLaws.{number-yes, number-no, does-stop, does-then}
 use Rattle.solves.specs.ViewLaws.{out_within, kept-rows, kept-masses, row-in, share_in, mass-in, shares-set, shares-more, shares-none}

@@ -29,7 +29,8 @@ use Rattle.solves.specs.Path.{Factor, forward, backward, Refined, refine, path_o
 use Rattle.solves.specs.Search.{least_squares, gradients, refinement, path_along, Choice, by_least_squares, by_path, by_gradients, ordered, choose}
 use Rattle.solves.specs.Search.{solve_by, linear_solve}
 use Rattle.solves.specs.Answer.{ran_as, test_as, order_as, ended_as, ended_with}
-use Rattle.solves.specs.View.{row_on, rows_on, system_on, list_of_first, band_at, factor_at, refined_at, Rows, RowsAlong, Beside, Operating, Factoring, Refining, Work}
+use Rattle.solves.specs.View.{row_on, rows_on, system_on, list_of_first, band_at, factor_at, refined_at, Rows, RowsAlong, Beside, Operating, Factoring}
+use Rattle.solves.specs.View.{Refining, Work}
 use Rattle.solves.specs.View.{RHS, SOLUTION, RESIDUAL, PRODUCT, PATH_BAND, PATH_SCALE, PATH_RHS}
 use Rattle.solves.specs.ViewLaws.{system-kept, passing-vector, passing-moves}
 use Rattle.solves.proofs.SearchLaws.{work-system, Came, came-again, came-over, came-out}
@@ -221,7 +222,8 @@ module _ {s : List Float} {ia ib order : List ℕ} (table : Table) (pre : RowsAl
 
       pub along-whole : {v : List Float} {y : Counting (List Float)}
           → Does Work u v y
-          (up_to 4 non_convergent (refinement (system_on ia ib u table) (vec_at u RHS n₁) (list_of_first order n₁) (factor_at u n₁) tolerance) (refined_at u n₁))
+          (up_to 4 non_convergent (refinement (system_on ia ib u table) (vec_at u RHS n₁) (list_of_first order n₁) (factor_at u n₁) tolerance)
+          (refined_at u n₁))
           → Does Work s v y Along
       unfolding path_along
       along-whole f = record {
@@ -312,7 +314,8 @@ module _ {s : List Float} {ia ib : List ℕ} (table : Table) (pre : Rows s ia ib
     linear-gradients o e = chosen-from by_gradients (chosen o)
         (record { kept = e.kept; is = e.is ∙ ap (gradients (system_on ia ib s₂ table) (vec_at s₂ RHS n₂) (vec_at s₂ SOLUTION n₂)) same_rhs })
 
-    pub linear-path : (order : List ℕ) → go (list_of_first order n₂) ≡ path_order (list_of_first ia n₂) (list_of_first ib n₂) n₂ → {t : List Float} {y : Counting (List Float)}
+    pub linear-path : (order : List ℕ) → go (list_of_first order n₂) ≡ path_order (list_of_first ia n₂) (list_of_first ib n₂) n₂
+        → {t : List Float} {y : Counting (List Float)}
         → Does Work s₂ t y (path_along (system_on ia ib s₂ table) (vec_at s₂ RHS n₂) (vec_at s₂ SOLUTION n₂) (list_of_first order n₂)) → Does Work s t y Linear
     unfolding solve_by
     linear-path order o e = chosen-from (by_path (list_of_first order n₂)) (chosen o) e

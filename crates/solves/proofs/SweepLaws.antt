@@ -207,7 +207,8 @@ module _ (n : ℕ) (order : List ℕ) (s₀ : List Float) where
   Turned = backward_turn n O₁ Sc₁ Bd₁
 
   abbrev pub BackwardSo : ℕ → List Float → Type 0
-  BackwardSo k s = Swept Backs n order s₀ k s (back_at s n) (turns (backward_turn n (list_of_first order n) (vec_at s₀ PATH_SCALE n) (band_at s₀ n)) k (back_at s₀ n))
+  BackwardSo k s = Swept Backs n order s₀ k s (back_at s n) (turns (backward_turn n (list_of_first order n) (vec_at s₀ PATH_SCALE n) (band_at s₀ n)) k
+      (back_at s₀ n))
 
   pub backwards-none : END ≤ length s₀ → n ≤ 96 → Along order n → BackwardSo 0 s₀
   backwards-none w m a = record {

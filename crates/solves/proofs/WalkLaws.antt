@@ -159,7 +159,8 @@ module _ (blocks : Blocks) where
           → room blocks (set v c true) k + part (set v c true) k + size_of blocks c ≡ room blocks v k + part v k
       by (yes e) ih =
           let x : room blocks (set v c true) k ≡ room blocks v k = room-other v c k (omega arith) in
-          let y : part (set v c true) k ≡ 0 = part_by (set v c true) k (ap (λ (j : ℕ). get_or (set v c true) j false) (sym e) ∙ get_or-set_same v c true false l) in
+          let y : part (set v c true) k ≡ 0 = part_by (set v c true) k (ap (λ (j : ℕ). get_or (set v c true) j false) (sym e)
+          ∙ get_or-set_same v c true false l) in
           let w : part v k ≡ size_of blocks k = part_by v k (ap (λ (j : ℕ). get_or v j false) (sym e) ∙ f) in
           let u : size_of blocks c ≡ size_of blocks k = ap (size_of blocks) e in
           omega arith
@@ -450,7 +451,8 @@ module _ {ia ib : List ℕ} {n : ℕ} {before starts : List ℕ} {blocks : ℕ} 
   abbrev Defined : Turn (List ℕ) (Unit {0})
   Defined = path_order (list_of_first ia n) (list_of_first ib n) n
 
-  edges_are : loop blocks (edges_on ia ib Blocks₂) (replicate 32 96) ≡ path_edges (list_of_first ia n) (list_of_first ib n) (path_starts (list_of_first ia n) (list_of_first ib n) n)
+  edges_are : loop blocks (edges_on ia ib Blocks₂) (replicate 32 96) ≡ path_edges (list_of_first ia n) (list_of_first ib n)
+      (path_starts (list_of_first ia n) (list_of_first ib n) n)
   unfolding path_edges
   edges_are = ap (λ (m : ℕ). loop m (edges_on ia ib Blocks₂) (replicate 32 96)) (sym (tab-length blocks (λ j. get_or starts j 0)))
       ∙ λ j. path_edges (list_of_first ia (made.rows j)) (list_of_first ib (made.rows j)) (made.is j)
@@ -463,7 +465,8 @@ module _ {ia ib : List ℕ} {n : ℕ} {before starts : List ℕ} {blocks : ℕ} 
       (w : Orders Blocks₂ found order (walks_on ia ib Blocks₂ edges)) where
     walked-is : finish n (found_as found (order_of order)) ≡ Defined
     unfolding path_order
-    walked-is = ap (finish n) (w.is ∙ λ j. order_in (path_walks (list_of_first ia (made.rows j)) (list_of_first ib (made.rows j)) (made.rows j) (made.is j) edges))
+    walked-is = ap (finish n) (w.is ∙ λ j. order_in (path_walks (list_of_first ia (made.rows j)) (list_of_first ib (made.rows j)) (made.rows j)
+        (made.is j) edges))
         ∙ finish-is n _ ∙ then-go _ (e ∙ edges_are)
 
     pub order-lost : found ≡ false → stop tt ≡ Defined

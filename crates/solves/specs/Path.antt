@@ -98,7 +98,8 @@ abbrev pub less_products : (ℕ → Float) → (ℕ → Float) → ℕ → Float
 less_products x y terms value = turns (λ t value. value ⊖ x t ⊗ y t) terms value
 
 unfoldable pub reduced : List Float → ℕ → ℕ → Float → Float  -- for k in band_start..j { value -= path_band[i][i - k] * path_band[j][j - k]; }
-reduced band i j value = less_products (λ t. band_cell band i (i - (band_start i + t))) (λ t. band_cell band j (j - (band_start i + t))) (j - band_start i) value
+reduced band i j value = less_products (λ t. band_cell band i (i - (band_start i + t))) (λ t. band_cell band j (j - (band_start i + t)))
+    (j - band_start i) value
 
 pub record Factor : Type 0 where  -- self.path_scale and self.path_band
   pub scale : List Float

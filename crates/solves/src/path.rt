@@ -194,7 +194,8 @@ fn walk(
     rows: &mut PerRow,
     listed: usize,
 ) -> Walked
-    requires { (OnGraph ia.now ib.now starts.now blocks edges.now) × (first < blocks) × (Free (blocks_at starts.now blocks) (order_at rows.old listed) visited.old) }
+    requires { (OnGraph ia.now ib.now starts.now blocks edges.now) × (first < blocks)
+        × (Free (blocks_at starts.now blocks) (order_at rows.old listed) visited.old) }
     ensures { WalksOn starts.now blocks visited.old visited.new rows.old rows.new listed result (λ b. walk_on ia.now ib.now b edges.now first) }
 {
     let mut listed = listed;
@@ -256,7 +257,8 @@ fn walk_from(
     rows: &mut PerRow,
     listed: usize,
 ) -> Walked
-    requires { (OnGraph ia.now ib.now starts.now blocks edges.now) × (first < blocks) × (Free (blocks_at starts.now blocks) (order_at rows.old listed) visited.old) }
+    requires { (OnGraph ia.now ib.now starts.now blocks edges.now) × (first < blocks)
+        × (Free (blocks_at starts.now blocks) (order_at rows.old listed) visited.old) }
     ensures { WalksOn starts.now blocks visited.old visited.new rows.old rows.new listed result (λ b. from_on ia.now ib.now b edges.now first) }
 {
     if is_end(ia, ib, starts, blocks, edges, visited, first) {

@@ -81,7 +81,8 @@ module _ (job : Job) (bodies : List Float) (g : count_of_bodies bodies ≤ 16) (
         (does-stop {Q = Out 0 USED} (on_rows (start_bodies_at s₁ (count_of_bodies bodies))) (λ i x. omega arith) (failed x r eb d h)))
 
     pub all-begun : (ia ib : List ℕ) {n : ℕ} → n ≤ 96 → Writes (go (rows_on ia ib s₂ START_ROWS n)) → (r : End) {s₃ : List Float}
-        → Does (Out MASSES MASS_TABLE) s₂ s₃ (ran_as r (masses_at s₃ MASSES (count_of_bodies bodies))) (prepare_masses (start_bodies_at s₂ (count_of_bodies bodies)))
+        → Does (Out MASSES MASS_TABLE) s₂ s₃ (ran_as r (masses_at s₃ MASSES (count_of_bodies bodies)))
+        (prepare_masses (start_bodies_at s₂ (count_of_bodies bodies)))
         → Begins s₃ (ran_as r (started_at ia ib s₃ (record { place = START_ROWS; rows = n; bodies = count_of_bodies bodies })))
     unfolding start_of
     all-begun ia ib {n} l d₂ r {s₃} d₃ =
@@ -95,7 +96,8 @@ module _ (job : Job) (bodies : List Float) (g : count_of_bodies bodies ≤ 16) (
         starts : start_bodies_at s₂ (count_of_bodies bodies) ≡ start_bodies_at s₁ (count_of_bodies bodies)
         starts = kept-starts d₂.kept (count_of_bodies bodies) (λ i a b. omega arith)
 
-        there : started_at ia ib s₃ (record { place = START_ROWS; rows = n; bodies = count_of_bodies bodies }) ≡ made (masses_at s₃ MASSES (count_of_bodies bodies))
+        there : started_at ia ib s₃ (record { place = START_ROWS; rows = n; bodies = count_of_bodies bodies })
+            ≡ made (masses_at s₃ MASSES (count_of_bodies bodies))
         there = λ j. record {
           bodies = (kept-starts d₃.kept (count_of_bodies bodies) (λ i a b. omega arith) ∙ starts) j;
           system = record { rows = kept-rows d₃.kept ia ib START_ROWS n (λ i a b. omega arith) j; masses = masses_at s₃ MASSES (count_of_bodies bodies) };

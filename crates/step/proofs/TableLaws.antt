@@ -35,14 +35,16 @@ use Rattle.solves.specs.RegionLaws.{vec-at, filled-vec, filled_more}
 use Rattle.solves.specs.Solver.{row_in, generalized_in, try_number}
 use Rattle.solves.specs.DoesLaws.{number-yes, number-no}
 use Rattle.solves.specs.Layout.{MASS_TABLE}
-use Rattle.solves.specs.View.{ROWS, MASSES, RHS, SOLUTION, GENERALIZED, row_on, rows_on, generalized_at, generalizeds_at, mass_of, mass_at, masses_at, Beside, no_row}
+use Rattle.solves.specs.View.{ROWS, MASSES, RHS, SOLUTION, GENERALIZED, row_on, rows_on, generalized_at, generalizeds_at, mass_of, mass_at, masses_at, Beside}
+use Rattle.solves.specs.View.{no_row}
 use Rattle.step.specs.Layout.{IMPULSES, START, CANDIDATE, BODIES, STATES}
 use Rattle.solves.specs.ViewLaws.{share_in, masses-more}
 use Rattle.step.specs.declared.integrator.MassAnswer.{MassAnswer}
 use Rattle.step.specs.Records.{record_at, records_of, count_of_bodies}
 use Rattle.step.specs.View.{cols_of, start_body_at, candidate_at, start_bodies_at, candidates_at, states_at, held_of, moved_to, state_at, no_record}
 use Rattle.step.specs.ViewLaws.{kept-start, kept-candidate, kept-state}
-use Rattle.step.specs.Bodies.{body_in, record_in, start_bodies, mass_response, prepare_masses, kick_and_drift, move_bodies, rows_met, rhs_of, add_impulses, states_of}
+use Rattle.step.specs.Bodies.{body_in, record_in, start_bodies, mass_response, prepare_masses, kick_and_drift, move_bodies, rows_met, rhs_of, add_impulses}
+use Rattle.step.specs.Bodies.{states_of}
 use Rattle.step.specs.RunView.{bodies_at, mass_as}
 use Rattle.step.proofs.FrameLaws.{candidate-in, start-in, body-in}
 use Rattle.step.proofs.EachLaws.{so-none, so-more, so-put, so-stop, so-end}

@@ -2,9 +2,11 @@
 -- `Result A` is the Rust's Result, and in a `do` block `x ← e` is `let x = e?`. Bodies and rows are in rows/specs, the linear solves in solves/specs.
 use Rattle.std.specs.Prelude.{ℕ, ◌^◌, List, [], ◌++◌, Bool, cond, ◌&&◌, length, get_or, Float}
 use Rattle.step.specs.Words.{nan, neg, le, tab, every, go, stop, ◌>>=◌, loop, each, ratio}
-use Rattle.step.specs.Words.{is_finite, abs_of, ◌⊕◌, ◌⊘◌, quat, to_mat3_of, inverse_spd_of, finite_mat, mat_product_of, transpose_of, at, dot_of, div_of, RigidBody}
+use Rattle.step.specs.Words.{is_finite, abs_of, ◌⊕◌, ◌⊘◌, quat, to_mat3_of, inverse_spd_of, finite_mat, mat_product_of, transpose_of, at, dot_of, div_of}
+use Rattle.step.specs.Words.{RigidBody}
 use Rattle.step.specs.Words.{BodyState, MomentumBody, Joint, EqualityRow, arithmetic_overflow, Result, body_with, new_of, omega_of, kick_of, drift_of}
-use Rattle.step.specs.Words.{state_with, state_of, write_equality_rows, System, Generalized, MassResponse, no_vec, row_in, generalized_in, try_number, transpose}
+use Rattle.step.specs.Words.{state_with, state_of, write_equality_rows, System, Generalized, MassResponse, no_vec, row_in, generalized_in, try_number}
+use Rattle.step.specs.Words.{transpose}
 use Rattle.step.specs.Records.{record_with}
 use Rattle.step.specs.Checks.{joint_in}
 

@@ -22,7 +22,8 @@ record_with origin rotation v w mass local inertia =
     record { origin = origin; rotation = rotation; linear_velocity = v; angular_velocity = w; mass = mass; center_of_mass = local; inertia = inertia }
 
 abbrev pub record_from : List Float → ℕ → RigidBody  -- the one that begins at s[i]
-record_from s i = record_with (vec3_at s i) (quat_at s (i + 3)) (vec3_at s (i + 7)) (vec3_at s (i + 10)) (at s (i + 13)) (vec3_at s (i + 14)) (mat_at s (i + 17))
+record_from s i = record_with (vec3_at s i) (quat_at s (i + 3)) (vec3_at s (i + 7)) (vec3_at s (i + 10)) (at s (i + 13)) (vec3_at s (i + 14))
+    (mat_at s (i + 17))
 
 abbrev pub record_at : List Float → ℕ → RigidBody  -- record k of a body slice
 record_at s k = record_from s (RECORD * k)

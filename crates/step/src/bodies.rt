@@ -7,7 +7,8 @@ ghost use Rattle.solves.specs.System.{BODIES_MOST};
 ghost use Rattle.step.specs.Layout.{START, CANDIDATE, USED};
 ghost use Rattle.step.specs.Records.{RECORD, MOVING, quat_at, mat_at, record_at};
 ghost use Rattle.step.specs.Checks.{within_of};
-ghost use Rattle.step.specs.View.{cols_of, fixed_at, fixed_of, moving_at, moving_of, body_from, start_body_at, candidate_at, held_of, moved_to, Handed, state_at};
+ghost use Rattle.step.specs.View.{cols_of, fixed_at, fixed_of, moving_at, moving_of, body_from, start_body_at, candidate_at};
+ghost use Rattle.step.specs.View.{held_of, moved_to, Handed, state_at};
 
 use crate::checks::within;
 use crate::layout::{CANDIDATE, MOVING, RECORD, START};

@@ -141,7 +141,8 @@ fn kick_candidates(s: &mut [f64], body_count: usize) -> End
 // A solve's reaction on the candidates.
 pub(crate) fn apply(s: &mut [f64], ia: &PerRow, ib: &PerRow, t: Table) -> End
     requires { Ours s.old ia.now ib.now t }
-    ensures { Leaves Correcting s.old s.new result (candidates_of t) (reaction_of (system_in s.old ia.now ib.now t).rows (candidates_of t s.old) (solution_on s.old t)) }
+    ensures { Leaves Correcting s.old s.new result (candidates_of t)
+        (reaction_of (system_in s.old ia.now ib.now t).rows (candidates_of t s.old) (solution_on s.old t)) }
 {
     let pushed = transpose(s, ia, ib, t, SOLUTION);
     if !done(pushed) {

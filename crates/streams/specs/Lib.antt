@@ -1,2 +1,2 @@
--- Definitions that a reader must believe: Receive, what a reading of a descriptor answers.
+-- Definitions that a reader must believe: Receive, what a reading of an input answers.
 pub mod Receive

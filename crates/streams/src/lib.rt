@@ -24,8 +24,8 @@ struct Read {
 }
 
 // How many bytes came in all, what the last read met, and that read's answer, which says so: how many bytes it brought, or −1
-// where it failed. Where it met neither failure nor the end, the buffer is full. That `answer` is what the read answered, no
-// contract can say: nothing names it afterwards.
+// where it failed. Where it met neither failure nor the end, the buffer is full. That `answer` is what the read answered, the
+// contract does not say: it names nothing of a read that is over.
 #[derive(Clone, Copy)]
 pub struct Received {
     pub count: usize,

@@ -108,7 +108,8 @@ module _ (m : Mat3) {b : Bool} (eb : b ≡ finite_mat m) where
             ∙ cond_no _ _ not-zero
             ∙ cond_no _ _ finite
 
-        pub factor-done : f ≡ true → {p : Mat3} → p ≡ mat_of (transposed l) → record { outcome = Done; factor = record { lower = p; scale = s } } ≡ factor_spd_of m
+        pub factor-done : f ≡ true → {p : Mat3} → p ≡ mat_of (transposed l)
+            → record { outcome = Done; factor = record { lower = p; scale = s } } ≡ factor_spd_of m
         factor-done h ep =
             ap (λ (p : Mat3). record { outcome = Done; factor = record { lower = p; scale = s } }) ep
             ∙ sym (ap (λ (b : Bool). factored_with s (ran_of b l)) h) ∙ whole

@@ -37,7 +37,7 @@ struct Cholesky3 {
     pub scale: f64,
 }
 
-// An enum holds no array, so the outcome stands beside the value, which is zero unless the outcome is `Done`.
+// The outcome stands beside the value, which is zero unless the outcome is `Done`.
 #[derive(Clone, Copy)]
 struct Factored {
     pub outcome: CholeskyOutcome,

@@ -29,7 +29,7 @@ pub enum OptionQuat {
     None,
 }
 
-// An enum holds no array, so the flag stands beside the matrix, which is zero where there is none.
+// The flag stands beside the matrix, which is zero where there is none.
 #[derive(Drop)]
 pub struct OptionMat3 {
     pub some: bool,

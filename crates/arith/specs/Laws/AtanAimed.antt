@@ -1,4 +1,5 @@
--- `angle_of` at finite x and y of any size and sign, not both 0: the point over its larger magnitude is `Seen` under the angle. Magnitudes and signs of doubles.
+-- `angle_of` at finite x and y of any size and sign, not both 0: the point over its larger magnitude is `Seen` under the angle.
+-- Magnitudes and signs of doubles.
 use Rattle.std.specs.Prelude.{◌≡◌, refl, [], ◌∷◌, Bool, true, false, not, cond, ◌&&◌, ℕ, ◌*◌, ◌^◌, T, eqb, Float}
 use Rattle.std.proofs.Common.{sym, ap, ◌∙◌, subst, arith, lit≤, T_not}
 use mathlib.Core.Quot.{sound}

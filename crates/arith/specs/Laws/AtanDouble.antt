@@ -86,7 +86,8 @@ tangent_e : Rx
 tangent_e = rv 0 ⊖ rv 3 ⊗ rv 1 ⊕ (rv 2 ⊗ rv 2 ⊗ rv 6 ⊕ nat 2 ⊗ rv 5 ⊗ rv 2 ⊕ nat 2 ⊗ rv 3 ⊗ rv 4 ⊗ rv 2 ⊗ rv 5 ⊕ rv 3 ⊗ rv 5 ⊗ rv 5)
 
 tangent-parts : (s c s₂ c₂ q p : ℚ)
-    → ev_r ((s₂ -q qn 2 *q (s *q c)) ∷ (c₂ -q (c *q c -q s *q s)) ∷ c ∷ q ∷ p ∷ (s -q p *q c) ∷ (qn 2 *q p +q q *q (p *q p) -q q) ∷ []) tangent_e ≡ s₂ -q q *q c₂
+    → ev_r ((s₂ -q qn 2 *q (s *q c)) ∷ (c₂ -q (c *q c -q s *q s)) ∷ c ∷ q ∷ p ∷ (s -q p *q c) ∷ (qn 2 *q p +q q *q (p *q p) -q q) ∷ []) tangent_e
+    ≡ s₂ -q q *q c₂
 unfolding same_q tangent_e
 tangent-parts s c s₂ c₂ q p =
     let S = rv 0 in let C = rv 1 in let S₂ = rv 2 in let C₂ = rv 3 in let Q = rv 4 in let P = rv 5 in

@@ -75,7 +75,8 @@ quarter-cosine v h =
 half-sine : (v : ℚ) → Abs v w_top → Abs (sine_sum41 (mk pi -q v) -q sine_sum41 v) (2 ^ 207)
 unfolding half_s
 half-sine v h =
-    abs-eq (ev_r (v ∷ []) half_s) (sine_sum41 (mk pi -q v) -q sine_sum41 v) (2 ^ 207) (ap₂ ◌-q◌ (sine_x-ok (v ∷ []) (rat pi ⊖ rv 0)) (sine_x-ok (v ∷ []) (rv 0)))
+    abs-eq (ev_r (v ∷ []) half_s) (sine_sum41 (mk pi -q v) -q sine_sum41 v) (2 ^ 207)
+    (ap₂ ◌-q◌ (sine_x-ok (v ∷ []) (rat pi ⊖ rv 0)) (sine_x-ok (v ∷ []) (rv 0)))
     (bounded half_s w_top (2 ^ 207) v (both (leb (bnd_r v w_top half_s) (2 ^ 207)) (leb (bnd_r v w_top half_c) (2 ^ 207)) (half-tests v)).0 h)
 
 half-cosine : (v : ℚ) → Abs v w_top → Abs (cosine_sum42 (mk pi -q v) +q cosine_sum42 v) (2 ^ 207)

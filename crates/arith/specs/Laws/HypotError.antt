@@ -324,7 +324,8 @@ module _ (x y : Float) (f : T (fits binary64 x)) (g : T (fits binary64 y)) (p : 
   pub hypot-within : (A N : ℕ) → T (hyp-fits A N) → Abs (val x) A → Abs (val y) A → Hyp N x y (hypot_of x y)
   hypot-within A N k a b =
       subst (Hyp N x y) (sym (hypot-is x y p q))
-      (go (lt (abs_of x) (abs_of y)) (lt_yes (abs_of x) (abs_of y) (abs-finite x p) (abs-finite y q)) (lt_no (abs_of x) (abs_of y) (abs-finite x p) (abs-finite y q)))
+      (go (lt (abs_of x) (abs_of y)) (lt_yes (abs_of x) (abs_of y) (abs-finite x p) (abs-finite y q))
+      (lt_no (abs_of x) (abs_of y) (abs-finite x p) (abs-finite y q)))
     where
       go : (b : Bool) → (b ≡ true → val (abs_of x) ≤q val (abs_of y)) → (b ≡ false → val (abs_of y) ≤q val (abs_of x))
           → Hyp N x y (cond b (scaled_root (abs_of y) (abs_of x)) (scaled_root (abs_of x) (abs_of y)))

@@ -1,6 +1,8 @@
 -- Between a float, its number of units 2 ^ -1074 and its bits.
 use Rattle.std.specs.Prelude.{◌≡◌, refl, Bool, false, cond, ℕ, zero, suc, ◌+◌, ◌-◌, ◌*◌, ◌/◌, ◌%◌, ◌^◌, ◌≤◌, ◌<◌, T, leb, ltb, eqb, Float}
-use Rattle.std.proofs.Common.{sym, ap, ◌∙◌, subst, le_trans, le_of_eq, lt_of_lt_of_le, lt_of_le_of_lt, le_antisymm, lt_of_not-le, not-le_of_lt, mul_assoc, mul_comm, mul-div_cancel, mul-le-mul_right, mod-eq_of_lt, zero-add, add_comm, mul-one, mul-pos, arith, leb→le, eqb→eq, lt→ltb, lit≤, pow-add, pow_pos, pow_mono, shl_lt, shl_exact}
+use Rattle.std.proofs.Common.{sym, ap, ◌∙◌, subst, le_trans, le_of_eq, lt_of_lt_of_le, lt_of_le_of_lt, le_antisymm, lt_of_not-le, not-le_of_lt, mul_assoc}
+use Rattle.std.proofs.Common.{mul_comm, mul-div_cancel, mul-le-mul_right, mod-eq_of_lt, zero-add, add_comm, mul-one, mul-pos, arith, leb→le, eqb→eq, lt→ltb}
+use Rattle.std.proofs.Common.{lit≤, pow-add, pow_pos, pow_mono, shl_lt, shl_exact}
 use Rattle.std.proofs.Math.Nat.{pow-succ'}
 use Rattle.std.proofs.Math.Dec.{not_T}
 use Rattle.std.specs.Int.Count.{count_leading_zeros}

@@ -1,7 +1,8 @@
 -- What callers use of `sqrt`: for 1/4 ≤ x < 4 the root r is finite, not below 0, and (r - u)² ≤ x ≤ (r + u)²
 -- with u = 2 ^ -53 (`root_ok`; `Root` is in the crate `exact`). From the definition, by `root-units`.
 use Rattle.std.specs.Prelude.{◌≡◌, List, [], ◌∷◌, false, ℕ, suc, ◌+◌, ◌*◌, ◌^◌, ◌≤◌, ◌<◌, T, Float}
-use Rattle.std.proofs.Common.{sym, subst, subst₂, le_trans, le_of_eq, lt_of_le_of_lt, lt_of_not-le, not-le_of_lt, mul-le-mul, mul-le-mul_right, mul-lt-mul_of_pos_right, le_of_suc-le-suc, arith, pow_pos, pow_mono, lit<, lit≤}
+use Rattle.std.proofs.Common.{sym, subst, subst₂, le_trans, le_of_eq, lt_of_le_of_lt, lt_of_not-le, not-le_of_lt, mul-le-mul, mul-le-mul_right}
+use Rattle.std.proofs.Common.{mul-lt-mul_of_pos_right, le_of_suc-le-suc, arith, pow_pos, pow_mono, lit<, lit≤}
 use mathlib.Core.Quot.{sound}
 use Rattle.std.proofs.Math.Dec.{nleb→lt}
 use Rattle.std.specs.Float.{binary64}

@@ -1,7 +1,9 @@
 -- What `root`, `round_root` and `sqrt` of `specs/Root.antt` give. `root_is`: root n is the largest r with r * r ≤ n.
 -- `round-at`: for an n of 105 or 106 digits whose root is nearest to q, `round_root` of n * 4 ^ k is q * 2 ^ k units.
 use Rattle.std.specs.Prelude.{◌≡◌, Bool, true, false, not, cond, T, leb, Float}
-use Rattle.std.proofs.Common.{sym, ap, ◌∙◌, subst, le_trans, le_of_eq, le_of_suc-le-suc, lt_of_le_of_lt, lt_of_lt_of_le, lt_of_not-le, not-le_of_lt, le_antisymm, zero-mul, lt_irrefl, mul_assoc, mul-pos, mul-le-mul_right, mul-lt-mul_of_pos_right, mul-div_cancel, lt_of_mul-lt-mul_right, suc-add, arith, leb→le, pow-add, pow_pos, pow_mono}
+use Rattle.std.proofs.Common.{sym, ap, ◌∙◌, subst, le_trans, le_of_eq, le_of_suc-le-suc, lt_of_le_of_lt, lt_of_lt_of_le, lt_of_not-le, not-le_of_lt}
+use Rattle.std.proofs.Common.{le_antisymm, zero-mul, lt_irrefl, mul_assoc, mul-pos, mul-le-mul_right, mul-lt-mul_of_pos_right, mul-div_cancel}
+use Rattle.std.proofs.Common.{lt_of_mul-lt-mul_right, suc-add, arith, leb→le, pow-add, pow_pos, pow_mono}
 use Prim.Native.Nat.{ℕ, zero, suc, ◌+◌, ◌-◌, ◌*◌, ◌/◌, ◌^◌, ◌≤◌, ◌<◌, compare, Ordering}
 use Rattle.std.proofs.Math.Nat.{mul-mul-mul_comm, eq_of_mul-eq-mul_right, le_dest}
 use Rattle.std.proofs.Math.Dec.{nleb→lt}

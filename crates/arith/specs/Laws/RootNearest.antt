@@ -4,7 +4,9 @@
 -- the root is above the middle; where z is above r, below it. So there is no tie.
 -- (A z below 0 is farther from the root than 0 is, which is representable.) And r is itself finite and representable.
 use Rattle.std.specs.Prelude.{◌≡◌, refl, ◌⊎◌, true, false, ℕ, zero, suc, ◌+◌, ◌-◌, ◌*◌, ◌^◌, ◌≤◌, ◌<◌, T, Float}
-use Rattle.std.proofs.Common.{sym, ap, ap₂, ◌∙◌, subst, subst₂, inl, inr, lt_of_lt_of_le, lt_of_le_of_lt, not-le_of_lt, mul-pos, mul-le-mul, mul-le-mul_left, mul-le-mul_right, mul-lt-mul_of_pos_right, le_of_lt, eq-or-lt_of_le, zero-lt-suc, zero-mul, lt_irrefl, arith, pow_pos, lt→ltb, lit≤}
+use Rattle.std.proofs.Common.{sym, ap, ap₂, ◌∙◌, subst, subst₂, inl, inr, lt_of_lt_of_le, lt_of_le_of_lt, not-le_of_lt, mul-pos, mul-le-mul, mul-le-mul_left}
+use Rattle.std.proofs.Common.{mul-le-mul_right, mul-lt-mul_of_pos_right, le_of_lt, eq-or-lt_of_le, zero-lt-suc, zero-mul, lt_irrefl, arith, pow_pos, lt→ltb}
+use Rattle.std.proofs.Common.{lit≤}
 use Rattle.std.proofs.Math.Dec.{nleb→lt}
 use Rattle.std.specs.Float.{nan, inf, fin, binary64}
 use Rattle.std.specs.Float.Ieee.{up, down, fits}

@@ -1,7 +1,9 @@
 -- A double that is finite and above 0, in units of 2 ^ -1074, and its root: `root-units`. With v = n * 4 ^ k
 -- the value in units of the square 2 ^ -2148, for an n of 105 or 106 digits, `sqrt` is q * 2 ^ k units, q the whole number nearest to the root of n.
 use Rattle.std.specs.Prelude.{◌≡◌, refl, Bool, true, false, ◌&&◌, ℕ, zero, suc, ◌+◌, ◌-◌, ◌*◌, ◌/◌, ◌%◌, ◌^◌, ◌≤◌, ◌<◌, ℤ, pos, negsuc, T, eqb, leb, ltb, Float}
-use Rattle.std.proofs.Common.{sym, ap, ◌∙◌, subst, le_trans, le_of_eq, lt_of_lt_of_le, lt_of_le_of_lt, mul_assoc, mul_left_comm, mul-le-mul_right, mul-pos, mul-le-mul_left, mul-one, one-mul, lt_of_not-le, not-le_of_lt, lt_irrefl, zero-mul, zero-lt-suc, le_of_suc-le-suc, arith, leb→le, ltb→lt, lit≤, pow-add, pow_pos, pow_mono, shl_lt}
+use Rattle.std.proofs.Common.{sym, ap, ◌∙◌, subst, le_trans, le_of_eq, lt_of_lt_of_le, lt_of_le_of_lt, mul_assoc, mul_left_comm, mul-le-mul_right, mul-pos}
+use Rattle.std.proofs.Common.{mul-le-mul_left, mul-one, one-mul, lt_of_not-le, not-le_of_lt, lt_irrefl, zero-mul, zero-lt-suc, le_of_suc-le-suc, arith, leb→le}
+use Rattle.std.proofs.Common.{ltb→lt, lit≤, pow-add, pow_pos, pow_mono, shl_lt}
 use Rattle.std.proofs.Math.Nat.{pow-succ'}
 use Rattle.std.proofs.Math.Decide.{ℕ_discrete}
 use Rattle.std.proofs.Math.Pow.{pow-lt}

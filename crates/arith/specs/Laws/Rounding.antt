@@ -3,7 +3,8 @@
 -- negated factor is a difference (`add-neg-mul`); a product of fractions (`mul-values`).
 use Rattle.std.specs.Prelude.{◌≡◌, Bool, true, false, not, ◌&&◌, cond, ℤ, pos, negsuc, T, leb, ltb, eqb, Float}
 use Rattle.std.proofs.Math.Path.{refl}
-use Rattle.std.proofs.Common.{sym, ap, ◌∙◌, subst, lt_of_not-le, not-le_of_lt, le_of_suc-le-suc, zero-mul, mul-one, mul_comm, mul_assoc, mul_right_comm, mul-pos, mul-lt-mul_of_pos_right, lt_of_mul-lt-mul_right, arith, leb→le, ltb→lt, pow-add, pow_pos}
+use Rattle.std.proofs.Common.{sym, ap, ◌∙◌, subst, lt_of_not-le, not-le_of_lt, le_of_suc-le-suc, zero-mul, mul-one, mul_comm, mul_assoc, mul_right_comm}
+use Rattle.std.proofs.Common.{mul-pos, mul-lt-mul_of_pos_right, lt_of_mul-lt-mul_right, arith, leb→le, ltb→lt, pow-add, pow_pos}
 use Prim.Native.Nat.{ℕ, zero, suc, ◌+◌, ◌-◌, ◌*◌, ◌/◌, ◌%◌, ◌^◌, ◌≤◌, ◌<◌, compare}
 use Rattle.std.proofs.Math.Nat.{mul-mul-mul_comm}
 use Rattle.std.proofs.Math.Pow.{pow-lt}

@@ -278,7 +278,8 @@ stops h a b (suc j) k e x r = go (le x (ratio 1 2)) refl (stops h a b j (suc k) 
     m : k ≤ 3
     m = omega arith
 
-    go : (b : Bool) → le x (ratio 1 2) ≡ b → Stops h (suc k) (halved_of j (x · ratio 1 2)) → Stops h k (cond b (sums_at x) (doubled (halved_of j (x · ratio 1 2))))
+    go : (b : Bool) → le x (ratio 1 2) ≡ b → Stops h (suc k) (halved_of j (x · ratio 1 2))
+        → Stops h k (cond b (sums_at x) (doubled (halved_of j (x · ratio 1 2))))
     go true t s = stops-here h x k m (X-tested h x k m a r t) r
     go false t s = stops-later h (halved_of j (x · ratio 1 2)) k s
 

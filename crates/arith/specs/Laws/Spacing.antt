@@ -1,7 +1,8 @@
 -- How the doubles are spaced: in whole numbers of units 2 ^ -1074, between q * 2 ^ k and (q + 1) * 2 ^ k there is
 -- none, for a q of 53 digits at least. And a double that is not below 0, as a fraction over 2 ^ 1074.
 use Rattle.std.specs.Prelude.{◌≡◌, Bool, true, false, ℕ, suc, ◌+◌, ◌-◌, ◌*◌, ◌^◌, ◌≤◌, ◌<◌, T, Float}
-use Rattle.std.proofs.Common.{sym, ap, ◌∙◌, subst, le_trans, le_of_eq, lt_of_lt_of_le, lt_of_le_of_lt, lt_of_not-le, not-le_of_lt, mul_assoc, mul-le-mul_right, mul-lt-mul_of_pos_right, lt_of_mul-lt-mul_right, le_of_suc-le-suc, arith, pow-add, pow_pos, pow_mono}
+use Rattle.std.proofs.Common.{sym, ap, ◌∙◌, subst, le_trans, le_of_eq, lt_of_lt_of_le, lt_of_le_of_lt, lt_of_not-le, not-le_of_lt, mul_assoc, mul-le-mul_right}
+use Rattle.std.proofs.Common.{mul-lt-mul_of_pos_right, lt_of_mul-lt-mul_right, le_of_suc-le-suc, arith, pow-add, pow_pos, pow_mono}
 use mathlib.Core.Quot.{sound}
 use Rattle.std.proofs.Math.Decide.{dec_le}
 use Rattle.std.proofs.Math.Dec.{nleb→lt}

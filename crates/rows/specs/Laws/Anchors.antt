@@ -99,7 +99,8 @@ lost : (i x y z w a b c d e f l m n : ℚ) → Abs i i_max → Abs x g_max → A
 unfolding same_q bounds
 lost i x y z w a b c d e f l m n hi hx hy hz hw p q r =
     let I = rv 0 in let X = rv 1 in let Y = rv 2 in let Z = rv 3 in let W = rv 4 in
-    abs-eq (turn_by i x y z w (a +q d -q l) (b +q e -q m) (c +q f -q n)) (turn_by i x y z w a b c +q turn_by i x y z w d e f -q turn_by i x y z w l m n) (2 ^ 214)
+    abs-eq (turn_by i x y z w (a +q d -q l) (b +q e -q m) (c +q f -q n)) (turn_by i x y z w a b c +q turn_by i x y z w d e f -q turn_by i x y z w l m n)
+    (2 ^ 214)
     (ring_q (i ∷ x ∷ y ∷ z ∷ w ∷ a ∷ b ∷ c ∷ d ∷ e ∷ f ∷ l ∷ m ∷ n ∷ [])
     (turn_r I X Y Z W (rv 5 ⊕ rv 8 ⊖ rv 11) (rv 6 ⊕ rv 9 ⊖ rv 12) (rv 7 ⊕ rv 10 ⊖ rv 13))
     (turn_r I X Y Z W (rv 5) (rv 6) (rv 7) ⊕ turn_r I X Y Z W (rv 8) (rv 9) (rv 10) ⊖ turn_r I X Y Z W (rv 11) (rv 12) (rv 13)) tt)

@@ -35,8 +35,16 @@ under s q k = go (ltb (q * 2 ^ k) (2 ^ 2098)) (ltb→lt (q * 2 ^ k) (2 ^ 2098))
 
 into : (s : Bool) (a c : ℕ) (C : 0 < c) (M : ℕ) → a * U ≤ M * c → Abs (sg s a c C) M
 unfolding iv ◌+q◌ negq
-into false a c C M h = (≤-mk (whole 0 0) (add_f (iv_f M) (neg_f (sg_f false a c C))) (omega arith), ≤-mk (whole 0 0) (add_f (iv_f M) (sg_f false a c C)) (omega arith))
-into true a c C M h = (≤-mk (whole 0 0) (add_f (iv_f M) (neg_f (sg_f true a c C))) (omega arith), ≤-mk (whole 0 0) (add_f (iv_f M) (sg_f true a c C)) (omega arith))
+into false a c C M h = (
+  ≤-mk (whole 0 0) (add_f (iv_f M) (neg_f (sg_f false a c C))) (omega arith),
+  ≤-mk (whole 0 0) (add_f (iv_f M) (sg_f false a c C))
+      (omega arith),
+)
+into true a c C M h = (
+  ≤-mk (whole 0 0) (add_f (iv_f M) (neg_f (sg_f true a c C))) (omega arith),
+  ≤-mk (whole 0 0) (add_f (iv_f M) (sg_f true a c C))
+      (omega arith),
+)
 
 pub round-back : (s : Bool) (num den : ℕ) (D : 0 < den) (M : ℕ) → T (finite (round binary64 s num den))
     → Abs (val (round binary64 s num den)) M → Abs (sg s num den D) (2 * M + 1)

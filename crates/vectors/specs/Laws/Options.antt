@@ -11,7 +11,8 @@ use Rattle.vectors.specs.declared.quaternion.Quat.{Quat}
 use Rattle.vectors.specs.declared.quaternion.OptionQuat.{OptionQuat}
 use Rattle.vectors.specs.declared.quaternion.OptionQuat.TheVariants.{Some, None}
 use Rattle.vectors.specs.Vector.{finite_of, length_of, normalize_by, checked_length_of}
-use Rattle.vectors.specs.Quaternion.{quat_finite_of, quat_largest_of, quat_div_of, quat_length_of, quat_try_normalize_of, turned_of, rotated_by, rotate_vector_of}
+use Rattle.vectors.specs.Quaternion.{quat_finite_of, quat_largest_of, quat_div_of, quat_length_of, quat_try_normalize_of, turned_of, rotated_by}
+use Rattle.vectors.specs.Quaternion.{rotate_vector_of}
 
 -- `cond b none x` is not the answer none
 pub past : {O : Type 0} (b : Bool) (none x y : O) → (none ≡ y → ⊥) → cond b none x ≡ y → T (not b) × (x ≡ y)

@@ -49,7 +49,8 @@ loop-again c = (
 )
 
 -- the shares when all rows are in, with what the last test found of them
-summed : {y : Result (List Generalized)} (c : tie.After-loop-k invariant-loop decreases-loop) → let s = c.args.s.now in let t = c.args.t in y ≡ checked (shares_in c.loop-k.s t.bodies)
+summed : {y : Result (List Generalized)} (c : tie.After-loop-k invariant-loop decreases-loop)
+    → let s = c.args.s.now in let t = c.args.t in y ≡ checked (shares_in c.loop-k.s t.bodies)
     → Does Shares s c.loop-k.s y (transpose_of (rows_on c.args.ia.now c.args.ib.now s t.place t.rows)
     (vec_at s c.args.values t.rows) t.bodies)
 summed c e =

@@ -54,7 +54,8 @@ walk_spec =
     invariant-loop decreases-loop (λ c. (omega arith, walk_none c.requires.0 c.requires.1 c.requires.2)) (λ c. omega arith)
     (λ c κs. search rules) returns (λ c. omega arith) (λ c. omega arith) (λ c. omega arith) (λ c. omega arith)
     (λ c. omega arith) (λ c. omega arith) append-requires (λ c. omega (arith, row-there c.requires.0.blocked c.loop-k.invariant.1.here))
-    (λ c. omega (arith, row-there c.requires.0.blocked c.loop-k.invariant.1.here)) neighbor-requires (λ c. omega (arith, row-there c.requires.0.blocked c.loop-k.invariant.1.here))
+    (λ c. omega (arith, row-there c.requires.0.blocked c.loop-k.invariant.1.here)) neighbor-requires
+    (λ c. omega (arith, row-there c.requires.0.blocked c.loop-k.invariant.1.here))
     (λ c. omega (arith, row-there c.requires.0.blocked c.loop-k.invariant.1.here)) neighbor-requires-2 (λ c κs. search rules)
     (λ c κs. search rules) returns-2 (λ c. omega arith) (λ c. omega arith) loop-again (λ c κs. search rules)
     returns-3)
