@@ -1,4 +1,4 @@
--- Laws of `lib.Ieee`'s `rem`, at any format: the remainder of whole numbers of units (`rem-units`), of a smaller magnitude
+-- Laws of `Rattle.std.specs.Float.Ieee`'s `rem`, at any format: the remainder of whole numbers of units (`rem-units`), of a smaller magnitude
 -- (`rem-small`) and of the value with the other sign (`rem-neg`).
 use mathlib.Core.Path.{◌≡◌, refl, sym, ap, ◌∙◌, subst}
 use mathlib.Core.Bool.{Bool, true, false, cond}

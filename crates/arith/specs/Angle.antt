@@ -53,8 +53,8 @@ half_tangent q = q ⊘ (ratio 1 1 ⊕ sqrt binary64 (ratio 1 1 ⊕ q ⊗ q))
 
 unfoldable pub arc_sum : Float → Float  -- q - q³/3 + .. - q²³/23: Horner in q², then times q
 arc_sum q =
-    horner (q ⊗ q) (neg_part 23) (part 21 ∷ neg_part 19 ∷ part 17 ∷ neg_part 15 ∷ part 13 ∷ neg_part 11 ∷ part 9 ∷ neg_part 7 ∷ part 5 ∷ neg_part 3 ∷ part
-    1 ∷ []) ⊗ q
+    horner (q ⊗ q) (neg_part 23)
+    (part 21 ∷ neg_part 19 ∷ part 17 ∷ neg_part 15 ∷ part 13 ∷ neg_part 11 ∷ part 9 ∷ neg_part 7 ∷ part 5 ∷ neg_part 3 ∷ part 1 ∷ []) ⊗ q
 
 unfoldable pub octant : Float → Float  -- the angle whose tangent is q, at most 1
 octant q = arc_sum (half_tangent (half_tangent q)) ⊗ ratio 4 1

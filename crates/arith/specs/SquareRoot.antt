@@ -1,4 +1,4 @@
--- IEEE 754's square_root of a double, in exact fractions: what `root::sqrt` promises of its result, for every argument. It
+-- IEEE 754's square root of a double, in exact fractions: what `root::sqrt` promises of its result, for every argument. It
 -- determines the result (Laws/SquareRoot.antt `square-root-unique`).
 use Rattle.std.specs.Prelude.{◌≡◌, true, false, T, Float}
 use Rattle.std.specs.Float.Ieee as Ieee

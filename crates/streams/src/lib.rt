@@ -1,5 +1,5 @@
-// Reading an input until it ends, with a failed read told from the end of the input, and a line on standard error where
-// something could not be done.
+// Reading an input until it ends, with a failed read told from the end of the input, and a line, on standard error in the
+// programs, where something could not be done.
 #![tactic(auto)]
 
 ghost use Rattle.std.specs.Prelude.{◌+◌, ◌≤◌, ◌<◌, ◌≡◌, ◌^◌, IfOk, length, replicate};
@@ -156,7 +156,7 @@ fn least(a: usize, b: usize) -> usize
     if a < b { a } else { b }
 }
 
-// A line on standard error. Where that fails too, nothing is left to be done.
+// A line to `to`, which is standard error in the programs. Where that fails too, nothing is left to be done.
 pub fn complain<W: io::Write>(to: &mut W, line: &[u8]) {
     match to.write_all(line) {
         _ => {}

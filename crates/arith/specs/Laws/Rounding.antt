@@ -1,4 +1,4 @@
--- Laws of `lib.Ieee`'s `round` and `mul`, at any format: a value that the format holds is told by its sign and its fraction
+-- Laws of `Rattle.std.specs.Float.Ieee`'s `round` and `mul`, at any format: a value that the format holds is told by its sign and its fraction
 -- (`value-unique`) and is its own rounding (`round-self`); the sign goes through (`round-neg`), so that a sum with a
 -- negated factor is a difference (`add-neg-mul`); a product of fractions (`mul-values`).
 use Rattle.std.specs.Prelude.{◌≡◌, Bool, true, false, not, ◌&&◌, cond, ℤ, pos, negsuc, T, leb, ltb, eqb, Float}
