@@ -1,4 +1,4 @@
--- The square root by its digits, in the manner of `Rattle.std.specs.Float.Ieee`. That `sqrt binary64` is IEEE 754's square root is proved (Laws/SquareRoot.antt).
+-- The square root by its digits, in the manner of the toolchain's `Float.Ieee`. That `sqrt binary64` is IEEE 754's is proved (Laws/SquareRoot.antt).
 -- `root n` is the largest r with r * r ≤ n. `sqrt f x` is the value of the format f that is nearest to the square root of x, a tie to the
 -- even one: NaN and what is below zero give `nan`, and ±0 and +infinity give themselves.
 use Rattle.std.specs.Prelude.{ℕ, zero, suc, ◌+◌, ◌-◌, ◌*◌, ◌/◌, ◌^◌, false, cond, leb, Float}
