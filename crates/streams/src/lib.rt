@@ -156,7 +156,8 @@ fn least(a: usize, b: usize) -> usize
     if a < b { a } else { b }
 }
 
-// A line to `to`, which is standard error in the programs. Where that fails too, nothing is left to be done.
+// A line to `to`, which is standard error in the programs. Where that fails too, nothing is left to be done, so no promise is
+// made of what `to` then holds.
 pub fn complain<W: io::Write>(to: &mut W, line: &[u8]) {
     match to.write_all(line) {
         _ => {}

@@ -19,8 +19,7 @@ put-bodies-requires c κs =
 
 returns-3 : tie.Need-returns-then-number-eq0
 returns-3 c =
-    let at_entry = c.before.before.before.before.before.before.before.before.before.before.before.before.before in
-    report-bodies _ _ _ _ _ (omega (arith, at_entry)) c.if-number-eq0.true c.put_head-next.ensures c.put_bodies.ensures
+    report-bodies _ _ _ _ _ (omega arith) c.if-number-eq0.true c.put_head-next.ensures c.put_bodies.ensures
 
 returns-4 : tie.Need-returns
 returns-4 c =

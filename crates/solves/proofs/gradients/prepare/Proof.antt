@@ -31,25 +31,24 @@ loop-holds c =
 
 load-mass-requires : tie.Need-load_mass-ma-requires invariant-loop decreases-loop
 load-mass-requires c κs =
-    let at-load-row = c in omega (arith, on-a c.requires c.loop-k-test.true c.loop-k.s at-load-row.load_row-row.ensures)
+    omega (arith, on-a c.requires c.loop-k-test.true c.loop-k.s c.load_row-row.ensures)
 
 load-mass-requires-2 : tie.Need-load_mass-mb-requires invariant-loop decreases-loop
 load-mass-requires-2 c κs =
-    let at-load-row = c.before in omega
-    (arith, on-b c.requires c.loop-k-test.true c.loop-k.s at-load-row.load_row-row.ensures)
+    omega
+    (arith, on-b c.requires c.loop-k-test.true c.loop-k.s c.load_row-row.ensures)
 
 returns : tie.Need-returns-then-not-is_finite invariant-loop decreases-loop
 returns c =
-    let at-load-row = c.before.before.before.before.before in
     prepared-wild c.requires _ c.loop-k.invariant.2 c.loop-k-test.true c.loop-k.invariant.1
-    at-load-row.load_row-row.ensures
+    c.load_row-row.ensures
     c.load_mass-ma.ensures c.load_mass-mb.ensures c.diagonal_entry-d.ensures
     c.is_finite.ensures zero_is c.if-not-is_finite.true
 
 returns-2 : tie.Need-returns-then-d invariant-loop decreases-loop
 returns-2 c =
-    let at-load-row = c.before.before.before.before.before.before in prepared-small c.requires _ c.loop-k.invariant.2 c.loop-k-test.true c.loop-k.invariant.1
-    at-load-row.load_row-row.ensures
+    prepared-small c.requires _ c.loop-k.invariant.2 c.loop-k-test.true c.loop-k.invariant.1
+    c.load_row-row.ensures
     c.load_mass-ma.ensures c.load_mass-mb.ensures c.diagonal_entry-d.ensures
     c.is_finite.ensures zero_is c.if-not-is_finite.false c.if-d.true
 
@@ -58,15 +57,14 @@ slice-write-s-2 c =
     simp length-set (omega (arith, c.requires.whole, c.requires.most, c.loop-k.invariant.1, c.loop-k-test.true))
 
 loop-again : tie.Need-loop-k-preserved invariant-loop decreases-loop
-loop-again c =
-    let at-load-row = c.before.before.before.before.before.before.before in (
-      omega (arith, c.loop-k-test.true),
-      simp length-set c.loop-k.invariant.1,
-      prepared_again c.requires _ c.loop-k.invariant.2 c.loop-k-test.true c.loop-k.invariant.1
-          at-load-row.load_row-row.ensures
-          c.load_mass-ma.ensures c.load_mass-mb.ensures c.diagonal_entry-d.ensures
-          c.is_finite.ensures zero_is c.if-not-is_finite.false c.if-d.false,
-    )
+loop-again c = (
+  omega (arith, c.loop-k-test.true),
+  simp length-set c.loop-k.invariant.1,
+  prepared_again c.requires _ c.loop-k.invariant.2 c.loop-k-test.true c.loop-k.invariant.1
+      c.load_row-row.ensures
+      c.load_mass-ma.ensures c.load_mass-mb.ensures c.diagonal_entry-d.ensures
+      c.is_finite.ensures zero_is c.if-not-is_finite.false c.if-d.false,
+)
 
 returns-3 : tie.Need-returns invariant-loop decreases-loop
 returns-3 c =

@@ -50,41 +50,39 @@ add-n c =
 
 returns : tie.Need-returns-in-NonConvergent invariant-loop decreases-loop
 returns c =
-    let at-load-moved = c.before.before.before.before.before.before in λ body-count J ia ib S. wrote-nonconvergent _ _ c.args.moved _ _ body-count J ia ib
+    λ body-count J ia ib S. wrote-nonconvergent _ _ c.args.moved _ _ body-count J ia ib
     S c.loop-k.k _ _ (c.loop-k.invariant.4 body-count J ia ib S) c.loop-k-test.true (omega arith) c.requires.1
-    c.loop-k.invariant.3 at-load-moved.load_moved-a.ensures c.load_moved-b.ensures _
+    c.loop-k.invariant.3 c.load_moved-a.ensures c.load_moved-b.ensures _
     c.write_equality_rows.ensures c.in-NonConvergent.is
 
 returns-2 : tie.Need-returns-in-ArithmeticOverflow invariant-loop decreases-loop
 returns-2 c =
-    let at-load-moved = c.before.before.before.before.before.before in λ body-count J ia ib S. wrote-overflow _ _ c.args.moved _ _ body-count J ia ib S
+    λ body-count J ia ib S. wrote-overflow _ _ c.args.moved _ _ body-count J ia ib S
     c.loop-k.k _ _ (c.loop-k.invariant.4 body-count J ia ib S) c.loop-k-test.true (omega arith) c.requires.1
-    c.loop-k.invariant.3 at-load-moved.load_moved-a.ensures c.load_moved-b.ensures _
+    c.loop-k.invariant.3 c.load_moved-a.ensures c.load_moved-b.ensures _
     c.write_equality_rows.ensures c.in-ArithmeticOverflow.is
 
 add-k : tie.Need-overflow_step-k invariant-loop decreases-loop
 add-k c =
-    let at_entry = c.before.before.before.before.before.before.before.before.before.before.before in
-    omega (arith, at_entry)
+    omega arith
 
 loop-again : tie.Need-loop-k-preserved invariant-loop decreases-loop
-loop-again c =
-    let at-load-moved = c.before.before.before.before.before.before in (
-      omega arith,
-      omega (
-        arith,
-        c.loop-k.invariant.1,
-        c.loop-k-test.true,
-        c.requires.2.few,
-        written-most c.write_equality_rows.ensures _ c.in-Rows.is,
-      ),
-      omega arith,
-      search wrote-rows,
-      λ body-count J ia ib S. wrote-again _ _ c.args.moved _ _ body-count J ia ib S
-          c.loop-k.k _ _ (c.loop-k.invariant.4 body-count J ia ib S) c.loop-k-test.true (omega arith) c.requires.1
-          c.loop-k.invariant.3 at-load-moved.load_moved-a.ensures c.load_moved-b.ensures _
-          c.write_equality_rows.ensures c.in-Rows.is,
-    )
+loop-again c = (
+  omega arith,
+  omega (
+    arith,
+    c.loop-k.invariant.1,
+    c.loop-k-test.true,
+    c.requires.2.few,
+    written-most c.write_equality_rows.ensures _ c.in-Rows.is,
+  ),
+  omega arith,
+  search wrote-rows,
+  λ body-count J ia ib S. wrote-again _ _ c.args.moved _ _ body-count J ia ib S
+      c.loop-k.k _ _ (c.loop-k.invariant.4 body-count J ia ib S) c.loop-k-test.true (omega arith) c.requires.1
+      c.loop-k.invariant.3 c.load_moved-a.ensures c.load_moved-b.ensures _
+      c.write_equality_rows.ensures c.in-Rows.is,
+)
 
 pub write_rows_spec : {M : Type 1} → statement M
 write_rows_spec =

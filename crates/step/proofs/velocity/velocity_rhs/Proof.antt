@@ -27,71 +27,63 @@ loop-holds c = (
 )
 
 motion-again-requires : tie.Need-motion_again-a-requires invariant-loop decreases-loop
-motion-again-requires c κs =
-    let at-load-row = c in (
-      omega (arith, c.loop-k.invariant.1, c.requires.long),
-      omega (
-        arith,
-        row-a c.requires.ready c.loop-k-test.true c.loop-k.s at-load-row.load_row-row.ensures,
-        c.requires.ready.bodies,
-      ),
-      c.loop-k.invariant.3,
-    )
+motion-again-requires c κs = (
+  omega (arith, c.loop-k.invariant.1, c.requires.long),
+  omega (
+    arith,
+    row-a c.requires.ready c.loop-k-test.true c.loop-k.s c.load_row-row.ensures,
+    c.requires.ready.bodies,
+  ),
+  c.loop-k.invariant.3,
+)
 
 motion-again-requires-2 : tie.Need-motion_again-b-requires invariant-loop decreases-loop
-motion-again-requires-2 c κs =
-    let at-load-row = c.before in (
-      omega (arith, c.loop-k.invariant.1, c.requires.long),
-      omega (
-        arith,
-        row-b c.requires.ready c.loop-k-test.true c.loop-k.s at-load-row.load_row-row.ensures,
-        c.requires.ready.bodies,
-      ),
-      c.loop-k.invariant.4,
-    )
+motion-again-requires-2 c κs = (
+  omega (arith, c.loop-k.invariant.1, c.requires.long),
+  omega (
+    arith,
+    row-b c.requires.ready c.loop-k-test.true c.loop-k.s c.load_row-row.ensures,
+    c.requires.ready.bodies,
+  ),
+  c.loop-k.invariant.4,
+)
 
 returns : tie.Need-returns-in_default invariant-loop decreases-loop
 returns c =
-    let at-load-row = c.before.before.before.before in
-    rhs-stops c.requires.ready c.loop-k.invariant.2 c.loop-k-test.true at-load-row.load_row-row.ensures
+    rhs-stops c.requires.ready c.loop-k.invariant.2 c.loop-k-test.true c.load_row-row.ensures
     (sum_over
     (c.velocity.ensures _ _ c.motion_again-a.ensures.moves c.motion_again-b.ensures.moves)
     c.in_default.is)
 
 add-s : tie.Need-overflow_add-s invariant-loop decreases-loop
 add-s c =
-    let at_entry = c.before.before.before.before.before.before.before.before.before.before in
-    omega (arith, at_entry)
+    omega arith
 
 mul-s : tie.Need-offset_bounds-s-k invariant-loop decreases-loop
 mul-s c =
-    let at_entry = c.before.before.before.before.before.before.before.before.before.before in
-    omega (arith, at_entry)
+    omega arith
 
 slice-write-s : tie.Need-bounds-s-k invariant-loop decreases-loop
 slice-write-s c =
-    let at_entry = c.before.before.before.before.before.before.before.before.before.before in
-    omega (arith, at_entry)
+    omega arith
 
 add-k : tie.Need-overflow_step-k invariant-loop decreases-loop
 add-k c =
-    let at_entry = c.before.before.before.before.before.before.before.before.before.before in
-    omega (arith, at_entry)
+    omega arith
 
 loop-again : tie.Need-loop-k-preserved invariant-loop decreases-loop
-loop-again c =
-    let at-load-row = c.before.before.before.before in (
-      omega arith,
-      simp length-set c.loop-k.invariant.1,
-      rhs-again c.requires.ready c.loop-k.invariant.2 c.loop-k-test.true at-load-row.load_row-row.ensures
-          (sum-there
-          (c.velocity.ensures _ _ c.motion_again-a.ensures.moves c.motion_again-b.ensures.moves)
-          c.in-Value.is),
-      motion-remembered c.loop-k.k _ (omega arith)
-          c.motion_again-a.ensures,
-      motion-remembered c.loop-k.k _ (omega arith)
-          c.motion_again-b.ensures,
-    )
+loop-again c = (
+  omega arith,
+  simp length-set c.loop-k.invariant.1,
+  rhs-again c.requires.ready c.loop-k.invariant.2 c.loop-k-test.true c.load_row-row.ensures
+      (sum-there
+      (c.velocity.ensures _ _ c.motion_again-a.ensures.moves c.motion_again-b.ensures.moves)
+      c.in-Value.is),
+  motion-remembered c.loop-k.k _ (omega arith)
+      c.motion_again-a.ensures,
+  motion-remembered c.loop-k.k _ (omega arith)
+      c.motion_again-b.ensures,
+)
 
 returns-2 : tie.Need-returns invariant-loop decreases-loop
 returns-2 c =
