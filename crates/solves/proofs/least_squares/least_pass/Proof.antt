@@ -17,7 +17,10 @@ abbrev divided-of : tie.After-add_scaled-2 → tie.Else-denominator
 divided-of c = c.before.before.before.before.before.before
 
 abbrev went-of : tie.After-add_scaled-2 → tie.Else-not-done
-went-of c = (divided-of c).before.before.before
+went-of c =
+    let at-denominator = divided-of c in
+    let at-if-not-done = at-denominator.before.before.before in
+    at-if-not-done
 
 abbrev second-of : tie.After-operator-back → tie.After-add_scaled-2
 second-of c = c.before.before.before.before
@@ -93,25 +96,25 @@ dot-requires-2 c κs =
 
 returns-6 : tie.Need-returns-in_default-dot
 returns-6 c =
-    let at-operator2 = returned-of c.before.before in
+    let at-if-not-done2 = c.before.before in let at-operator2 = returned-of at-if-not-done2 in
     pass-unmeasured-again _ c.requires _ _ (advanced (second-of at-operator2))
     (went _ c.operator-back.result c.done-2.ensures c.operator-back.ensures c.if-not-done-2.false)
     (sum_over c.dot-2.ensures c.in_default-dot.is)
 
 add-scaled-requires-3 : tie.Need-add_scaled-requires-3
 add-scaled-requires-3 c κs =
-    let at-operator2 = returned-of c.before.before.before in
+    let at-if-not-done2 = c.before.before.before in let at-operator2 = returned-of at-if-not-done2 in
     let pre = c.requires in
     omega (arith, pre.whole, pre.most, size_back at-operator2)
 
 same-length-6 : tie.Need-shape_of-s
 same-length-6 c =
-    let at-operator2 = returned-of c.before.before.before.before.before.before in
+    let at-if-not-done2 = c.before.before.before.before.before.before in let at-operator2 = returned-of at-if-not-done2 in
     c.add_scaled-3.ensures.kept.size ∙ size_back at-operator2
 
 returns-7 : tie.Need-returns
 returns-7 c =
-    let at-operator2 = returned-of c.before.before.before.before.before.before in
+    let at-if-not-done2 = c.before.before.before.before.before.before in let at-operator2 = returned-of at-if-not-done2 in
     pass-next _ c.requires _ _ (advanced (second-of at-operator2))
     (went _ c.operator-back.result c.done-2.ensures c.operator-back.ensures c.if-not-done-2.false)
     (sum-there c.dot-2.ensures c.in-Value-dot.is) c.add_scaled-3.ensures
@@ -126,5 +129,5 @@ least_pass_spec =
     (λ c κs. omega arith) (λ c κs. omega arith) operator-requires-2 (λ c κs. search rules)
     (λ c. let at-operator2 = c.before.before.before.before in size_back at-operator2) returns-5 dot-requires-2
     (λ c. search rules) (λ c. search rules)
-    (λ c. let at-operator2 = returned-of c.before.before in size_back at-operator2)
+    (λ c. let at-if-not-done2 = c.before.before in let at-operator2 = returned-of at-if-not-done2 in size_back at-operator2)
     returns-6 add-scaled-requires-3 same-length-6 returns-7)
