@@ -12,15 +12,17 @@ mod_times a b d =
     ∙ ap (λ (x : ℕ). x % d) (add-mul (q * d) r b ∙ ap (λ (x : ℕ). x + r * b) (mul_right_comm q d b))
     ∙ mul-add-mod_self_right (q * b) d (r * b))
 
--- eleven doublings at once
-pub eleven : (r : ℕ) {k : ℕ} (d : ℕ) {x : ℕ} → 11 ≤ k → r * 2 ^ k % d ≡ x → r * 2048 % d * 2 ^ (k - 11) % d ≡ x
-eleven r {k} d h e =
-    let n = k - 11 in
-    mod_times (r * 2048) (2 ^ n) d
-    ∙ ap (λ (y : ℕ). y % d) (mul_assoc r (2 ^ 11) (2 ^ n) ∙ ap (λ (y : ℕ). r * y) (sym (pow-add 2 11 n)))
+-- eleven doublings at once, of the n - 11 k that are left after k of these
+pub eleven : (r n k d : ℕ) {x : ℕ} → k < n / 11 → r * 2 ^ (n - 11 * k) % d ≡ x → r * 2048 % d * 2 ^ (n - 11 * (k + 1)) % d ≡ x
+eleven r n k d h e =
+    let left = n - 11 * (k + 1) in
+    mod_times (r * 2048) (2 ^ left) d
+    ∙ ap (λ (y : ℕ). y % d) (mul_assoc r (2 ^ 11) (2 ^ left) ∙ ap (λ (y : ℕ). r * y) (sym (pow-add 2 11 left)))
     ∙ ap (λ (y : ℕ). r * 2 ^ y % d) (omega arith)
     ∙ e
 
 -- the ten and fewer that are left, as a shift of a 64-bit number
-pub rest : (r k d : ℕ) {x : ℕ} → r < 2 ^ 53 → k < 11 → r * 2 ^ k % d ≡ x → r * 2 ^ k % 2 ^ 64 % d ≡ x
-rest r k d h l e = ap (λ (y : ℕ). y % d) (shl_exact 53 k 64 h (omega arith)) ∙ e
+pub rest : (r n k d : ℕ) {x : ℕ} → r < 2 ^ 53 → n / 11 ≤ k → k ≤ n / 11 → r * 2 ^ (n - 11 * k) % d ≡ x → r * 2 ^ (n % 11) % 2 ^ 64 % d ≡ x
+rest r n k d h l m e =
+    let left : n % 11 ≡ n - 11 * k = omega arith in
+    ap (λ (y : ℕ). y % d) (shl_exact 53 (n % 11) 64 h (omega arith)) ∙ ap (λ (y : ℕ). r * 2 ^ y % d) left ∙ e

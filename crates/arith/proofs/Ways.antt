@@ -17,15 +17,12 @@ use Prim.Native.Nat.{ℕ, zero, suc, ◌+◌, ◌-◌, ◌*◌}
 use Rattle.arith.specs.Real.{◌⊕◌, ◌⊖◌, ◌⊗◌, ◌⊘◌, F, is_finite, abs_of}
 use Rattle.arith.specs.Root.{sqrt}
 use Rattle.arith.specs.Hypot.{hypot_of, scaled_root}
-use Rattle.arith.specs.Fault.{number, arithmetic_overflow}
+use Rattle.std.specs.Prelude.{Result, Ok, Err}
+use Rattle.arith.specs.Fault.{CollisionError, number, refusal_number, ArithmeticOverflow}
 use Rattle.arith.specs.Angle.{PI, TAU, sine_sum, cosine_sum, sums_at, doubled, halved_of, sin_cos_of}
 use Rattle.arith.specs.Angle.{half_tangent, arc_sum, octant, quadrant, facing, angle_of, atan2_of, rem_tau_of}
-use Rattle.arith.specs.Answered.{sin_cos_number, SinCosAnswered, angle_number, Atan2Answered}
+use Rattle.arith.specs.Answered.{SinCosAnswered, Atan2Answered}
 use Rattle.arith.specs.declared.angle.SineCosine.{SineCosine}
-use Rattle.arith.specs.declared.angle.SinCos.{SinCos}
-use Rattle.arith.specs.declared.angle.SinCos.TheVariants as Sines
-use Rattle.arith.specs.declared.angle.Angle.{Angle}
-use Rattle.arith.specs.declared.angle.Angle.TheVariants as Angles
 
 -- ---- hypot
 pub scaled-zero : (a b : Float) → Ieee.eq a (F 0) ≡ true → F 0 ≡ scaled_root a b
@@ -59,16 +56,16 @@ module _ (x : Float) where
       let one_less : suc k - 1 ≡ k = omega arith in
       ap doubled (e ∙ ap (λ (j : ℕ). halved_of j (x ⊗ F 0x3fe0_0000_0000_0000)) one_less) ∙ cond_no _ _ h
 
-pub sines-low : (h : Float) → Ieee.lt h (F 0) ≡ true → Sines.Refused ≡ sin_cos_of h
+pub sines-low : (h : Float) → Ieee.lt h (F 0) ≡ true → Err ArithmeticOverflow ≡ sin_cos_of h
 unfolding of_bits round sin_cos_of
 sines-low h p = cond_yes _ _ p
 
 pub sines-in : (h : Float) {t : SineCosine} → Ieee.lt h (F 0) ≡ false → Ieee.le h (F 0x4010_0000_0000_0000) ≡ true → t ≡ halved_of 3 h
-    → Sines.Value t ≡ sin_cos_of h
+    → Ok t ≡ sin_cos_of h
 unfolding of_bits round sin_cos_of
-sines-in h p q e = ap Sines.Value e ∙ cond_yes _ _ q ∙ cond_no _ _ p
+sines-in h p q e = ap Ok e ∙ cond_yes _ _ q ∙ cond_no _ _ p
 
-pub sines-high : (h : Float) → Ieee.lt h (F 0) ≡ false → Ieee.le h (F 0x4010_0000_0000_0000) ≡ false → Sines.Refused ≡ sin_cos_of h
+pub sines-high : (h : Float) → Ieee.lt h (F 0) ≡ false → Ieee.le h (F 0x4010_0000_0000_0000) ≡ false → Err ArithmeticOverflow ≡ sin_cos_of h
 unfolding of_bits round sin_cos_of
 sines-high h p q = cond_no _ _ q ∙ cond_no _ _ p
 
@@ -84,18 +81,18 @@ within-four (fin s m e) =
     ap (λ (b : Bool). b && test) low
 
 numbered-turn : (a b : Bool) (t : SineCosine)
-    → sin_cos_number (cond a Sines.Refused (cond b (Sines.Value t) Sines.Refused)) ≡ cond (not a && b) 0 (number arithmetic_overflow)
+    → refusal_number (cond a (Err ArithmeticOverflow) (cond b (Ok t) (Err ArithmeticOverflow))) ≡ cond (not a && b) 0 (number ArithmeticOverflow)
 numbered-turn true b t = refl
 numbered-turn false true t = refl
 numbered-turn false false t = refl
 
-pub sines-answered : {h : Float} {r : SinCos} → r ≡ sin_cos_of h → SinCosAnswered h r
+pub sines-answered : {h : Float} {r : Result SineCosine CollisionError} → r ≡ sin_cos_of h → SinCosAnswered h r
 unfolding of_bits round sin_cos_of
 sines-answered {h} e = record {
   is = e;
-  numbered = ap sin_cos_number e
+  numbered = ap refusal_number e
       ∙ numbered-turn (Ieee.lt h (F 0)) (Ieee.le h (F 0x4010_0000_0000_0000)) (halved_of 3 h)
-      ∙ ap (λ (b : Bool). cond b 0 (number arithmetic_overflow)) (within-four h);
+      ∙ ap (λ (b : Bool). cond b 0 (number ArithmeticOverflow)) (within-four h);
 }
 
 -- ---- magnitude and finiteness
@@ -236,11 +233,11 @@ module _ (y x : Float) {a b v w : Float} (e : a ≡ abs_of y) (f : b ≡ abs_of 
   unfolding of_bits round angle_of
   angle-above t = around ∙ cond_no _ _ t
 
-pub atan-first : (y x : Float) {a : Bool} → a ≡ is_finite y → a ≡ false → Angles.Refused ≡ atan2_of y x
+pub atan-first : (y x : Float) {a : Bool} → a ≡ is_finite y → a ≡ false → Err ArithmeticOverflow ≡ atan2_of y x
 unfolding atan2_of
 atan-first y x e h = cond_no _ _ (ap (λ (b : Bool). b && is_finite x) (sym e ∙ h))
 
-pub atan-second : (y x : Float) {a b : Bool} → a ≡ is_finite y → a ≡ true → b ≡ is_finite x → b ≡ false → Angles.Refused ≡ atan2_of y x
+pub atan-second : (y x : Float) {a b : Bool} → a ≡ is_finite y → a ≡ true → b ≡ is_finite x → b ≡ false → Err ArithmeticOverflow ≡ atan2_of y x
 unfolding atan2_of
 atan-second y x e h f g = cond_no _ _ (ap (λ (b : Bool). b && is_finite x) (sym e ∙ h) ∙ sym f ∙ g)
 
@@ -248,25 +245,25 @@ module _ (y x : Float) {a b : Bool} (e : a ≡ is_finite y) (h : a ≡ true) (f 
   finite : is_finite y && is_finite x ≡ true
   finite = ap (λ (b : Bool). b && is_finite x) (sym e ∙ h) ∙ sym f ∙ g
 
-  pub atan-zero : Ieee.eq x (F 0) ≡ true → Ieee.eq y (F 0) ≡ true → Angles.Value (F 0) ≡ atan2_of y x
+  pub atan-zero : Ieee.eq x (F 0) ≡ true → Ieee.eq y (F 0) ≡ true → Ok (F 0) ≡ atan2_of y x
   unfolding of_bits round atan2_of
-  atan-zero i j = ap Angles.Value (cond_yes _ _ (ap (λ (b : Bool). b && Ieee.eq y (F 0)) i ∙ j)) ∙ cond_yes _ _ finite
+  atan-zero i j = ap Ok (cond_yes _ _ (ap (λ (b : Bool). b && Ieee.eq y (F 0)) i ∙ j)) ∙ cond_yes _ _ finite
 
-  pub atan-axis : {r : Float} → Ieee.eq x (F 0) ≡ true → Ieee.eq y (F 0) ≡ false → r ≡ angle_of y x → Angles.Value r ≡ atan2_of y x
+  pub atan-axis : {r : Float} → Ieee.eq x (F 0) ≡ true → Ieee.eq y (F 0) ≡ false → r ≡ angle_of y x → Ok r ≡ atan2_of y x
   unfolding of_bits round atan2_of
-  atan-axis i j k = ap Angles.Value (k ∙ cond_no _ _ (ap (λ (b : Bool). b && Ieee.eq y (F 0)) i ∙ j)) ∙ cond_yes _ _ finite
+  atan-axis i j k = ap Ok (k ∙ cond_no _ _ (ap (λ (b : Bool). b && Ieee.eq y (F 0)) i ∙ j)) ∙ cond_yes _ _ finite
 
-  pub atan-else : {r : Float} → Ieee.eq x (F 0) ≡ false → r ≡ angle_of y x → Angles.Value r ≡ atan2_of y x
+  pub atan-else : {r : Float} → Ieee.eq x (F 0) ≡ false → r ≡ angle_of y x → Ok r ≡ atan2_of y x
   unfolding of_bits round atan2_of
-  atan-else i k = ap Angles.Value (k ∙ cond_no _ _ (ap (λ (b : Bool). b && Ieee.eq y (F 0)) i)) ∙ cond_yes _ _ finite
+  atan-else i k = ap Ok (k ∙ cond_no _ _ (ap (λ (b : Bool). b && Ieee.eq y (F 0)) i)) ∙ cond_yes _ _ finite
 
-numbered-angle : (b : Bool) (v : Float) → angle_number (cond b (Angles.Value v) Angles.Refused) ≡ cond b 0 (number arithmetic_overflow)
+numbered-angle : (b : Bool) (v : Float) → refusal_number (cond b (Ok v) (Err ArithmeticOverflow)) ≡ cond b 0 (number ArithmeticOverflow)
 numbered-angle true v = refl
 numbered-angle false v = refl
 
-pub atan-answered : (y x : Float) {r : Angle} → r ≡ atan2_of y x → Atan2Answered y x r
+pub atan-answered : (y x : Float) {r : Result Float CollisionError} → r ≡ atan2_of y x → Atan2Answered y x r
 unfolding atan2_of
-atan-answered y x e = record { is = e; numbered = ap angle_number e ∙ numbered-angle (is_finite y && is_finite x) _ }
+atan-answered y x e = record { is = e; numbered = ap refusal_number e ∙ numbered-angle (is_finite y && is_finite x) _ }
 
 -- ---- remainder
 pub rem_below : (x : Float) {r : Float} → r ≡ Ieee.rem binary64 x TAU → Ieee.lt r (F 0) ≡ true → r ⊕ TAU ≡ rem_tau_of x

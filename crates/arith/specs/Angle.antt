@@ -1,6 +1,7 @@
 -- Sine and cosine of an angle from 0 to 4, the arc tangent of a quotient and the remainder by a whole turn: SPECIFICATION §2.3 to §2.5.
-use Rattle.std.specs.Prelude.{ℕ, zero, suc, ◌*◌, cond, ◌&&◌, List, [], ◌∷◌, Float}
-use Rattle.arith.specs.Words.{binary64, neg, eq, lt, le, rem, SineCosine, SinCos, Angle}
+use Rattle.std.specs.Prelude.{ℕ, zero, suc, ◌*◌, cond, ◌&&◌, List, [], ◌∷◌, Float, Result, Ok, Err}
+use Rattle.arith.specs.Words.{binary64, neg, eq, lt, le, rem, SineCosine}
+use Rattle.arith.specs.Fault.{CollisionError, ArithmeticOverflow}
 use Rattle.arith.specs.Real.{◌⊕◌, ◌⊖◌, ◌⊗◌, ◌⊘◌, F, ratio, is_finite, abs_of}
 use Rattle.arith.specs.Root.{sqrt}
 
@@ -45,8 +46,9 @@ unfoldable pub halved_of : ℕ → Float → SineCosine  -- x halved until it is
 halved_of zero x = sums_at x
 halved_of (suc k) x = cond (le x (ratio 1 2)) (sums_at x) (doubled (halved_of k (x ⊗ ratio 1 2)))
 
-unfoldable pub sin_cos_of : Float → SinCos  -- below 0, above 4 or not a number: refused. An angle of at most 4 is at most 1/2 after three halvings
-sin_cos_of h = cond (lt h (ratio 0 1)) SinCos.Refused (cond (le h (ratio 4 1)) (SinCos.Value (halved_of 3 h)) SinCos.Refused)
+-- below 0, above 4 or not a number: refused. At most 4 is at most 1/2 after three halvings
+unfoldable pub sin_cos_of : Float → Result SineCosine CollisionError
+sin_cos_of h = cond (lt h (ratio 0 1)) (Err ArithmeticOverflow) (cond (le h (ratio 4 1)) (Ok (halved_of 3 h)) (Err ArithmeticOverflow))
 
 unfoldable pub half_tangent : Float → Float  -- the arc tangent, from here to atan2_of: q becomes q / (1 + sqrt(1 + q times q))
 half_tangent q = q ⊘ (ratio 1 1 ⊕ sqrt binary64 (ratio 1 1 ⊕ q ⊗ q))
@@ -68,11 +70,11 @@ facing v x = cond (lt x (ratio 0 1)) (PI ⊖ v) v
 unfoldable pub angle_of : Float → Float → Float  -- then -v where y < 0
 angle_of y x = let w = facing (quadrant (abs_of y) (abs_of x)) x in cond (lt y (ratio 0 1)) (neg w) w
 
-unfoldable pub atan2_of : Float → Float → Angle  -- signs by comparison, so -0 counts as 0; both 0 gives +0; what is not finite is refused
+unfoldable pub atan2_of : Float → Float → Result Float CollisionError  -- signs by comparison, so -0 counts as 0; both 0 gives +0; what is not finite is refused
 atan2_of y x =
     cond (is_finite y && is_finite x)
-    (Angle.Value (cond (eq x (ratio 0 1) && eq y (ratio 0 1)) (ratio 0 1) (angle_of y x)))
-    Angle.Refused
+    (Ok (cond (eq x (ratio 0 1) && eq y (ratio 0 1)) (ratio 0 1) (angle_of y x)))
+    (Err ArithmeticOverflow)
 
 unfoldable pub rem_tau_of : Float → Float  -- `rem_euclid` by TAU: the language's %, plus TAU where that is below 0
 rem_tau_of x = let r = rem binary64 x TAU in cond (lt r (ratio 0 1)) (r ⊕ TAU) r

@@ -1,15 +1,20 @@
 -- Loops and early returns as definitions, one set for the whole project.
--- `Turn A E` is Rust's Result: `go a` goes on with a, `stop e` leaves with e (an error, or an early return). In a `do` block `x ← e` is Rust's `let x = e?`.
+-- `Turn A E` is Rust's Result under names that fit loops too: `go a` is Ok(a) and goes on with a, `stop e` is Err(e) and leaves with e (an error, or
+-- an early return). In a `do` block `x ← e` is Rust's `let x = e?`.
 use Rattle.std.specs.Prelude.{ℕ, zero, suc, Bool, true, cond, ◌&&◌, List, [], ◌∷◌, ◌++◌}
+pub use Rattle.std.specs.Prelude.{Result as Turn, Ok as go, Err as stop}
 
-pub data Turn (A E : Type 0) : Type 0 where
-  go : A → Turn A E
-  stop : E → Turn A E
+unfoldable pub and_then : {A B E : Type 0} → Turn A E → (A → Turn B E) → Turn B E
+and_then (go a) f = f a
+and_then (stop e) f = stop e
 
 infixl 10 ◌>>=◌
-unfoldable pub ◌>>=◌ : {A B E : Type 0} → Turn A E → (A → Turn B E) → Turn B E
-go a >>= f = f a
-stop e >>= f = stop e
+abbrev pub ◌>>=◌ : {A B E : Type 0} → Turn A E → (A → Turn B E) → Turn B E
+r >>= f = and_then r f
+
+abbrev pub leaving : {A E : Type 0} → Turn (Unit {0}) E → A → Turn A E  -- what f(&mut a) answers, with the a that it leaves
+leaving (go _) a = go a
+leaving (stop e) a = stop e
 
 unfoldable pub turns : {A : Type 0} → (ℕ → A → A) → ℕ → A → A  -- for k in 0..n { a = f(k, a); }
 turns f zero a = a

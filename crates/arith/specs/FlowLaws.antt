@@ -6,7 +6,7 @@ use Rattle.std.proofs.Math.Path.{refl, ap}
 use Rattle.std.proofs.Common.{sym, ◌∙◌, add-one, arith}
 use Rattle.std.proofs.Math.Bool.{true, false}
 use Rattle.std.proofs.Math.Decide.{ℕ_discrete}
-use Rattle.arith.specs.Flow.{Turn, go, stop, ◌>>=◌, turns, loop, each, every}
+use Rattle.arith.specs.Flow.{Turn, go, stop, and_then, ◌>>=◌, turns, loop, each, every}
 
 pub turns-none : {A : Type 0} (f : ℕ → A → A) (a : A) → a ≡ turns f 0 a
 unfolding turns
@@ -25,16 +25,16 @@ turns-end f {n} {k} a h g e =
 
 module _ {A B E : Type 0} where
   pub then-go : {r : Turn A E} {x : A} (f : A → Turn B E) → go x ≡ r → f x ≡ (r >>= f)
-  unfolding ◌>>=◌
+  unfolding and_then
   then-go f e = ap (λ (r : Turn A E). r >>= f) e
 
   pub then-stop : {r : Turn A E} {e : E} (f : A → Turn B E) → stop e ≡ r → stop e ≡ (r >>= f)
-  unfolding ◌>>=◌
+  unfolding and_then
   then-stop f e = ap (λ (r : Turn A E). r >>= f) e
 
 -- e?? is one chain
 pub then-then : {A B C E : Type 0} (r : Turn A E) (f : A → Turn B E) (g : B → Turn C E) → ((r >>= f) >>= g) ≡ (r >>= λ x. f x >>= g)
-unfolding ◌>>=◌
+unfolding and_then
 then-then (go a) f g = refl
 then-then (stop e) f g = refl
 

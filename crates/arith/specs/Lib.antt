@@ -15,4 +15,5 @@ pub mod FlowLaws
 pub mod RunLaws
 pub mod UpToLaws
 pub mod RealLaws
+pub mod Literals
 pub mod Laws

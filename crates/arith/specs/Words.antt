@@ -3,5 +3,3 @@ pub use Prim.Native.Nat.{compare}
 pub use Rattle.std.specs.Float.{nan, inf, fin, binary64}
 pub use Rattle.std.specs.Float.Ieee.{of_bits, round, neg, eq, lt, le, rem}
 pub use Rattle.arith.specs.declared.angle.SineCosine.{SineCosine}
-pub use Rattle.arith.specs.declared.angle.SinCos.{SinCos}
-pub use Rattle.arith.specs.declared.angle.Angle.{Angle}

@@ -1,9 +1,10 @@
 // Sine and cosine of an angle from 0 to 4, the arc tangent of a quotient, and the remainder by a whole turn.
 ghost use Rattle.std.specs.Prelude.{◌≡◌};
-ghost use Rattle.arith.specs.Angle.{sine_sum, cosine_sum, sums_at, doubled, halved_of};
+ghost use Rattle.arith.specs.Angle.{horner, sine_sum, cosine_sum, sums_at, doubled, halved_of};
 ghost use Rattle.arith.specs.Angle.{half_tangent, arc_sum, octant, quadrant, facing, angle_of, rem_tau_of};
 ghost use Rattle.arith.specs.Answered.{SinCosAnswered, Atan2Answered};
 
+use crate::fault::CollisionError;
 use crate::number::{abs, is_finite};
 use crate::remainder::remainder_tau;
 use crate::root::sqrt;
@@ -15,61 +16,56 @@ pub(crate) const TAU: f64 = 6.283185307179586;
 const HALF_PI: f64 = 1.5707963267948966;
 
 // Sine s and cosine c of one angle.
-#[derive(Drop)]
+#[derive(Clone, Copy)]
 pub struct SineCosine {
     pub s: f64,
     pub c: f64,
 }
 
-#[derive(Drop)]
-pub enum SinCos {
-    Value(SineCosine),
-    // The angle is below 0, above 4 or not finite: refusal 11.
-    Refused,
-}
-
-#[derive(Drop)]
-pub enum Angle {
-    Value(f64),
-    // An argument is not finite: refusal 11.
-    Refused,
+// Horner's sum in z: from the coefficient of the highest power, each time times z plus the next of `rest`.
+fn horner(z: f64, highest: f64, rest: &[f64]) -> f64
+    ensures { result ≡ horner z highest rest.now }
+{
+    let mut sum = highest;
+    for coefficient in rest {
+        sum = sum * z + *coefficient;
+    }
+    sum
 }
 
 // The Taylor sum of the sine through power 13, at an x of at most 1/2.
 fn sine_sum(x: f64) -> f64
     ensures { result ≡ sine_sum x }
 {
-    let z = x * x;
-    let p = (((((1.6059043836821613e-10 * z + -2.505210838544172e-08) * z + 2.7557319223985893e-06)
-        * z
-        + -0.0001984126984126984)
-        * z
-        + 0.008333333333333333)
-        * z
-        + -0.16666666666666666)
-        * z
-        + 1.0;
-    p * x
+    let rest = [
+        -2.505210838544172e-08,
+        2.7557319223985893e-06,
+        -0.0001984126984126984,
+        0.008333333333333333,
+        -0.16666666666666666,
+        1.0,
+    ];
+    horner(x * x, 1.6059043836821613e-10, &rest) * x
 }
 
 // The Taylor sum of the cosine through power 14, at an x of at most 1/2.
 fn cosine_sum(x: f64) -> f64
     ensures { result ≡ cosine_sum x }
 {
-    let z = x * x;
-    ((((((-1.1470745597729725e-11 * z + 2.08767569878681e-09) * z + -2.755731922398589e-07) * z
-        + 2.48015873015873e-05)
-        * z
-        + -0.001388888888888889)
-        * z
-        + 0.041666666666666664)
-        * z
-        + -0.5)
-        * z
-        + 1.0
+    let rest = [
+        2.08767569878681e-09,
+        -2.755731922398589e-07,
+        2.48015873015873e-05,
+        -0.001388888888888889,
+        0.041666666666666664,
+        -0.5,
+        1.0,
+    ];
+    horner(x * x, -1.1470745597729725e-11, &rest)
 }
 
 // The sums at an angle of at most 1/2.
+#[tactic(auto, unfolding(crate::specs::Angle::sums_at))]
 fn sums_at(x: f64) -> SineCosine
     ensures { result ≡ sums_at x }
 {
@@ -103,16 +99,17 @@ fn halved(halvings: usize, x: f64) -> SineCosine
     doubled(halved(halvings - 1, x * 0.5))
 }
 
-pub fn sin_cos(h: f64) -> SinCos
+// An angle below 0, above 4 or not a number is refused: refusal 11.
+pub fn sin_cos(h: f64) -> Result<SineCosine, CollisionError>
     ensures { SinCosAnswered h result }
 {
     if h < 0.0 {
-        return SinCos::Refused;
+        return Err(CollisionError::ArithmeticOverflow);
     }
     if h <= 4.0 {
-        return SinCos::Value(halved(3, h));
+        return Ok(halved(3, h));
     }
-    SinCos::Refused
+    Err(CollisionError::ArithmeticOverflow)
 }
 
 // The tangent of half the angle whose tangent is q.
@@ -126,22 +123,20 @@ fn half_tangent(q: f64) -> f64
 fn arc_sum(q: f64) -> f64
     ensures { result ≡ arc_sum q }
 {
-    let z = q * q;
-    let high = ((((-0.043478260869565216 * z + 0.047619047619047616) * z + -0.05263157894736842) * z
-        + 0.058823529411764705)
-        * z
-        + -0.06666666666666667)
-        * z
-        + 0.07692307692307693;
-    let p = (((((high * z + -0.09090909090909091) * z + 0.1111111111111111) * z
-        + -0.14285714285714285)
-        * z
-        + 0.2)
-        * z
-        + -0.3333333333333333)
-        * z
-        + 1.0;
-    p * q
+    let rest = [
+        0.047619047619047616,
+        -0.05263157894736842,
+        0.058823529411764705,
+        -0.06666666666666667,
+        0.07692307692307693,
+        -0.09090909090909091,
+        0.1111111111111111,
+        -0.14285714285714285,
+        0.2,
+        -0.3333333333333333,
+        1.0,
+    ];
+    horner(q * q, -0.043478260869565216, &rest) * q
 }
 
 // The angle of the first octant whose tangent is q.
@@ -176,22 +171,17 @@ fn angle_of(y: f64, x: f64) -> f64
     if y < 0.0 { -w } else { w }
 }
 
-pub fn atan2(y: f64, x: f64) -> Angle
+// An argument that is not finite is refused: refusal 11.
+pub fn atan2(y: f64, x: f64) -> Result<f64, CollisionError>
     ensures { Atan2Answered y x result }
 {
-    if !is_finite(y) {
-        return Angle::Refused;
+    if !is_finite(y) || !is_finite(x) {
+        return Err(CollisionError::ArithmeticOverflow);
     }
-    if !is_finite(x) {
-        return Angle::Refused;
+    if x == 0.0 && y == 0.0 {
+        return Ok(0.0);
     }
-    if x == 0.0 {
-        if y == 0.0 {
-            return Angle::Value(0.0);
-        }
-        return Angle::Value(angle_of(y, x));
-    }
-    Angle::Value(angle_of(y, x))
+    Ok(angle_of(y, x))
 }
 
 // `rem_euclid` by TAU.

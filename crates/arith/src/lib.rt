@@ -2,6 +2,7 @@
 #![tactic(auto)]
 
 pub mod angle;
+pub mod fault;
 mod near_one;
 pub mod number;
 mod remainder;

@@ -16,12 +16,10 @@ fn doubled(m: u64, n: u64) -> u64
     ensures { result ≡ m * 2 ^ n % 7074237752028440 }
 {
     let mut r = m % TAU_DIGITS;
-    let mut k = n;
-    while 11 <= k {
+    for _ in 0..n / 11 {
         r = r * 2048 % TAU_DIGITS;
-        k -= 11;
     }
-    (r << k) % TAU_DIGITS
+    (r << n % 11) % TAU_DIGITS
 }
 
 // The remainder of an x that is not below 0. From TAU on x is m * 2^n times 2^-50, for the 53 digits m and the field n + 1025

@@ -10,7 +10,6 @@ ghost use Rattle.io.specs.Counts.{IsPrefixLen};
 ghost use Rattle.report.specs.Pose as Pose;
 ghost use Rattle.bench_c.specs.Exported.{sine_in, cosine_in, angle_in};
 
-use arith::angle::{Angle, SinCos};
 use step::layout::SCRATCH;
 
 #[unsafe(no_mangle)]
@@ -32,8 +31,8 @@ pub extern "C" fn rattle_sin(h: f64) -> f64
     ensures { result ≡ sine_in (sin_cos_of h) }
 {
     match arith::angle::sin_cos(h) {
-        SinCos::Value(t) => t.s,
-        SinCos::Refused => 0.0,
+        Ok(t) => t.s,
+        Err(_) => 0.0,
     }
 }
 
@@ -42,8 +41,8 @@ pub extern "C" fn rattle_cos(h: f64) -> f64
     ensures { result ≡ cosine_in (sin_cos_of h) }
 {
     match arith::angle::sin_cos(h) {
-        SinCos::Value(t) => t.c,
-        SinCos::Refused => 0.0,
+        Ok(t) => t.c,
+        Err(_) => 0.0,
     }
 }
 
@@ -52,8 +51,8 @@ pub extern "C" fn rattle_atan2(y: f64, x: f64) -> f64
     ensures { result ≡ angle_in (atan2_of y x) }
 {
     match arith::angle::atan2(y, x) {
-        Angle::Value(v) => v,
-        Angle::Refused => 0.0,
+        Ok(v) => v,
+        Err(_) => 0.0,
     }
 }
 

@@ -1,7 +1,7 @@
 -- The plan file of SPECIFICATION §12: what a file says, the refusals 13 to 18, and the tables that are read from it.
 -- A file is a list of bytes. The tests and the records below look at its head; what comes after a record is read in the same way.
-use Rattle.std.specs.Prelude.{ℕ, zero, suc, ◌+◌, ◌*◌, ◌≤◌, List, [], ◌∷◌, Bool, true, false, cond, ◌&&◌, ltb, leb, eqb, length, get_or, set, drop, replicate}
-use Rattle.std.specs.Prelude.{Float}
+use Rattle.std.specs.Prelude.{ℕ, zero, suc, ◌+◌, ◌*◌, ◌≤◌, List, [], ◌∷◌, Bool, cond, ◌&&◌, ltb, leb, eqb, length, get_or, set, drop, replicate}
+use Rattle.std.specs.Prelude.{Float, Option, None, Some, is_some, Result, Ok, Err}
 use Rattle.std.proofs.Math.Seq.{paste}
 use Rattle.std.specs.Float.{binary64}
 use Rattle.std.specs.Float.Ieee.{of_bits}
@@ -10,16 +10,18 @@ use Rattle.rows.specs.declared.geometry.JointFrame.{JointFrame}
 use Rattle.rows.specs.declared.geometry.Kind.{Kind}
 use Rattle.rows.specs.declared.geometry.Kind.TheVariants.{Ball, Hinge, Cylindrical, Planar, Distance, ConeTwist}
 use Rattle.rows.specs.declared.geometry.Joint.{Joint}
+use Rattle.plan.specs.declared.kind.JointKind.{JointKind}
+use Rattle.plan.specs.declared.kind.JointKind.TheVariants as kind
+use Rattle.plan.specs.declared.reader.Tables.{Tables}
 use Rattle.plan.specs.declared.reader.Plan.{Plan}
-use Rattle.plan.specs.declared.reader.Reading.{Reading}
-use Rattle.plan.specs.declared.reader.ReadOutcome.{ReadOutcome}
-use Rattle.plan.specs.declared.reader.ReadOutcome.TheVariants.{Read, Mark, SecondTimeStep, TooMany, KindByte, Truncated, NoTimeStep}
-use Rattle.plan.specs.declared.reader.Found.{Found}
-use Rattle.plan.specs.declared.reader.Found.TheVariants as found
+use Rattle.plan.specs.declared.reader.Refused.{Refused}
+use Rattle.plan.specs.declared.reader.ReadError.{ReadError}
+use Rattle.plan.specs.declared.reader.ReadError.TheVariants.{Mark, SecondTimeStep, TooMany, KindByte, Truncated, NoTimeStep}
+use Rattle.plan.specs.declared.reader.Record.{Record}
+use Rattle.plan.specs.declared.reader.Record.TheVariants as found
 
--- the numbers of the refusals; 0 where the file was read
-abbrev pub read_number : ReadOutcome → ℕ
-read_number Read = 0
+-- the numbers of the refusals
+abbrev pub read_number : ReadError → ℕ
 read_number Mark = 13
 read_number SecondTimeStep = 14
 read_number TooMany = 15
@@ -79,7 +81,7 @@ TWIST_LOWER = 133
 abbrev pub TWIST_UPPER : ℕ
 TWIST_UPPER = 141
 
--- a joint of one of these, kinds 4 and 5, and of any other kind
+-- a joint of one of these, and of any other kind
 abbrev pub DISTANCE : ℕ
 DISTANCE = 125
 
@@ -96,6 +98,28 @@ DOUBLES = 26
 abbrev pub TABLE : ℕ
 TABLE = 16 * DOUBLES
 
+abbrev pub joint_length : JointKind → ℕ
+joint_length kind.Ball = JOINT
+joint_length kind.Hinge = JOINT
+joint_length kind.Cylindrical = JOINT
+joint_length kind.Planar = JOINT
+joint_length kind.Distance = DISTANCE
+joint_length kind.ConeTwist = CONE_TWIST
+
+-- the kinds by their bytes, 0 to 5
+unfoldable pub kind_named : ℕ → JointKind
+kind_named n =
+    cond (eqb n 0) kind.Ball
+    (cond (eqb n 1) kind.Hinge
+    (cond (eqb n 2) kind.Cylindrical
+    (cond (eqb n 3) kind.Planar
+    (cond (eqb n 4) kind.Distance
+    kind.ConeTwist))))
+
+abbrev pub kind_byte : ℕ → Result JointKind ReadError
+kind_byte n = cond (ltb 5 n) (Err KindByte) (Ok (kind_named n))
+
+-- how long a joint's record is by its kind byte
 abbrev pub joint_size : ℕ → ℕ
 joint_size kind = cond (eqb kind 4) DISTANCE (cond (eqb kind 5) CONE_TWIST JOINT)
 
@@ -126,14 +150,16 @@ frame_at s i =
 abbrev pub cone_twist_of : List ℕ → Kind
 cone_twist_of s = ConeTwist (double s SWING_X) (double s SWING_Y) (double s TWIST_LOWER) (double s TWIST_UPPER)
 
+abbrev pub kind_in : List ℕ → JointKind → Kind
+kind_in s kind.Ball = Ball
+kind_in s kind.Hinge = Hinge
+kind_in s kind.Cylindrical = Cylindrical
+kind_in s kind.Planar = Planar
+kind_in s kind.Distance = Distance (double s LENGTH)
+kind_in s kind.ConeTwist = cone_twist_of s
+
 unfoldable pub kind_of : List ℕ → Kind
-kind_of s =
-    cond (eqb (byte s KIND) 0) Ball
-    (cond (eqb (byte s KIND) 1) Hinge
-    (cond (eqb (byte s KIND) 2) Cylindrical
-    (cond (eqb (byte s KIND) 3) Planar
-    (cond (eqb (byte s KIND) 4) (Distance (double s LENGTH))
-    (cone_twist_of s)))))
+kind_of s = kind_in s (kind_named (byte s KIND))
 
 unfoldable pub joint_of : List ℕ → Joint
 joint_of s =
@@ -152,64 +178,55 @@ JointThere s = (byte s KIND ≤ 5) × (joint_size (byte s KIND) ≤ length s)
 abbrev pub marked : List ℕ → List ℕ → Bool
 marked s mark = eqb (byte s 0) (byte mark 0) && eqb (byte s 1) (byte mark 1)
 
--- ---- the tests at a record, in their order: what stands at the head of s, where these were read before it
-unfoldable pub time_step_head : List ℕ → Bool → Found
+-- ---- the tests at a record, in their order: what stands at the head of s, where these were read before it; nothing at the end
+abbrev pub Head : Type 0
+Head = Result (Option Record) ReadError
+
+abbrev pub there_is : Record → Head
+there_is r = Ok (Some r)
+
+unfoldable pub time_step_head : List ℕ → Bool → Head
 time_step_head s seen =
-    cond seen (found.Refused SecondTimeStep)
-    (cond (ltb (length s) TIME_STEP) (found.Refused Truncated)
-    found.TimeStep)
+    cond seen (Err SecondTimeStep)
+    (cond (ltb (length s) TIME_STEP) (Err Truncated)
+    (there_is found.TimeStep))
 
-unfoldable pub body_head : List ℕ → ℕ → Found
+unfoldable pub body_head : List ℕ → ℕ → Head
 body_head s bodies =
-    cond (leb 16 bodies) (found.Refused TooMany)
-    (cond (ltb (length s) BODY) (found.Refused Truncated)
-    found.Body)
+    cond (leb 16 bodies) (Err TooMany)
+    (cond (ltb (length s) BODY) (Err Truncated)
+    (there_is found.Body))
 
-unfoldable pub joint_head : List ℕ → ℕ → Found
+unfoldable pub joint_head : List ℕ → ℕ → Head
 joint_head s joints =
-    cond (leb 16 joints) (found.Refused TooMany)
-    (cond (ltb (length s) FRAME_A) (found.Refused Truncated)
-    (cond (ltb 5 (byte s KIND)) (found.Refused KindByte)
-    (cond (ltb (length s) (joint_size (byte s KIND))) (found.Refused Truncated)
-    (found.Joint (joint_size (byte s KIND))))))
+    cond (leb 16 joints) (Err TooMany)
+    (cond (ltb (length s) FRAME_A) (Err Truncated)
+    (cond (ltb 5 (byte s KIND)) (Err KindByte)
+    (cond (ltb (length s) (joint_size (byte s KIND))) (Err Truncated)
+    (there_is (found.Joint (joint_size (byte s KIND)))))))
 
-unfoldable pub head_of : List ℕ → Bool → ℕ → ℕ → Found
+unfoldable pub head_of : List ℕ → Bool → ℕ → ℕ → Head
 head_of s seen bodies joints =
-    cond (eqb (length s) 0) found.End
-    (cond (ltb (length s) 2) (found.Refused Mark)
+    cond (eqb (length s) 0) (Ok None)
+    (cond (ltb (length s) 2) (Err Mark)
     (cond (marked s DT) (time_step_head s seen)
     (cond (marked s BD) (body_head s bodies)
     (cond (marked s JT) (joint_head s joints)
-    (found.Refused Mark)))))
+    (Err Mark)))))
 
 -- ---- the tables with one more record; the rest of their space is as it was
-unfoldable pub with_time_step : List ℕ → Plan → Plan
-with_time_step s t =
-    record {
-      dt = double s NUMBERS;
-      has_dt = true;
-      bodies = t.bodies;
-      body_count = t.body_count;
-      joints = t.joints;
-      joint_count = t.joint_count;
-    }
-
-unfoldable pub with_body : List ℕ → Plan → Plan
+unfoldable pub with_body : List ℕ → Tables → Tables
 with_body s t =
     record {
-      dt = t.dt;
-      has_dt = t.has_dt;
       bodies = paste t.bodies (DOUBLES * t.body_count) (body_of s) DOUBLES;
       body_count = t.body_count + 1;
       joints = t.joints;
       joint_count = t.joint_count;
     }
 
-unfoldable pub with_joint : List ℕ → Plan → Plan
+unfoldable pub with_joint : List ℕ → Tables → Tables
 with_joint s t =
     record {
-      dt = t.dt;
-      has_dt = t.has_dt;
       bodies = t.bodies;
       body_count = t.body_count;
       joints = set t.joints t.joint_count (joint_of s);
@@ -217,31 +234,39 @@ with_joint s t =
     }
 
 -- ---- the whole file
--- at the end
-abbrev pub ended_of : Plan → Plan → Reading
-ended_of tables t = cond t.has_dt (record { outcome = Read; plan = t }) (record { outcome = NoTimeStep; plan = tables })
+-- what a file says, or why it is refused: then the tables are those that came
+abbrev pub Reading : Type 0
+Reading = Result Plan Refused
 
--- what follows from what stands at the head: `more n u` reads on after n bytes, with the tables u
-unfoldable pub next_of : Found → List ℕ → Plan → Plan → (ℕ → Plan → Reading) → Reading
-next_of found.End s tables t more = ended_of tables t
-next_of (found.Refused e) s tables t more = record { outcome = e; plan = tables }
-next_of found.TimeStep s tables t more = more TIME_STEP (with_time_step s t)
-next_of found.Body s tables t more = more BODY (with_body s t)
-next_of (found.Joint n) s tables t more = more n (with_joint s t)
+abbrev pub refused : Tables → ReadError → Reading
+refused tables e = Err (record { error = e; tables = tables })
+
+-- at the end, where this time step and these records were read
+abbrev pub ended_of : Tables → Option Float → Tables → Reading
+ended_of tables None t = refused tables NoTimeStep
+ended_of tables (Some x) t = Ok (record { dt = x; tables = t })
+
+-- what follows from what stands at the head: `more n x u` reads on after n bytes, with the time step x and the tables u
+unfoldable pub next_of : Head → List ℕ → Tables → Option Float → Tables → (ℕ → Option Float → Tables → Reading) → Reading
+next_of (Err e) s tables dt t more = refused tables e
+next_of (Ok None) s tables dt t more = ended_of tables dt t
+next_of (Ok (Some found.TimeStep)) s tables dt t more = more TIME_STEP (Some (double s NUMBERS)) t
+next_of (Ok (Some found.Body)) s tables dt t more = more BODY dt (with_body s t)
+next_of (Ok (Some (found.Joint n))) s tables dt t more = more n dt (with_joint s t)
 
 -- the file from here on, where it holds fewer than n records
-unfoldable pub read_on : ℕ → List ℕ → Plan → Plan → Reading
-read_on zero s tables t = record { outcome = Truncated; plan = tables }
-read_on (suc n) s tables t =
-    next_of (head_of s t.has_dt t.body_count t.joint_count) s tables t (λ k u. read_on n (drop k s) tables u)
+unfoldable pub read_on : ℕ → List ℕ → Tables → Option Float → Tables → Reading
+read_on zero s tables dt t = refused tables Truncated
+read_on (suc n) s tables dt t =
+    next_of (head_of s (is_some dt) t.body_count t.joint_count) s tables dt t (λ k x u. read_on n (drop k s) tables x u)
 
 -- the tables that came, with no record counted
-abbrev pub emptied : Plan → Plan
-emptied t = record { dt = t.dt; has_dt = false; bodies = t.bodies; body_count = 0; joints = t.joints; joint_count = 0 }
+abbrev pub emptied : Tables → Tables
+emptied t = record { bodies = t.bodies; body_count = 0; joints = t.joints; joint_count = 0 }
 
 -- a file holds fewer records than one more than its bytes
-unfoldable pub read_of : List ℕ → Plan → Reading
-read_of file tables = read_on (suc (length file)) file tables (emptied tables)
+unfoldable pub read_of : List ℕ → Tables → Reading
+read_of file tables = read_on (suc (length file)) file tables None (emptied tables)
 
 -- ---- tables with no records, every number +0
 abbrev blank : JointFrame
@@ -251,11 +276,9 @@ blank =
       local_rotation = record { x = of_bits binary64 0; y = of_bits binary64 0; z = of_bits binary64 0; w = of_bits binary64 0 };
     }
 
-unfoldable pub empty_of : Plan
+unfoldable pub empty_of : Tables
 empty_of =
     record {
-      dt = of_bits binary64 0;
-      has_dt = false;
       bodies = replicate TABLE (of_bits binary64 0);
       body_count = 0;
       joints = replicate 16 (record { body_a = 0; body_b = 0; frame_a = blank; frame_b = blank; kind = Ball });

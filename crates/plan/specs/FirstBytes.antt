@@ -1,6 +1,6 @@
 -- The first 5,756 bytes decide every file, however long: all records that fit the tables, and the mark after them.
 use Prim.Native.Nat.{ℕ, zero, suc, ◌+◌, ◌-◌, ◌*◌, ◌≤◌, ◌<◌}
-use Rattle.std.specs.Prelude.{◌≡◌, Bool, true, false, List, [], ◌∷◌, ◌⊎◌, leb, length, take, drop}
+use Rattle.std.specs.Prelude.{◌≡◌, Bool, true, false, List, [], ◌∷◌, ◌⊎◌, leb, length, take, drop, Float, Option, None, Some, is_some, Ok, Err}
 use Rattle.std.proofs.Math.Path.{refl, sym, ap}
 use Rattle.std.proofs.Common.{◌∙◌, inl, inr, length-drop, take_all, length-take-le, get_or-take}
 use Rattle.std.proofs.Math.Bool.{cond}
@@ -10,14 +10,12 @@ use Rattle.std.proofs.Math.Dec.{ltb, eqb}
 use Rattle.std.proofs.Math.Seq.{take-nil}
 use borrow.Author.Tests.{le-ltb, leb-false, ne_eqb}
 use Rattle.rows.specs.Region.{tab-ext}
-use Rattle.plan.specs.declared.reader.Plan.{Plan}
-use Rattle.plan.specs.declared.reader.Reading.{Reading}
-use Rattle.plan.specs.declared.reader.ReadOutcome.TheVariants.{SecondTimeStep, TooMany, Truncated}
-use Rattle.plan.specs.declared.reader.Found.{Found}
-use Rattle.plan.specs.declared.reader.Found.TheVariants as found
+use Rattle.plan.specs.declared.reader.Tables.{Tables}
+use Rattle.plan.specs.declared.reader.ReadError.TheVariants.{SecondTimeStep, TooMany, Truncated}
+use Rattle.plan.specs.declared.reader.Record.TheVariants as found
 use Rattle.plan.specs.File.{NUMBERS, TIME_STEP, BODY, SIDE_A, SIDE_B, KIND, FRAME_A, FRAME_B, SWING_X, SWING_Y, TWIST_LOWER, TWIST_UPPER, CONE_TWIST}
-use Rattle.plan.specs.File.{byte, double, body_of, frame_at, kind_of, joint_of, joint_size, marked, DT, BD, JT, time_step_head, body_head, joint_head}
-use Rattle.plan.specs.File.{head_of, with_time_step, with_body, with_joint, next_of, read_on, read_of, emptied}
+use Rattle.plan.specs.File.{byte, double, body_of, frame_at, kind_named, kind_of, joint_of, joint_size, marked, DT, BD, JT}
+use Rattle.plan.specs.File.{Head, there_is, time_step_head, body_head, joint_head, head_of, with_body, with_joint, Reading, next_of, read_on, read_of, emptied}
 use Rattle.plan.specs.FileLaws.{Room, head-room, size-within}
 
 -- the bytes that can still matter, where these were read
@@ -73,7 +71,7 @@ module _ (m : ℕ) (s : List ℕ) where
       )
 
   joint-cut : CONE_TWIST ≤ m → joint_of (take m s) ≡ joint_of s
-  unfolding joint_of kind_of
+  unfolding joint_of kind_of kind_named
   joint-cut h =
       cc (
         byte_cut SIDE_A (omega arith),
@@ -111,21 +109,21 @@ module _ (m : ℕ) (s : List ℕ) (long : m < length s) where
     time-step-cut : time_step_head (take m s) seen ≡ time_step_head s seen
     unfolding time_step_head needed
     time-step-cut =
-        same_if seen (found.Refused SecondTimeStep) λ e.
+        same_if seen (Err SecondTimeStep) λ e.
         let l : TIME_STEP ≤ m = omega (arith, rw e at h) in
-        ap (λ (b : Bool). cond b (found.Refused Truncated) found.TimeStep) (long-enough TIME_STEP l)
+        ap (λ (b : Bool). cond b (Err Truncated) (there_is found.TimeStep)) (long-enough TIME_STEP l)
 
     body-head-cut : body_head (take m s) bodies ≡ body_head s bodies
     unfolding body_head needed
     body-head-cut =
-        same_if (leb 16 bodies) (found.Refused TooMany) λ e.
+        same_if (leb 16 bodies) (Err TooMany) λ e.
         let l : BODY ≤ m = omega (arith, leb-false 16 bodies e) in
-        ap (λ (b : Bool). cond b (found.Refused Truncated) found.Body) (long-enough BODY l)
+        ap (λ (b : Bool). cond b (Err Truncated) (there_is found.Body)) (long-enough BODY l)
 
     joint-head-cut : joint_head (take m s) joints ≡ joint_head s joints
     unfolding joint_head needed
     joint-head-cut =
-        same_if (leb 16 joints) (found.Refused TooMany) λ e.
+        same_if (leb 16 joints) (Err TooMany) λ e.
         let l : CONE_TWIST ≤ m = omega (arith, leb-false 16 joints e) in
         let b4 : byte (take m s) KIND ≡ byte s KIND = byte_cut m s KIND (omega arith) in
         let l5 : ltb (length (take m s)) FRAME_A ≡ ltb (length s) FRAME_A = long-enough FRAME_A (omega arith) in
@@ -157,13 +155,13 @@ either {A} f m s h = by (split m (length s))
     by (inl l) = h l
     by (inr l) = ap f (take_all m s l)
 
-needed_by : Plan → ℕ
-needed_by t = needed t.has_dt t.body_count t.joint_count
+needed_by : Option Float → Tables → ℕ
+needed_by dt t = needed (is_some dt) t.body_count t.joint_count
 
-module _ (tables : Plan) (m : ℕ) (s : List ℕ) (t : Plan) (h : needed_by t ≤ m) where
-  with-time-step-cut : t.has_dt ≡ false → with_time_step (take m s) t ≡ with_time_step s t
-  unfolding with_time_step needed needed_by
-  with-time-step-cut e = let d : double (take m s) 2 ≡ double s 2 = double-cut m s 2 (omega (arith, rw e at h)) in cc
+module _ (tables : Tables) (m : ℕ) (s : List ℕ) (dt : Option Float) (t : Tables) (h : needed_by dt t ≤ m) where
+  time-step-cut-double : is_some dt ≡ false → double (take m s) NUMBERS ≡ double s NUMBERS
+  unfolding needed needed_by
+  time-step-cut-double e = double-cut m s NUMBERS (omega (arith, rw e at h))
 
   with-body-cut : t.body_count < 16 → with_body (take m s) t ≡ with_body s t
   unfolding with_body needed needed_by
@@ -173,62 +171,66 @@ module _ (tables : Plan) (m : ℕ) (s : List ℕ) (t : Plan) (h : needed_by t �
   unfolding with_joint needed needed_by
   with-joint-cut l = let j : joint_of (take m s) ≡ joint_of s = joint-cut m s (omega arith) in cc
 
-  -- the tables with a record need so many bytes less
-  less-time-step : t.has_dt ≡ false → needed_by (with_time_step s t) ≤ m - TIME_STEP
-  unfolding with_time_step needed needed_by
-  less-time-step e = omega (arith, rw e at h)
+  -- with a record more so many bytes less are needed
+  less-time-step : (x : Float) → is_some dt ≡ false → needed_by (Some x) t ≤ m - TIME_STEP
+  unfolding needed needed_by
+  less-time-step x e = omega (arith, rw e at h)
 
-  less-body : t.body_count < 16 → needed_by (with_body s t) ≤ m - BODY
+  less-body : t.body_count < 16 → needed_by dt (with_body s t) ≤ m - BODY
   unfolding with_body needed needed_by
   less-body l = omega arith
 
-  less-joint : (n : ℕ) → t.joint_count < 16 → n ≤ CONE_TWIST → needed_by (with_joint s t) ≤ m - n
+  less-joint : (n : ℕ) → t.joint_count < 16 → n ≤ CONE_TWIST → needed_by dt (with_joint s t) ≤ m - n
   unfolding with_joint needed needed_by
   less-joint n l k = omega arith
 
-  module _ (more rest : ℕ → Plan → Reading) (ih : (k : ℕ) (u : Plan) → 1 ≤ k → k ≤ length s → needed_by u ≤ m - k → more k u ≡ rest k u) where
-    next-cut : (f : Found) → Room s t.has_dt t.body_count t.joint_count f → next_of f (take m s) tables t more ≡ next_of f s tables t rest
+  module _ (more rest : ℕ → Option Float → Tables → Reading)
+      (ih : (k : ℕ) (x : Option Float) (u : Tables) → 1 ≤ k → k ≤ length s → needed_by x u ≤ m - k → more k x u ≡ rest k x u) where
+    next-cut : (f : Head) → Room s (is_some dt) t.body_count t.joint_count f → next_of f (take m s) tables dt t more ≡ next_of f s tables dt t rest
     unfolding next_of Room
-    next-cut found.End r = refl
-    next-cut (found.Refused e) r = refl
-    next-cut found.TimeStep r = ap (more TIME_STEP) (with-time-step-cut r.1) ∙ ih TIME_STEP (with_time_step s t) (omega arith) r.0 (less-time-step r.1)
-    next-cut found.Body r = ap (more BODY) (with-body-cut r.1) ∙ ih BODY (with_body s t) (omega arith) r.0 (less-body r.1)
-    next-cut (found.Joint n) r =
+    next-cut (Err e) r = refl
+    next-cut (Ok None) r = refl
+    next-cut (Ok (Some found.TimeStep)) r =
+        ap (λ (x : Float). more TIME_STEP (Some x) t) (time-step-cut-double r.1)
+        ∙ ih TIME_STEP (Some (double s NUMBERS)) t (omega arith) r.0 (less-time-step (double s NUMBERS) r.1)
+    next-cut (Ok (Some found.Body)) r = ap (more BODY dt) (with-body-cut r.1) ∙ ih BODY dt (with_body s t) (omega arith) r.0 (less-body r.1)
+    next-cut (Ok (Some (found.Joint n))) r =
         let q = size-within (byte s KIND) in
-        ap (more n) (with-joint-cut r.1)
-        ∙ ih n (with_joint s t) (omega (arith, r.2, q.0)) (omega (arith, r.2, r.0.1)) (less-joint n r.1 (omega (arith, r.2, q.1)))
+        ap (more n dt) (with-joint-cut r.1)
+        ∙ ih n dt (with_joint s t) (omega (arith, r.2, q.0)) (omega (arith, r.2, r.0.1)) (less-joint n r.1 (omega (arith, r.2, q.1)))
 
 cut-some : (m : ℕ) (s : List ℕ) → 1 ≤ m → 1 ≤ length s → 1 ≤ length (take m s)
 cut-some zero s h g = absurd (omega arith)
 cut-some (suc m) [] h g = g
 cut-some (suc m) (x ∷ xs) h g = omega arith
 
-mark-needed : (t : Plan) {m : ℕ} → needed_by t ≤ m → 2 ≤ m
+mark-needed : (dt : Option Float) (t : Tables) {m : ℕ} → needed_by dt t ≤ m → 2 ≤ m
 unfolding needed needed_by
-mark-needed t h = omega arith
+mark-needed dt t h = omega arith
 
 rest-shorter : (k m a : ℕ) (s : List ℕ) → 1 ≤ k → 1 ≤ length (take m s) → length (take m s) < suc a → length (take (m - k) (drop k s)) < a
 rest-shorter k m a s one some h = omega (arith, ap length (drop-take k m s), length-drop k (take m s))
 
-on-cut : (tables : Plan) (a b m : ℕ) (s : List ℕ) (t : Plan) → needed_by t ≤ m → length (take m s) < a → length s < b
-    → read_on a (take m s) tables t ≡ read_on b s tables t
+on-cut : (tables : Tables) (a b m : ℕ) (s : List ℕ) (dt : Option Float) (t : Tables) → needed_by dt t ≤ m → length (take m s) < a → length s < b
+    → read_on a (take m s) tables dt t ≡ read_on b s tables dt t
 unfolding read_on needed_by
-on-cut tables zero b m s t h la lb = absurd (omega arith)
-on-cut tables (suc a) zero m s t h la lb = absurd (omega arith)
-on-cut tables (suc a) (suc b) m s t h la lb =
-    let seen : Bool = t.has_dt in
+on-cut tables zero b m s dt t h la lb = absurd (omega arith)
+on-cut tables (suc a) zero m s dt t h la lb = absurd (omega arith)
+on-cut tables (suc a) (suc b) m s dt t h la lb =
+    let seen : Bool = is_some dt in
     let bodies : ℕ = t.body_count in
     let joints : ℕ = t.joint_count in
-    ap (λ (f : Found). next_of f (take m s) tables t (λ k u. read_on a (drop k (take m s)) tables u))
+    ap (λ (f : Head). next_of f (take m s) tables dt t (λ k x u. read_on a (drop k (take m s)) tables x u))
     (either (λ x. head_of x seen bodies joints) m s (λ l. head-cut m s l seen bodies joints h))
-    ∙ next-cut tables m s t h (λ k u. read_on a (drop k (take m s)) tables u) (λ k u. read_on b (drop k s) tables u)
-    (λ k u one there less.
-    ap (λ (x : List ℕ). read_on a x tables u) (drop-take k m s)
-    ∙ on-cut tables a b (m - k) (drop k s) u less
-    (rest-shorter k m a s one (cut-some m s (omega (arith, mark-needed t h)) (omega arith)) la) (omega (arith, length-drop k s)))
+    ∙ next-cut tables m s dt t h (λ k x u. read_on a (drop k (take m s)) tables x u) (λ k x u. read_on b (drop k s) tables x u)
+    (λ k x u one there less.
+    ap (λ (y : List ℕ). read_on a y tables x u) (drop-take k m s)
+    ∙ on-cut tables a b (m - k) (drop k s) x u less
+    (rest-shorter k m a s one (cut-some m s (omega (arith, mark-needed dt t h)) (omega arith)) la) (omega (arith, length-drop k s)))
     (head_of s seen bodies joints)
     (head-room s seen bodies joints)
 
-pub first-bytes : (m : ℕ) (file : List ℕ) (tables : Plan) → 5756 ≤ m → read_of (take m file) tables ≡ read_of file tables
+pub first-bytes : (m : ℕ) (file : List ℕ) (tables : Tables) → 5756 ≤ m → read_of (take m file) tables ≡ read_of file tables
 unfolding read_of needed needed_by
-first-bytes m file tables h = on-cut tables (suc (length (take m file))) (suc (length file)) m file (emptied tables) (omega arith) (omega arith) (omega arith)
+first-bytes m file tables h =
+    on-cut tables (suc (length (take m file))) (suc (length file)) m file None (emptied tables) (omega arith) (omega arith) (omega arith)

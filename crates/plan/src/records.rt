@@ -1,12 +1,12 @@
 // The records of a plan file, each at the head of a part of it.
-ghost use Rattle.std.specs.Prelude.{◌+◌, ◌*◌, ◌^◌, ◌≤◌, ◌<◌, ◌≡◌, length};
+ghost use Rattle.std.specs.Prelude.{◌+◌, ◌≤◌, ◌≡◌, length};
 ghost use Rattle.std.proofs.Math.Seq.{paste};
-ghost use Rattle.std.specs.Float.{binary64};
-ghost use Rattle.std.specs.Float.Ieee.{of_bits};
 ghost use Rattle.plan.specs.File as File;
 
+use crate::kind::JointKind;
 use crate::layout;
 use rows::geometry::{Joint, JointFrame, Kind};
+use std::num::f64_from_bits_with_nan;
 use vectors::quaternion::Quat;
 use vectors::vector::Vec3;
 
@@ -15,24 +15,24 @@ pub(crate) fn put_body(bodies: &mut [f64], at: usize, file: &[u8])
     requires { (File.BODY ≤ length file.now) × (at + File.DOUBLES ≤ length bodies.old) }
     ensures { bodies.new ≡ paste bodies.old at (File.body_of file.now) File.DOUBLES }
 {
-    let mut i = 0;
-    while i < layout::DOUBLES {
+    for i in 0..layout::DOUBLES {
         bodies[at + i] = double_at(file, layout::NUMBERS + 8 * i);
-        i += 1;
     }
 }
 
 // The joint at the head of the file.
+#[tactic(auto, unfolding(crate::specs::File::joint_of, crate::specs::File::kind_of))]
 pub(crate) fn joint_at(file: &[u8]) -> Joint
     requires { File.JointThere file.now }
     ensures { result ≡ File.joint_of file.now }
 {
+    let kind = JointKind::try_from(file[layout::KIND]).unwrap();
     Joint {
         body_a: file[layout::SIDE_A] as usize,
         body_b: file[layout::SIDE_B] as usize,
         frame_a: frame_at(file, layout::FRAME_A),
         frame_b: frame_at(file, layout::FRAME_B),
-        kind: kind_at(file),
+        kind: kind_at(file, kind),
     }
 }
 
@@ -55,17 +55,18 @@ fn frame_at(file: &[u8], at: usize) -> JointFrame
     }
 }
 
-fn kind_at(file: &[u8]) -> Kind
-    requires { File.JointThere file.now }
-    ensures { result ≡ File.kind_of file.now }
+// What a joint of this kind holds.
+fn kind_at(file: &[u8], kind: JointKind) -> Kind
+    requires { File.joint_length kind ≤ length file.now }
+    ensures { result ≡ File.kind_in file.now kind }
 {
-    match file[layout::KIND] {
-        0 => Kind::Ball,
-        1 => Kind::Hinge,
-        2 => Kind::Cylindrical,
-        3 => Kind::Planar,
-        4 => Kind::Distance(double_at(file, layout::LENGTH)),
-        _ => cone_twist_at(file),
+    match kind {
+        JointKind::Ball => Kind::Ball,
+        JointKind::Hinge => Kind::Hinge,
+        JointKind::Cylindrical => Kind::Cylindrical,
+        JointKind::Planar => Kind::Planar,
+        JointKind::Distance => Kind::Distance(double_at(file, layout::LENGTH)),
+        JointKind::ConeTwist => cone_twist_at(file),
     }
 }
 
@@ -81,22 +82,12 @@ fn cone_twist_at(file: &[u8]) -> Kind
     }
 }
 
+#[tactic(auto, unfolding(crate::specs::File::double))]
 pub(crate) fn double_at(file: &[u8], at: usize) -> f64
     requires { at + 8 ≤ length file.now }
     ensures { result ≡ File.double file.now at }
 {
-    double_of(word_at(file, at))
-}
-
-// The double of a pattern. `from_bits` is not defined at a NaN's pattern, which lies above the infinity's.
-fn double_of(word: u64) -> f64
-    ensures { result ≡ of_bits binary64 word }
-{
-    let magnitude = word % 0x8000_0000_0000_0000;
-    if 0x7ff0_0000_0000_0000 < magnitude {
-        return 0.0 / 0.0;
-    }
-    f64::from_bits(word)
+    f64_from_bits_with_nan(word_at(file, at))
 }
 
 // Eight bytes, the least first.
@@ -104,19 +95,14 @@ fn word_at(file: &[u8], at: usize) -> u64
     requires { at + 8 ≤ length file.now }
     ensures { result ≡ File.word file.now at }
 {
-    let a = join(0, file[at + 7]);
-    let b = join(a, file[at + 6]);
-    let c = join(b, file[at + 5]);
-    let d = join(c, file[at + 4]);
-    let e = join(d, file[at + 3]);
-    let f = join(e, file[at + 2]);
-    let g = join(f, file[at + 1]);
-    join(g, file[at])
-}
-
-fn join(high: u64, low: u8) -> u64
-    requires { high < 2 ^ 56 }
-    ensures { (result ≡ high * 256 + low) × (result < 256 * (high + 1)) }
-{
-    high * 256 + low as u64
+    u64::from_le_bytes([
+        file[at],
+        file[at + 1],
+        file[at + 2],
+        file[at + 3],
+        file[at + 4],
+        file[at + 5],
+        file[at + 6],
+        file[at + 7],
+    ])
 }

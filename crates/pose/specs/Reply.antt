@@ -1,17 +1,13 @@
 -- What `pose` prints on an input.
-use Rattle.std.specs.Prelude.{ℕ, cond, List, [], ◌++◌, length, take, drop, replicate}
+use Rattle.std.specs.Prelude.{ℕ, Result, Ok, Err, List, [], take}
 use Rattle.streams.specs.declared.Input.{Input}
-use Rattle.streams.specs.Receive.{is_failed}
+use Rattle.streams.specs.declared.Unread.{Unread}
 use Rattle.report.specs.Pose.{pose_of, fresh}
-use Rattle.pose.specs.declared.Reply.{Reply}
 
--- after a failed read nothing, else the report on the bytes that came
-unfoldable pub printed : Input → List ℕ
-printed input = cond (is_failed input.got.last) [] (pose_of (take input.got.count input.bytes) fresh).text
+-- the report on the bytes that came, and nothing after a failed read
+abbrev pub answer_to : List ℕ → Result ℕ Unread → List ℕ
+answer_to bytes (Ok count) = (pose_of (take count bytes) fresh).text
+answer_to bytes (Err unread) = []
 
--- a text at the head of 4,096 bytes, 0 behind it, and its length
-abbrev pub holding : List ℕ → Reply
-holding text = record { bytes = text ++ drop (length text) (replicate 4096 0); count = length text }
-
-abbrev pub reply_of : Input → Reply
-reply_of input = holding (printed input)
+abbrev pub printed : Input → List ℕ
+printed input = answer_to input.bytes input.got

@@ -7,66 +7,64 @@
 // is listed in README, "What is left unproved".
 #![tactic(auto)]
 
-ghost use Rattle.std.specs.Prelude.{◌≡◌};
-ghost use Rattle.io.specs.Counts.{IsPrefixLen};
-ghost use Rattle.pose.specs.Reply.{printed, reply_of};
+ghost use Rattle.std.specs.Prelude.{◌≡◌, ◌↔◌, IsErr, IsErrOf};
+ghost use Rattle.std.specs.Io.{ReadsAtMost};
+ghost use Rattle.pose.specs.Reply.{printed};
 
+use std::fmt;
 use std::io::Write;
 use step::layout::SCRATCH;
 use streams::Input;
 
-// A text at the head of its bytes.
-#[derive(Drop)]
-struct Reply {
-    bytes: [u8; 4096],
-    count: usize,
+// What could not be done.
+#[derive(Clone, Copy, Debug)]
+enum Failure {
+    Unread,
+    Unwritten,
+}
+
+impl fmt::Display for Failure {
+    fn fmt<W: fmt::Write>(&self, f: &mut fmt::Formatter<W>) -> fmt::Result {
+        match self {
+            Failure::Unread => write!(f, "standard input could not be read"),
+            Failure::Unwritten => write!(f, "the answer could not be written whole"),
+        }
+    }
 }
 
 fn main(rt: HostRuntime) {
     let mut stdin = rt.stdin();
     let input = streams::receive(&mut stdin);
-    let reply = reply_to(input);
-    let bytes = reply.bytes;
-    let count = reply.count;
-    send(rt, input, &bytes[..count]);
+    let mut room = [0u8; 4096];
+    let text = reply_to(&input, &mut room);
+    if let Err(failure) = send(&rt, &input, text) {
+        let _ = eprintln!(rt; "pose: {failure}");
+    }
 }
 
 // The answer to what was received; after a failed read there is none.
-fn reply_to(input: Input) -> Reply
-    requires { IsPrefixLen input.got.count input.bytes }
-    ensures prefix_len { IsPrefixLen result.count result.bytes }
-    ensures value { result ≡ reply_of input }
+fn reply_to<'a>(input: &Input, room: &'a mut [u8; 4096]) -> &'a [u8]
+    requires { ReadsAtMost input.now.got input.now.bytes }
+    ensures { result.now ≡ printed input.now }
 {
-    let file = input.bytes;
-    let got = input.got;
-    let n = got.count;
-    let last = got.last;
-    let mut bytes = [0u8; 4096];
-    if streams::failed(last) {
-        return Reply { bytes, count: 0 };
+    match &input.got {
+        Ok(n) => {
+            let mut scratch = [0.0f64; SCRATCH];
+            let count = report::pose(&input.bytes[..*n], &mut scratch, room);
+            &room[..count]
+        }
+        Err(_) => &[],
     }
-    let mut scratch = [0.0f64; SCRATCH];
-    let count = report::pose(&file[..n], &mut scratch, &mut bytes);
-    Reply { bytes, count }
 }
 
-// Writes the text for an input; what cannot be read or written is said on standard error.
-fn send(rt: HostRuntime, input: Input, text: &[u8])
-    requires { text.now ≡ printed input }
+// Writes the text for an input; after a failed read nothing is written.
+fn send(rt: &HostRuntime, input: &Input, text: &[u8]) -> Result<(), Failure>
+    requires { text.now ≡ printed input.now }
+    ensures { IsErrOf result Failure.Unread ↔ IsErr input.now.got }
 {
-    let got = input.got;
-    let last = got.last;
-    let mut stderr = rt.stderr();
-    if streams::failed(last) {
-        streams::complain(&mut stderr, b"pose: standard input could not be read\n");
-        return;
+    if input.got.is_err() {
+        return Err(Failure::Unread);
     }
     let mut stdout = rt.stdout();
-    let sent = stdout.write_all(text);
-    if sent.is_err() {
-        streams::complain(
-            &mut stderr,
-            b"pose: the answer could not be written whole\n",
-        );
-    }
+    stdout.write_all(text).map_err(|_| Failure::Unwritten)
 }

@@ -3,7 +3,7 @@ use Prim.Native.Nat.{ℕ, ◌*◌, ◌≤◌}
 use mathlib.Core.Path.{◌≡◌, sym, ◌∙◌, ap}
 use mathlib.Core.List.{List, ◌++◌}
 use native.Mathlib.Omega.{arith}
-use lib.ListN.{length, take, drop, length-append}
+use lib.ListN.{length, take, drop}
 use lib.Seq.{length-take-le, take_at}
 use lib.Ieee.{Float}
 use Rattle.plan.specs.File.{TABLE}
@@ -18,9 +18,6 @@ module _ (table : List Float) (n : ℕ) (long : length table ≡ TABLE) (few : n
   module _ (part : List Float) (kept : length part ≡ length (take (26 * n) table)) where
     pub back : length part ≡ 26 * n
     back = kept ∙ sym part_length
-
-    pub back-within : 26 * n ≤ length (part ++ drop (26 * n) table)
-    back-within = omega (arith, back, length-append part (drop (26 * n) table))
 
     pub back-part : take (26 * n) (part ++ drop (26 * n) table) ≡ part
     back-part = take_at part (drop (26 * n) table) (26 * n) back

@@ -1,69 +1,23 @@
 -- Text put into a slice piece by piece.
 use Prim.Native.Nat.{ℕ, zero, suc, ◌+◌, ◌-◌, ◌*◌, ◌/◌, ◌^◌, ◌≤◌, ◌<◌}
-use mathlib.Core.Path.{◌≡◌, refl, sym, ◌∙◌, ap, subst}
-use mathlib.Core.Bool.{Bool, true, false, not, beq}
-use mathlib.Core.List.{List, [], ◌∷◌, ◌++◌, append_assoc, append-nil}
+use mathlib.Core.Path.{◌≡◌, sym, ◌∙◌, ap, subst}
+use mathlib.Core.List.{List, [], ◌∷◌, ◌++◌, append_assoc}
 use native.Mathlib.Nat.{add_assoc, add-zero, zero-add, le_trans, pow-suc, pow-le-pow_right, div-lt_iff_lt-mul, le-div_iff_mul-le}
 use native.Mathlib.Decide.{dec_lt}
 use mathlib.Core.Logic.{◌⊎◌, inl, inr}
-use native.Mathlib.Numerals.{add-one}
 use native.Mathlib.Omega.{arith}
-use lib.Dec.{T}
-use lib.ListN.{length, get_or, set, take, drop, length-append, length-drop}
-use lib.Seq.{paste, paste-zero, paste-suc, take_all, take_at, drop_at, drop-drop, length-take-le}
-use lib.Ieee.{Float, nan, inf, fin, up, down, is_nan, eq, binary64, to_bits}
-use borrow.Author.Tests.{lt-ltb, le-ltb, lt-leb, le-leb, eq-eqb, ne_eqb}
-use Rattle.io.specs.Counts.{IsPrefixLen}
+use lib.ListN.{length, get_or, take, drop, length-append, length-drop}
+use lib.Seq.{paste-zero, take_at, drop_at, drop-drop, length-take-le}
+use lib.Ieee.{Float, nan, binary64, to_bits}
+use borrow.Author.Tests.{lt-ltb, le-ltb, le-leb}
+use Rattle.std.specs.Prelude.{Ok, Err}
+use Rattle.std.proofs.Common.{get_or-take}
+use Rattle.std.proofs.lemmas.List.{get_or-drop}
 use Rattle.io.specs.Digits.{last_digits, IsDigitCount}
 use Rattle.report.specs.Text.{written, Puts, places, decimal_of, hex_of, field_of, counts_of, fields_of, body_line, body_lines, ok_line}
-use Rattle.report.specs.Text.{no_line, head_line, HEAD_LINE, BODY_LINE, report_of, room_of, report_length, report_out}
+use Rattle.report.specs.Text.{Answer, no_line, head_line, HEAD_LINE, BODY_LINE, report_of, room_of, report_length, report_out}
 use Rattle.arith.specs.Flow.{turns}
-use Rattle.report.specs.TextLaws.{decimal-length, hex-length, fields-more, fields-length, lines_more, lines-length, head-length, report-fits}
-
--- ---- a NaN is what does not equal itself
-same : (b : Bool) → beq b b ≡ true
-same true = refl
-same false = refl
-
-equal : (x : Float) → is_nan x ≡ false → eq x x ≡ true
-unfolding eq is_nan
-equal nan h = sym h
-equal (inf s) h = same s
-equal (fin s m e) h = simp (eq-eqb (m * up e * down e) (m * up e * down e) refl, same s)
-
-pub number : (x : Float) → eq x x ≡ true → T (not (is_nan x))
-unfolding eq is_nan
-number nan h = absurd (subst T (sym h) tt)
-number (inf s) h = tt
-number (fin s m e) h = tt
-
-pub no_number : (x : Float) → eq x x ≡ false → 0x7ff8_0000_0000_0000 ≡ to_bits binary64 x
-unfolding eq is_nan to_bits
-no_number nan h = refl
-no_number (inf s) h = absurd (subst T (sym (equal (inf s) refl) ∙ h) tt)
-no_number (fin s m e) h = absurd (subst T (sym (equal (fin s m e) refl) ∙ h) tt)
-
--- ---- the loop that copies a text
-module _ (out : List ℕ) (at : ℕ) (text : List ℕ) where
-  pub copy-none : out ≡ paste out at text 0
-  copy-none = paste-zero out at text
-
-  pub copy_more : (i : ℕ) {now : List ℕ} → at + length text ≤ length out → i < length text → now ≡ paste out at text i
-      → set now (at + i) (get_or text i 0) ≡ paste out at text (i + 1)
-  copy_more i h g e =
-      ap (λ (l : List ℕ). set l (at + i) (get_or text i 0)) e ∙ paste-suc out at text i 0 (omega arith) g ∙ ap (paste out at text) (sym (add-one i))
-
-  pub copy-end : (i : ℕ) {now : List ℕ} → at + length text ≤ length out → i ≤ length text → length text ≤ i → now ≡ paste out at text i
-      → Puts out at text now (at + length text)
-  copy-end i fit h g e =
-      let all : i ≡ length text = omega arith in
-      record {
-        ends = refl;
-        within = fit;
-        holds =
-            e ∙ ap (paste out at text) all
-            ∙ ap (λ (l : List ℕ). take at out ++ l ++ drop (at + length text) out) (take_all (length text) text (omega arith));
-      }
+use Rattle.report.specs.TextLaws.{decimal-length, fields-more, fields-length, lines_more, lines-length, ok-length, report-fits}
 
 -- ---- one text after another
 module _ (out : List ℕ) (at : ℕ) (s : List ℕ) (h : at + length s ≤ length out) where
@@ -177,17 +131,11 @@ module _ (n : ℕ) {k : ℕ} {t : List ℕ} (h : n < 2 ^ 64) (g : IsDigitCount 1
   pub decimal-text : t ≡ decimal_of n
   decimal-text = e ∙ decimal-is n k h g
 
-  pub decimal-room : (out : List ℕ) (at : ℕ) → at + 20 ≤ length out → at + length t ≤ length out
-  decimal-room out at room = omega (arith, ap length decimal-text, decimal-length n)
-
 module _ (x : Float) {n k : ℕ} {t : List ℕ} (h : n < 2 ^ 64) (i : n ≡ to_bits binary64 x) (g : IsDigitCount 16 16 n k) (e : t ≡ last_digits 16 k n) where
   pub hex-text : t ≡ hex_of x
   hex-text = e ∙ hex-is x n k h i g
 
   module _ {out : List ℕ} {at : ℕ} {one : List ℕ} {a : ℕ} (p : Puts out at (32 ∷ []) one a) where
-    pub hex-room : at + 17 ≤ length out → a + length t ≤ length one
-    hex-room room = omega (arith, ap length hex-text, hex-length x, left p 1 16 (omega arith) room)
-
     pub hex-puts : {two : List ℕ} {r : ℕ} → Puts one a t two r → Puts out at (field_of x) two r
     unfolding field_of
     hex-puts q = puts_then p (puts-as hex-text q)
@@ -210,10 +158,7 @@ module _ (n : ℕ) {out : List ℕ} {at : ℕ} (room : at + 42 ≤ length out) {
       unfolding counts_of
       counts-puts l = puts_then (puts_then (puts_then p q) r) l
 
-module _ {out : List ℕ} (room : HEAD_LINE ≤ length out) {one : List ℕ} {a : ℕ} (p : Puts out 0 (78 ∷ 79 ∷ 32 ∷ []) one a) where
-  pub no-after-word : a + 20 ≤ length one
-  no-after-word = left p 3 20 (omega arith) (omega arith)
-
+module _ {out : List ℕ} {at : ℕ} (room : at + HEAD_LINE ≤ length out) {one : List ℕ} {a : ℕ} (p : Puts out at (78 ∷ 79 ∷ 32 ∷ []) one a) where
   module _ (number : ℕ) {two : List ℕ} {b : ℕ} (q : Puts one a (decimal_of number) two b) where
     pub no-after-number : b + 1 ≤ length two
     no-after-number = left (puts_then p q) 23 1 (simp length-append (omega (arith, decimal-length number))) (omega arith)
@@ -222,23 +167,14 @@ module _ {out : List ℕ} (room : HEAD_LINE ≤ length out) {one : List ℕ} {a 
       pub no-after-space : d + 42 ≤ length three
       no-after-space = left (puts_then (puts_then p q) r) 24 42 (simp length-append (omega (arith, decimal-length number))) (omega arith)
 
-      pub no-puts : (n m : ℕ) {four : List ℕ} {e : ℕ} → Puts three d (counts_of n m) four e → Puts out 0 (no_line number n m) four e
+      pub no-puts : (n m : ℕ) {four : List ℕ} {e : ℕ} → Puts three d (counts_of n m) four e → Puts out at (no_line number n m) four e
       unfolding no_line
       no-puts n m l = puts_then (puts_then (puts_then p q) r) l
 
-pub ok-puts : (n m : ℕ) {out one two : List ℕ} {a b : ℕ} → Puts out 0 (79 ∷ 75 ∷ 32 ∷ []) one a → Puts one a (counts_of n m) two b
-    → Puts out 0 (ok_line n m) two b
+pub ok-puts : (n m : ℕ) {out one two : List ℕ} {at a b : ℕ} → Puts out at (79 ∷ 75 ∷ 32 ∷ []) one a → Puts one a (counts_of n m) two b
+    → Puts out at (ok_line n m) two b
 unfolding ok_line
 ok-puts n m p q = puts_then p q
-
-module _ (number n m : ℕ) {out after : List ℕ} {r : ℕ} where
-  pub head_ok : number ≡ 0 → Puts out 0 (ok_line n m) after r → Puts out 0 (head_line number n m) after r
-  unfolding head_line
-  head_ok e p = puts-as (simp (eq-eqb _ _ e)) p
-
-  pub head-no : (number ≡ 0 → ⊥) → Puts out 0 (no_line number n m) after r → Puts out 0 (head_line number n m) after r
-  unfolding head_line
-  head-no e p = puts-as (simp (ne_eqb _ _ e)) p
 
 module _ (bodies : List Float) where
   module _ (i : ℕ) {out : List ℕ} {at : ℕ} (room : at + BODY_LINE ≤ length out) {one : List ℕ} {a : ℕ} (p : Puts out at (decimal_of i) one a) where
@@ -252,6 +188,13 @@ module _ (bodies : List Float) where
       pub line-puts : {three : List ℕ} {d : ℕ} → Puts two b (10 ∷ []) three d → Puts out at (body_line bodies i) three d
       unfolding body_line
       line-puts l = puts_then (puts_then p q) l
+
+  -- double k of those from a place on
+  pub from-at : (from n k : ℕ) → from + n ≤ length bodies → k < length (take n (drop from bodies))
+      → get_or (take n (drop from bodies)) k nan ≡ get_or bodies (from + k) nan
+  from-at from n k h g =
+      let within : n ≤ length (drop from bodies) = omega (arith, length-drop from bodies) in
+      get_or-take n (drop from bodies) k nan (omega (arith, length-take-le n (drop from bodies) within)) ∙ get_or-drop from bodies k nan
 
   -- the two loops
   module _ (from : ℕ) {out : List ℕ} {at : ℕ} (room : at + 221 ≤ length out) where
@@ -267,9 +210,6 @@ module _ (bodies : List Float) where
           → Puts out at (fields_of bodies from (k + 1)) after r
       fields-puts q = puts-as (fields-more bodies from k) (puts_then p q)
 
-      pub numbers-end : k ≤ 13 → 13 ≤ k → Puts out at (fields_of bodies from 13) now next
-      numbers-end h g = let all : k ≡ 13 = omega arith in puts-as (ap (fields_of bodies from) all) p
-
   module _ (body-count : ℕ) {out : List ℕ} {at : ℕ} (room : at + BODY_LINE * body-count ≤ length out) where
     pub lines_none : Puts out at (body_lines bodies 0) out at
     unfolding body_lines turns
@@ -282,50 +222,32 @@ module _ (bodies : List Float) where
       pub lines-puts : {after : List ℕ} {r : ℕ} → Puts now next (body_line bodies i) after r → Puts out at (body_lines bodies (i + 1)) after r
       lines-puts q = puts-as (lines_more bodies i) (puts_then p q)
 
-      pub lines_end : i ≤ body-count → body-count ≤ i → Puts out at (body_lines bodies body-count) now next
-      lines_end h g = let all : i ≡ body-count = omega arith in puts-as (ap (body_lines bodies) all) p
-
 -- ---- the whole report
-module _ (number n m : ℕ) (bodies : List Float) (out : List ℕ) where
-  -- what `report` ensures of its answer r and of out as it leaves it
-  abbrev pub Reports : List ℕ → ℕ → Type 0
-  Reports after r = IsPrefixLen r after × ((r ≡ report_length number n m bodies out) × (after ≡ report_out number n m bodies out))
+module _ (answer : Answer) (n m : ℕ) (out : List ℕ) where
+  module _ (room : room_of answer ≤ length out) {after : List ℕ} {r : ℕ} where
+    -- where there is room for it, the report is put whole
+    pub report-puts : r ≡ report_length answer n m out → after ≡ report_out answer n m out → Puts out 0 (report_of answer n m) after r
+    report-puts e h =
+        let text : List ℕ = report_of answer n m in
+        let whole : r ≡ length text = e ∙ simp (le-leb (room_of answer) (length out) room) in
+        record {
+          ends = whole ∙ sym (zero-add (length text));
+          within = omega (arith, report-fits answer n m);
+          holds = h ∙ simp (le-leb (room_of answer) (length out) room) (ap (λ (k : ℕ). text ++ drop k out) (sym (zero-add (length text))));
+        }
 
-  pub report-none : length out < room_of bodies → Reports out 0
-  report-none h = ((omega arith, refl), (simp (lt-leb (room_of bodies) (length out) h), simp (lt-leb (room_of bodies) (length out) h)))
+-- an accepted step: the first line, then the bodies
+module _ (bodies : List Float) (n m : ℕ) {out : List ℕ} {at : ℕ} (room : at + room_of (Ok bodies) ≤ length out) {one : List ℕ} {a : ℕ}
+    (p : Puts out at (ok_line n m) one a) where
+  pub bodies-room : a + BODY_LINE * (length bodies / 26) ≤ length one
+  bodies-room = left p HEAD_LINE (BODY_LINE * (length bodies / 26)) (ok-length n m) (omega arith)
 
-  pub report-room : room_of bodies ≤ length out → {one : List ℕ} {a : ℕ} → Puts out 0 (head_line number n m) one a
-      → a + BODY_LINE * (length bodies / 26) ≤ length one
-  report-room room p = left p HEAD_LINE (BODY_LINE * (length bodies / 26)) (head-length number n m) (omega arith)
+  pub accepted-puts : {after : List ℕ} {r : ℕ} → Puts one a (body_lines bodies (length bodies / 26)) after r → Puts out at (report_of (Ok bodies) n m) after r
+  unfolding report_of head_line
+  accepted-puts q = puts_then p q
 
-  module _ (room : room_of bodies ≤ length out) {after : List ℕ} {r : ℕ} where
-    report-some : Puts out 0 (report_of number n m bodies) after r → Reports after r
-    report-some p =
-        let text : List ℕ = report_of number n m bodies in
-        let within : r ≤ length after = omega (arith, p.within, same_length p) in (
-          (within, sym (length-take-le r after within)),
-          (
-            simp (le-leb (room_of bodies) (length out) room) (p.ends ∙ zero-add (length text)),
-            simp (le-leb (room_of bodies) (length out) room) (p.holds ∙ ap (λ (k : ℕ). text ++ drop k out) (zero-add (length text))),
-          ),
-        )
-
-    pub report-bodies : number ≡ 0 → {one : List ℕ} {a : ℕ} → Puts out 0 (head_line number n m) one a
-        → Puts one a (body_lines bodies (length bodies / 26)) after r → Reports after r
-    unfolding report_of
-    report-bodies e p q = report-some (puts-as (simp (eq-eqb _ _ e)) (puts_then p q))
-
-    pub report-head : (number ≡ 0 → ⊥) → Puts out 0 (head_line number n m) after r → Reports after r
-    unfolding report_of
-    report-head e p = report-some (puts-as (simp (ne_eqb _ _ e) (sym (append-nil (head_line number n m)))) p)
-
-  -- where there is room for it, the report is put whole
-  pub report-puts : room_of bodies ≤ length out → {after : List ℕ} {r : ℕ} → Reports after r → Puts out 0 (report_of number n m bodies) after r
-  report-puts room {after} {r} p =
-      let text : List ℕ = report_of number n m bodies in
-      let whole : r ≡ length text = p.1.0 ∙ simp (le-leb (room_of bodies) (length out) room) in
-      record {
-        ends = whole ∙ sym (zero-add (length text));
-        within = omega (arith, report-fits number n m bodies);
-        holds = p.1.1 ∙ simp (le-leb (room_of bodies) (length out) room) (ap (λ (k : ℕ). text ++ drop k out) (sym (zero-add (length text))));
-      }
+-- a refusal: one line
+pub refused-puts : (number n m : ℕ) {out after : List ℕ} {at r : ℕ} → Puts out at (no_line number n m) after r
+    → Puts out at (report_of (Err number) n m) after r
+unfolding report_of head_line
+refused-puts number n m p = p

@@ -1,15 +1,15 @@
 -- What `pose` does with a plan file: its bytes in, the bytes of the report out.
 -- File says what a file holds and which refusal it meets, step/specs/Step what the step does, Text what is printed.
-use Rattle.std.specs.Prelude.{ℕ, ◌*◌, List, [], cond, leb, eqb, length, take, replicate, Float}
+use Rattle.std.specs.Prelude.{ℕ, ◌*◌, List, cond, leb, length, take, replicate, Float, Result, Ok, Err}
 use Rattle.std.specs.Float.{binary64}
 use Rattle.std.specs.Float.Ieee.{of_bits}
 use Rattle.step.specs.Records.{RECORD, SCRATCH}
+use Rattle.step.specs.declared.Refusal.{Refusal}
 use Rattle.step.specs.Checks.{number_of}
 use Rattle.step.specs.Step.{Stepped, solve_of}
 use Rattle.plan.specs.declared.reader.Plan.{Plan}
-use Rattle.plan.specs.declared.reader.Reading.{Reading}
-use Rattle.plan.specs.File.{read_number, empty_of, read_of}
-use Rattle.report.specs.Text.{report_of, length_in, text_in}
+use Rattle.plan.specs.File.{read_number, Reading, empty_of, read_of}
+use Rattle.report.specs.Text.{Answer, report_of, length_in, text_in}
 
 -- a report, and what the scratch holds after it
 pub record Posed : Type 0 where
@@ -18,17 +18,23 @@ pub record Posed : Type 0 where
 
 -- a step of the bodies and joints that were read, over the scratch that is lent
 unfoldable pub step_of : Plan → List Float → Stepped
-step_of plan scratch = solve_of (take (RECORD * plan.body_count) plan.bodies) plan.joints plan.joint_count plan.dt scratch
+step_of plan scratch =
+    let joints = take plan.tables.joint_count plan.tables.joints in
+    solve_of (take (RECORD * plan.tables.body_count) plan.tables.bodies) joints (length joints) plan.dt scratch
 
--- an accepted step has the number 0 and its bodies are printed; refusals 1 to 12 print their number; both print the counts
+-- an accepted step shows its bodies, and refusals 1 to 12 their number
+abbrev pub shown_of : Result (Unit {0}) Refusal → List Float → Answer
+shown_of (Ok _) bodies = Ok bodies
+shown_of (Err refusal) bodies = Err (number_of (Err refusal))
+
+-- both print the counts
 abbrev pub posed_after : Stepped → Posed
-posed_after s = record { text = report_of (number_of s.outcome) s.nonlinear s.linear s.bodies; scratch = s.scratch }
+posed_after s = record { text = report_of (shown_of s.outcome s.bodies) s.nonlinear s.linear; scratch = s.scratch }
 
 -- a file that was read is stepped; after refusals 13 to 18 there is no step, and both counts are 0
 abbrev pub posed_by : Reading → List Float → Posed
-posed_by reading scratch =
-    cond (eqb (read_number reading.outcome) 0) (posed_after (step_of reading.plan scratch))
-    (record { text = report_of (read_number reading.outcome) 0 0 []; scratch = scratch })
+posed_by (Ok plan) scratch = posed_after (step_of plan scratch)
+posed_by (Err refusal) scratch = record { text = report_of (Err (read_number refusal.error)) 0 0; scratch = scratch }
 
 unfoldable pub pose_of : List ℕ → List Float → Posed
 pose_of file scratch = posed_by (read_of file empty_of) scratch

@@ -1,8 +1,7 @@
 -- Laws of what `pose` does: the first 5,756 bytes of a file decide its report, and the report is put whole where there is room.
 use Rattle.std.specs.Prelude.{ℕ, ◌≤◌, ◌≡◌, List, ◌++◌, length, take, drop, Float}
 use Rattle.std.proofs.Common.{sym, ◌∙◌, ap, take_at, le-leb}
-use Rattle.plan.specs.declared.reader.Reading.{Reading}
-use Rattle.plan.specs.File.{empty_of}
+use Rattle.plan.specs.File.{Reading, empty_of}
 use Rattle.plan.specs.FirstBytes.{first-bytes}
 use Rattle.report.specs.Pose.{posed_by, pose_of, ROOM, pose_length, pose_out}
 

@@ -1,10 +1,12 @@
 -- The text that answers a plan, as ASCII codes: one line of the outcome and the counts, then a line for each body.
-use Rattle.std.specs.Prelude.{ℕ, zero, suc, ◌+◌, ◌*◌, ◌/◌, ◌≤◌, List, [], ◌∷◌, ◌++◌, cond, ◌≡◌, ltb, leb, eqb, length, get_or, take, drop, Float}
+use Rattle.std.specs.Prelude.{ℕ, zero, suc, ◌+◌, ◌*◌, ◌/◌, ◌≤◌, List, [], ◌∷◌, ◌++◌, cond, ◌≡◌, ltb, leb, length, get_or, take, drop, Float, Result, Ok, Err}
+use Rattle.std.specs.Borrow.{Bor}
 use Rattle.std.specs.Float.{nan, binary64}
 use Rattle.std.specs.Float.Ieee.{to_bits}
 use Rattle.io.specs.Digits.{last_digits}
 use Rattle.arith.specs.Flow.{turns}
 use Rattle.step.specs.Records.{RECORD, MOVING}
+use Rattle.report.specs.declared.text.Page.{Page}
 
 -- how many digits n has in base ten, where at most k + 1
 unfoldable pub places : ℕ → ℕ → ℕ
@@ -46,14 +48,30 @@ ok_line nonlinear linear = (79 ∷ 75 ∷ 32 ∷ []) ++ counts_of nonlinear line
 unfoldable pub no_line : ℕ → ℕ → ℕ → List ℕ
 no_line number nonlinear linear = (78 ∷ 79 ∷ 32 ∷ []) ++ decimal_of number ++ (32 ∷ []) ++ counts_of nonlinear linear
 
--- the first line: accepted where the number is 0
-unfoldable pub head_line : ℕ → ℕ → ℕ → List ℕ
-head_line number nonlinear linear = cond (eqb number 0) (ok_line nonlinear linear) (no_line number nonlinear linear)
+-- ---- the report
+-- the bodies of an accepted step, or the number of a refusal
+abbrev pub Answer : Type 0
+Answer = Result (List Float) ℕ
 
--- the lines of the bodies, which an accepted step has
-unfoldable pub report_of : ℕ → ℕ → ℕ → List Float → List ℕ
-report_of number nonlinear linear bodies =
-    head_line number nonlinear linear ++ cond (eqb number 0) (body_lines bodies (length bodies / RECORD)) []
+-- the same, where the bodies are a slice
+abbrev pub told : Result (Bor (List Float)) ℕ → Answer
+told (Ok bodies) = Ok bodies.now
+told (Err number) = Err number
+
+-- the first line
+unfoldable pub head_line : Answer → ℕ → ℕ → List ℕ
+head_line (Ok bodies) nonlinear linear = ok_line nonlinear linear
+head_line (Err number) nonlinear linear = no_line number nonlinear linear
+
+-- how many bodies there are lines for
+abbrev pub count_in : Answer → ℕ
+count_in (Ok bodies) = length bodies / RECORD
+count_in (Err number) = 0
+
+-- the first line, and the lines of the bodies of an accepted step
+unfoldable pub report_of : Answer → ℕ → ℕ → List ℕ
+report_of (Ok bodies) nonlinear linear = head_line (Ok bodies) nonlinear linear ++ body_lines bodies (length bodies / RECORD)
+report_of (Err number) nonlinear linear = head_line (Err number) nonlinear linear
 
 -- ---- where it goes
 -- the longest first line, and the longest line of a body
@@ -63,9 +81,9 @@ HEAD_LINE = 66
 abbrev pub BODY_LINE : ℕ
 BODY_LINE = 242
 
--- the space that any report of these bodies fits
-abbrev pub room_of : List Float → ℕ
-room_of bodies = HEAD_LINE + BODY_LINE * (length bodies / RECORD)
+-- the space that any report of this answer fits
+abbrev pub room_of : Answer → ℕ
+room_of answer = HEAD_LINE + BODY_LINE * count_in answer
 
 -- out with the text at a place in it
 abbrev pub written : List ℕ → ℕ → List ℕ → List ℕ
@@ -77,6 +95,11 @@ pub record Puts (out : List ℕ) (at : ℕ) (text after : List ℕ) (r : ℕ) : 
   pub within : r ≤ length out
   pub holds : after ≡ written out at text
 
+-- the text has been put on a page, which is of the same slice
+pub record Writes (old : Page) (text : List ℕ) (new : Page) : Type 0 where
+  pub same : new.out.ghost_name ≡ old.out.ghost_name
+  pub puts : Puts old.out.now old.at text new.out.now new.at
+
 -- a report in a slice with room for it; in any other nothing is written, and the length is 0
 abbrev pub length_in : List ℕ → ℕ → List ℕ → ℕ
 length_in out room text = cond (leb room (length out)) (length text) 0
@@ -84,8 +107,8 @@ length_in out room text = cond (leb room (length out)) (length text) 0
 abbrev pub text_in : List ℕ → ℕ → List ℕ → List ℕ
 text_in out room text = cond (leb room (length out)) (text ++ drop (length text) out) out
 
-abbrev pub report_length : ℕ → ℕ → ℕ → List Float → List ℕ → ℕ
-report_length number nonlinear linear bodies out = length_in out (room_of bodies) (report_of number nonlinear linear bodies)
+abbrev pub report_length : Answer → ℕ → ℕ → List ℕ → ℕ
+report_length answer nonlinear linear out = length_in out (room_of answer) (report_of answer nonlinear linear)
 
-abbrev pub report_out : ℕ → ℕ → ℕ → List Float → List ℕ → List ℕ
-report_out number nonlinear linear bodies out = text_in out (room_of bodies) (report_of number nonlinear linear bodies)
+abbrev pub report_out : Answer → ℕ → ℕ → List ℕ → List ℕ
+report_out answer nonlinear linear out = text_in out (room_of answer) (report_of answer nonlinear linear)

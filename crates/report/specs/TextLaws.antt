@@ -1,6 +1,6 @@
 -- Laws of the report's text: how long each piece is, and that the room for a report is enough.
 use Prim.Native.Nat.{ℕ, zero, suc, ◌+◌, ◌*◌, ◌/◌, ◌%◌, ◌≤◌}
-use Rattle.std.specs.Prelude.{◌≡◌, Bool, true, false, cond, List, [], ◌∷◌, ◌++◌, ltb, eqb, length, get_or, Float}
+use Rattle.std.specs.Prelude.{◌≡◌, Bool, true, false, cond, List, [], ◌∷◌, ◌++◌, ltb, length, get_or, Float, Ok, Err}
 use Rattle.std.proofs.Math.Path.{refl}
 use Rattle.std.proofs.Common.{◌∙◌, ap, add-one}
 use native.Mathlib.Omega.{arith}
@@ -10,7 +10,7 @@ use Rattle.std.specs.Float.Ieee.{to_bits}
 use Rattle.io.specs.Digits.{last_digits, hex_digit_ascii}
 use Rattle.arith.specs.Flow.{turns}
 use Rattle.report.specs.Text.{places, decimal_of, hex_of, field_of, counts_of, fields_of, body_line, body_lines, ok_line, no_line, head_line, report_of}
-use Rattle.report.specs.Text.{room_of, HEAD_LINE, BODY_LINE}
+use Rattle.report.specs.Text.{Answer, room_of, HEAD_LINE, BODY_LINE}
 
 -- ---- digits
 pub digits-length : (b k n : ℕ) → length (last_digits b k n) ≡ k
@@ -69,7 +69,7 @@ module _ (bodies : List Float) where
   lines-length (suc n) = simp length-append (omega (arith, lines-length n, line-length n))
 
 -- ---- the room for a report is enough
-ok-length : (n m : ℕ) → length (ok_line n m) ≤ HEAD_LINE
+pub ok-length : (n m : ℕ) → length (ok_line n m) ≤ HEAD_LINE
 unfolding ok_line
 ok-length n m = simp length-append (omega (arith, counts-length n m))
 
@@ -77,18 +77,12 @@ no_length : (number n m : ℕ) → length (no_line number n m) ≤ HEAD_LINE
 unfolding no_line
 no_length number n m = simp length-append (omega (arith, decimal-length number, counts-length n m))
 
-pub head-length : (number n m : ℕ) → length (head_line number n m) ≤ HEAD_LINE
+pub head-length : (answer : Answer) (n m : ℕ) → length (head_line answer n m) ≤ HEAD_LINE
 unfolding head_line
-head-length number n m = by (eqb number 0)
-  where
-    by : (b : Bool) → length (cond b (ok_line n m) (no_line number n m)) ≤ HEAD_LINE
-    by true = ok-length n m
-    by false = no_length number n m
+head-length (Ok bodies) n m = ok-length n m
+head-length (Err number) n m = no_length number n m
 
-pub report-fits : (number n m : ℕ) (bodies : List Float) → length (report_of number n m bodies) ≤ room_of bodies
+pub report-fits : (answer : Answer) (n m : ℕ) → length (report_of answer n m) ≤ room_of answer
 unfolding report_of
-report-fits number n m bodies = by (eqb number 0)
-  where
-    by : (b : Bool) → length (head_line number n m ++ cond b (body_lines bodies (length bodies / 26)) []) ≤ room_of bodies
-    by true = simp length-append (omega (arith, head-length number n m, lines-length bodies (length bodies / 26)))
-    by false = simp length-append (omega (arith, head-length number n m))
+report-fits (Ok bodies) n m = simp length-append (omega (arith, head-length (Ok bodies) n m, lines-length bodies (length bodies / 26)))
+report-fits (Err number) n m = omega (arith, head-length (Err number) n m)

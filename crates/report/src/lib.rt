@@ -8,7 +8,8 @@ ghost use Rattle.io.specs.Counts.{IsPrefixLen};
 ghost use Rattle.report.specs.Pose as Pose;
 ghost use Rattle.report.specs.Text as Text;
 
-use plan::reader::Plan;
+use crate::text::Counts;
+use plan::reader::{Plan, Tables};
 use step::layout::RECORD;
 
 // Room enough for every answer: the first line, and sixteen bodies.
@@ -25,37 +26,37 @@ pub fn pose(file: &[u8], scratch: &mut [f64], out: &mut [u8]) -> usize
     if out.len() < ROOM {
         return 0;
     }
-    let reading = plan::reader::read(file, plan::reader::empty());
-    let outcome = reading.outcome;
-    let number = plan::reader::number(outcome);
-    if number == 0 {
-        return step_and_report(reading.plan, scratch, out);
+    let no_passes = Counts {
+        nonlinear: 0,
+        linear: 0,
+    };
+    match plan::reader::read(file, Tables::default()) {
+        Ok(plan) => step_and_report(plan, scratch, out),
+        Err(refused) => text::report(Err(refused.error.number()), no_passes, out),
     }
-    text::report(number, 0, 0, &[], out)
 }
 
 fn step_and_report(plan: Plan, scratch: &mut [f64], out: &mut [u8]) -> usize
-    requires { (plan.body_count ≤ 16) × (Pose.ROOM ≤ length out.old) }
+    requires { (plan.tables.body_count ≤ 16) × (plan.tables.joint_count ≤ 16) × (Pose.ROOM ≤ length out.old) }
     ensures puts { Text.Puts out.old 0 (Pose.posed_after (Pose.step_of plan scratch.old)).text out.new result }
     ensures scratch_after { scratch.new ≡ (Pose.posed_after (Pose.step_of plan scratch.old)).scratch }
 {
-    let mut bodies = plan.bodies;
-    let joints = plan.joints;
-    let used = RECORD * plan.body_count;
+    let tables = plan.tables;
+    let mut bodies = tables.bodies;
+    let joints = tables.joints;
+    let used = RECORD * tables.body_count;
     let answer = step::solve(
         &mut bodies[..used],
-        joints,
-        plan.joint_count,
+        &joints[..tables.joint_count],
         plan.dt,
         scratch,
     );
-    let outcome = answer.outcome;
-    let number = step::number(outcome);
-    text::report(
-        number,
-        answer.nonlinear,
-        answer.linear,
-        &bodies[..used],
-        out,
-    )
+    let counts = Counts {
+        nonlinear: answer.nonlinear,
+        linear: answer.linear,
+    };
+    match answer.outcome {
+        Ok(()) => text::report(Ok(&bodies[..used]), counts, out),
+        Err(refusal) => text::report(Err(refusal.number()), counts, out),
+    }
 }

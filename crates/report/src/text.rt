@@ -1,11 +1,10 @@
 // The text that answers a plan: one line of the outcome and the counts, then a line for each body.
-ghost use Rattle.std.specs.Prelude.{◌+◌, ◌*◌, ◌/◌, ◌≤◌, ◌<◌, ◌≡◌, length};
-ghost use Rattle.std.specs.Float.{binary64};
-ghost use Rattle.std.specs.Float.Ieee.{to_bits};
+ghost use Rattle.std.specs.Prelude.{◌+◌, ◌*◌, ◌≤◌, ◌≡◌, length};
 ghost use Rattle.io.specs.Counts.{IsPrefixLen};
 ghost use Rattle.step.specs.Records.{RECORD};
 ghost use Rattle.report.specs.Text as Text;
 
+use std::num::f64_to_bits_with_nan;
 use step::layout::RECORD;
 
 // The longest first line, and the longest line of a body: a count has at most 20 digits.
@@ -13,149 +12,144 @@ const HEAD_LINE: usize = 66;
 
 const BODY_LINE: usize = 242;
 
-// Puts the report at the head of `out`, and answers its length. A step is accepted where its number is 0, and then the
-// bodies are reported, as many as there are records of 26 doubles. Where `out` may be too short nothing is written, and
-// the answer is 0.
-pub fn report(
-    number: usize,
-    nonlinear: usize,
-    linear: usize,
-    bodies: &[f64],
-    out: &mut [u8],
-) -> usize
+// The nonlinear passes begun, and the linear passes counted.
+#[derive(Clone, Copy)]
+pub struct Counts {
+    pub nonlinear: usize,
+    pub linear: usize,
+}
+
+// Puts the report at the head of `out`, and answers its length. An accepted step has bodies, as many as there are records of
+// 26 doubles; a refusal has its number. Where `out` may be too short nothing is written, and the answer is 0.
+pub fn report(answer: Result<&[f64], usize>, counts: Counts, out: &mut [u8]) -> usize
     ensures prefix_len { IsPrefixLen result out.new }
-    ensures value { result ≡ Text.report_length number nonlinear linear bodies.now out.old }
-    ensures out_after { out.new ≡ Text.report_out number nonlinear linear bodies.now out.old }
+    ensures value { result ≡ Text.report_length (Text.told answer.entry) counts.nonlinear counts.linear out.old }
+    ensures out_after { out.new ≡ Text.report_out (Text.told answer.entry) counts.nonlinear counts.linear out.old }
 {
-    let body_count = bodies.len() / RECORD;
-    if out.len() < HEAD_LINE {
+    if out.len() < HEAD_LINE || (out.len() - HEAD_LINE) / BODY_LINE < body_count(answer) {
         return 0;
     }
-    if (out.len() - HEAD_LINE) / BODY_LINE < body_count {
-        return 0;
+    let mut page = Page { out, at: 0 };
+    page.put_report(answer, counts);
+    page.at
+}
+
+// How many bodies have a line.
+fn body_count(answer: Result<&[f64], usize>) -> usize
+    ensures { result ≡ Text.count_in (Text.told answer.entry) }
+{
+    match answer {
+        Ok(bodies) => bodies.len() / RECORD,
+        Err(_) => 0,
     }
-    let next = put_head(out, number, nonlinear, linear);
-    if number == 0 {
-        return put_bodies(out, next, bodies, body_count);
+}
+
+// A text that is put piece by piece: the next piece goes to `at`.
+#[derive(Drop)]
+struct Page<'a> {
+    out: &'a mut [u8],
+    at: usize,
+}
+
+impl<'a> Page<'a> {
+    fn put_report(&mut self, answer: Result<&[f64], usize>, counts: Counts)
+        requires { self.old.at + Text.room_of (Text.told answer) ≤ length self.old.out.now }
+        ensures { Text.Writes self.old (Text.report_of (Text.told answer.entry) counts.nonlinear counts.linear) self.new }
+    {
+        match answer {
+            Ok(bodies) => {
+                self.put_ok(counts);
+                self.put_bodies(bodies, bodies.len() / RECORD);
+            }
+            Err(number) => self.put_no(number, counts),
+        }
     }
-    next
-}
 
-// The first line.
-fn put_head(out: &mut [u8], number: usize, nonlinear: usize, linear: usize) -> usize
-    requires { Text.HEAD_LINE ≤ length out.old }
-    ensures { Text.Puts out.old 0 (Text.head_line number nonlinear linear) out.new result }
-{
-    if number == 0 {
-        return put_ok(out, nonlinear, linear);
+    // The first line of an accepted step.
+    fn put_ok(&mut self, counts: Counts)
+        requires { self.old.at + Text.HEAD_LINE ≤ length self.old.out.now }
+        ensures { Text.Writes self.old (Text.ok_line counts.nonlinear counts.linear) self.new }
+    {
+        self.put(b"OK ");
+        self.put_counts(counts);
     }
-    put_no(out, number, nonlinear, linear)
-}
 
-fn put_ok(out: &mut [u8], nonlinear: usize, linear: usize) -> usize
-    requires { Text.HEAD_LINE ≤ length out.old }
-    ensures { Text.Puts out.old 0 (Text.ok_line nonlinear linear) out.new result }
-{
-    let a = put(out, 0, b"OK ");
-    put_counts(out, a, nonlinear, linear)
-}
-
-fn put_no(out: &mut [u8], number: usize, nonlinear: usize, linear: usize) -> usize
-    requires { Text.HEAD_LINE ≤ length out.old }
-    ensures { Text.Puts out.old 0 (Text.no_line number nonlinear linear) out.new result }
-{
-    let a = put(out, 0, b"NO ");
-    let b = put_decimal(out, a, number as u64);
-    let c = put(out, b, b" ");
-    put_counts(out, c, nonlinear, linear)
-}
-
-fn put_counts(out: &mut [u8], at: usize, nonlinear: usize, linear: usize) -> usize
-    requires { at + 42 ≤ length out.old }
-    ensures { Text.Puts out.old at (Text.counts_of nonlinear linear) out.new result }
-{
-    let a = put_decimal(out, at, nonlinear as u64);
-    let b = put(out, a, b" ");
-    let c = put_decimal(out, b, linear as u64);
-    put(out, c, b"\n")
-}
-
-fn put_bodies(out: &mut [u8], at: usize, bodies: &[f64], body_count: usize) -> usize
-    requires { (at + Text.BODY_LINE * body_count ≤ length out.old) × (RECORD * body_count ≤ length bodies.now) }
-    ensures { Text.Puts out.old at (Text.body_lines bodies.now body_count) out.new result }
-{
-    let mut next = at;
-    let mut i = 0;
-    while i < body_count {
-        next = put_body(out, next, bodies, i);
-        i += 1;
+    // The line of a refusal.
+    fn put_no(&mut self, number: usize, counts: Counts)
+        requires { self.old.at + Text.HEAD_LINE ≤ length self.old.out.now }
+        ensures { Text.Writes self.old (Text.no_line number counts.nonlinear counts.linear) self.new }
+    {
+        self.put(b"NO ");
+        self.put_decimal(number as u64);
+        self.put(b" ");
+        self.put_counts(counts);
     }
-    next
-}
 
-// The line of body `i`.
-fn put_body(out: &mut [u8], at: usize, bodies: &[f64], i: usize) -> usize
-    requires { (at + Text.BODY_LINE ≤ length out.old) × (RECORD * i + RECORD ≤ length bodies.now) }
-    ensures { Text.Puts out.old at (Text.body_line bodies.now i) out.new result }
-{
-    let a = put_decimal(out, at, i as u64);
-    let b = put_state(out, a, bodies, RECORD * i);
-    put(out, b, b"\n")
-}
-
-// The thirteen doubles of a state, each after a space.
-fn put_state(out: &mut [u8], at: usize, bodies: &[f64], from: usize) -> usize
-    requires { (at + 221 ≤ length out.old) × (from + 13 ≤ length bodies.now) }
-    ensures { Text.Puts out.old at (Text.fields_of bodies.now from 13) out.new result }
-{
-    let mut next = at;
-    let mut k = 0;
-    while k < 13 {
-        next = put_field(out, next, bodies[from + k]);
-        k += 1;
+    fn put_counts(&mut self, counts: Counts)
+        requires { self.old.at + 42 ≤ length self.old.out.now }
+        ensures { Text.Writes self.old (Text.counts_of counts.nonlinear counts.linear) self.new }
+    {
+        self.put_decimal(counts.nonlinear as u64);
+        self.put(b" ");
+        self.put_decimal(counts.linear as u64);
+        self.put(b"\n");
     }
-    next
-}
 
-// A space and the sixteen hexadecimal digits of a double's bits.
-fn put_field(out: &mut [u8], at: usize, x: f64) -> usize
-    requires { at + 17 ≤ length out.old }
-    ensures { Text.Puts out.old at (Text.field_of x) out.new result }
-{
-    let mut digits = [0u8; 16];
-    let k = io::hex(bits_of(x), 16, &mut digits);
-    let next = put(out, at, b" ");
-    put(out, next, &digits[..k])
-}
-
-fn put_decimal(out: &mut [u8], at: usize, n: u64) -> usize
-    requires { at + 20 ≤ length out.old }
-    ensures { Text.Puts out.old at (Text.decimal_of n) out.new result }
-{
-    let mut digits = [0u8; 20];
-    let k = io::decimal(n, &mut digits);
-    put(out, at, &digits[..k])
-}
-
-// `to_bits` is not defined at a NaN, which is written as the pattern of SPECIFICATION §1.1.
-fn bits_of(x: f64) -> u64
-    ensures { result ≡ to_bits binary64 x }
-{
-    if x == x {
-        return f64::to_bits(x);
+    fn put_bodies(&mut self, bodies: &[f64], body_count: usize)
+        requires { (self.old.at + Text.BODY_LINE * body_count ≤ length self.old.out.now) × (RECORD * body_count ≤ length bodies.now) }
+        ensures { Text.Writes self.old (Text.body_lines bodies.now body_count) self.new }
+    {
+        for i in 0..body_count {
+            self.put_body(bodies, i);
+        }
     }
-    0x7ff8_0000_0000_0000
-}
 
-// Writes the text at `at`, and answers where it ends.
-fn put(out: &mut [u8], at: usize, text: &[u8]) -> usize
-    requires { at + length text.now ≤ length out.old }
-    ensures { Text.Puts out.old at text.now out.new result }
-{
-    let mut i = 0;
-    while i < text.len() {
-        out[at + i] = text[i];
-        i += 1;
+    // The line of body `i`.
+    fn put_body(&mut self, bodies: &[f64], i: usize)
+        requires { (self.old.at + Text.BODY_LINE ≤ length self.old.out.now) × (RECORD * i + RECORD ≤ length bodies.now) }
+        ensures { Text.Writes self.old (Text.body_line bodies.now i) self.new }
+    {
+        self.put_decimal(i as u64);
+        self.put_state(bodies, RECORD * i);
+        self.put(b"\n");
     }
-    at + text.len()
+
+    // The thirteen doubles of a state, each after a space.
+    fn put_state(&mut self, bodies: &[f64], from: usize)
+        requires { (self.old.at + 221 ≤ length self.old.out.now) × (from + 13 ≤ length bodies.now) }
+        ensures { Text.Writes self.old (Text.fields_of bodies.now from 13) self.new }
+    {
+        for x in &bodies[from..from + 13] {
+            self.put_field(*x);
+        }
+    }
+
+    // A space and the sixteen hexadecimal digits of a double's bits.
+    fn put_field(&mut self, x: f64)
+        requires { self.old.at + 17 ≤ length self.old.out.now }
+        ensures { Text.Writes self.old (Text.field_of x) self.new }
+    {
+        let mut digits = [0u8; 16];
+        let k = io::hex(f64_to_bits_with_nan(x), 16, &mut digits);
+        self.put(b" ");
+        self.put(&digits[..k]);
+    }
+
+    fn put_decimal(&mut self, n: u64)
+        requires { self.old.at + 20 ≤ length self.old.out.now }
+        ensures { Text.Writes self.old (Text.decimal_of n) self.new }
+    {
+        let mut digits = [0u8; 20];
+        let k = io::decimal(n, &mut digits);
+        self.put(&digits[..k]);
+    }
+
+    fn put(&mut self, text: &[u8])
+        requires { self.old.at + length text.now ≤ length self.old.out.now }
+        ensures { Text.Writes self.old text.now self.new }
+    {
+        let end = self.at + text.len();
+        self.out[self.at..end].copy_from_slice(text);
+        self.at = end;
+    }
 }

@@ -2,74 +2,47 @@
 use Prim.Native.Nat.{ℕ, ◌+◌, ◌*◌, ◌≤◌, ◌<◌}
 use mathlib.Core.Path.{◌≡◌, refl, sym, ◌∙◌, ap, subst}
 use mathlib.Core.Bool.{Bool, true, false}
-use mathlib.Core.List.{List, [], ◌∷◌, append-nil}
+use mathlib.Core.List.{List, [], ◌∷◌, ◌++◌, append-nil}
 use native.Mathlib.Omega.{arith}
 use lib.Ieee.{Float}
 use lib.ListN.{length}
-use Rattle.arith.specs.Flow.{go, stop, ◌>>=◌, tab}
-use Rattle.arith.specs.FlowLaws.{then-go, then-stop}
+use Rattle.std.specs.Prelude.{Option, Some, None, Ok, Err, IsErrAnd, option_to_list}
+use Rattle.arith.specs.Flow.{Turn, go, stop, and_then, ◌>>=◌, tab}
+use Rattle.rows.specs.declared.geometry.Joint.{Joint}
 use Rattle.rows.specs.declared.geometry.EqualityRow.{EqualityRow}
-use Rattle.rows.specs.declared.geometry.RowAnswer.{RowAnswer}
-use Rattle.rows.specs.declared.geometry.RowAnswer.TheVariants as Row
-use Rattle.rows.specs.declared.geometry.Written.{Written}
-use Rattle.rows.specs.Fault.{Fault, Result}
+use Rattle.rows.specs.Fault.{CollisionError, Result}
 use Rattle.rows.specs.Geometry.{row_if}
-use Rattle.rows.specs.View.{row_at, Out, Kept}
+use Rattle.rows.specs.View.{row_at, rows_at, Out, Kept}
 use Rattle.rows.specs.Answer.{written_as}
-use Rattle.rows.specs.Append.{row_as, count_of, appended, added, span_of, There, Room, Appends, Adds, followed_by}
+use Rattle.rows.specs.Append.{listed, count_in, Appends, span_of, Adds}
 use Rattle.rows.specs.Region.{kept_refl, kept_then, kept_more, kept_row, tab-ext, tab-more}
 
--- ---- one answer
-pub append-value : {i n : ℕ} {s t : List Float} {answer : RowAnswer} {row : EqualityRow} → answer ≡ Row.Value row
-    → (Kept (λ k. Out (i + 14 * n) 14 k) s t) × (row_at t (i + 14 * n) row.a row.b ≡ row)
-    → Appends i (Written.Rows n) answer s t (Written.Rows (n + 1))
-unfolding There
-append-value {i} {n} {s} {t} e p =
-    subst (λ (x : RowAnswer). Appends i (Written.Rows n) x s t (Written.Rows (n + 1))) (sym e) (record { kept = p.0; there = p.1; is = refl })
+-- the error that a `?` hands on
+pub error-is : {A E : Type 0} {r : Turn A E} {e : E} → IsErrAnd r (λ y. y ≡ e) → r ≡ Err e
+error-is {r = Ok x} h = absurd h
+error-is {r = Err y} h = ap Err h
 
-module _ {i n : ℕ} {s : List Float} {answer : RowAnswer} where
-  pub append-none : {r : Written} (x : RowAnswer) → There i s (Written.Rows n) x → answer ≡ x → r ≡ appended (Written.Rows n) x
-      → Appends i (Written.Rows n) answer s s r
-  append-none {r} x h e q = subst (λ (x : RowAnswer). Appends i (Written.Rows n) x s s r) (sym e) (record { kept = kept_refl _ s; there = h; is = q })
+-- ---- one row
+pub append-some : {i n : ℕ} {s t : List Float} {o : Option EqualityRow} {row : EqualityRow} → o ≡ Some row
+    → (Kept (λ k. Out (i + 14 * n) 14 k) s t) × (row_at t (i + 14 * n) row.a row.b ≡ row) → Appends i n o s t (n + 1)
+append-some {i} {n} {s} {t} {row = row} e p =
+    subst (λ (o : Option EqualityRow). Appends i n o s t (n + 1)) (sym e) (record { kept = p.0; there = λ x h. there x h; is = refl })
+  where
+    there : (x : EqualityRow) → Some row ≡ Some x → row_at t (i + 14 * n) x.a x.b ≡ x
+    there x h = let same : row ≡ x = cc in subst (λ (y : EqualityRow). row_at t (i + 14 * n) y.a y.b ≡ y) same p.1
 
-pub append-rows : {i n : ℕ} {s t : List Float} {answer : RowAnswer} {w r : Written} → w ≡ Written.Rows n
-    → Appends i (Written.Rows n) answer s t r → Appends i w answer s t r
-append-rows {i} {n} {s} {t} {answer} {w} {r} e p = subst (λ (x : Written). Appends i x answer s t r) (sym e) p
+pub append-none : {i n : ℕ} {s : List Float} {o : Option EqualityRow} → o ≡ None → Appends i n o s s n
+append-none {i} {n} {s} e =
+    subst (λ (o : Option EqualityRow). Appends i n o s s n) (sym e)
+    (record { kept = kept_refl _ s; there = λ x h. let z : ◌≡◌ {A = ℕ} 0 1 = cc in absurd (omega arith); is = omega arith })
 
-module _ {i : ℕ} {s : List Float} {answer : RowAnswer} {w : Written} where
-  pub append-nonconvergent : w ≡ Written.NonConvergent → Appends i w answer s s Written.NonConvergent
-  unfolding There
-  append-nonconvergent e =
-      subst (λ (x : Written). Appends i x answer s s Written.NonConvergent) (sym e) (record { kept = kept_refl _ s; there = tt; is = refl })
-
-  pub append-overflow : w ≡ Written.ArithmeticOverflow → Appends i w answer s s Written.ArithmeticOverflow
-  unfolding There
-  append-overflow e =
-      subst (λ (x : Written). Appends i x answer s s Written.ArithmeticOverflow) (sym e) (record { kept = kept_refl _ s; there = tt; is = refl })
-
-pub count-rows : {w : Written} {n : ℕ} → w ≡ Written.Rows n → count_of w ≡ n
-count-rows e = ap count_of e
-
-appended-most : (w : Written) (answer : RowAnswer) → count_of (appended w answer) ≤ count_of w + 1
-appended-most (Written.Rows n) (Row.Value row) = omega arith
-appended-most (Written.Rows n) Row.Free = omega arith
-appended-most (Written.Rows n) Row.NonConvergent = omega arith
-appended-most (Written.Rows n) Row.ArithmeticOverflow = omega arith
-appended-most Written.NonConvergent answer = omega arith
-appended-most Written.ArithmeticOverflow answer = omega arith
-
-pub appends-most : {i : ℕ} {s t : List Float} {w r : Written} {answer : RowAnswer} → Appends i w answer s t r → count_of r ≤ count_of w + 1
-appends-most {w = w} {r = r} {answer = answer} e = subst (λ (x : Written). count_of x ≤ count_of w + 1) (sym e.is) (appended-most w answer)
-
--- ---- room for one row more, and for the next
-pub room-here : {i k : ℕ} {s : List Float} {w : Written} → Room i k s w → k ≤ 5 → i + 14 * count_of w + 14 ≤ length s
-room-here r h = omega (arith, r.six, r.few)
-
-pub room-none : (i : ℕ) (s : List Float) → i + 84 ≤ length s → Room i 0 s (Written.Rows 0)
-room-none i s h = record { six = h; few = omega arith }
-
-pub room_after : {i k : ℕ} {s t : List Float} {w r : Written} {answer : RowAnswer} → Room i k s w → Appends i w answer s t r → Room i (k + 1) t r
-room_after r p = record { six = omega (arith, r.six, p.kept.size); few = omega (arith, r.few, appends-most p) }
+-- at most one
+pub grown : {i n r : ℕ} {s t : List Float} {o : Option EqualityRow} → Appends i n o s t r → r ≤ n + 1
+grown {n = n} {r} {o = o} p = let most = count-most o in omega (arith, p.is)
+  where
+    count-most : (o : Option EqualityRow) → count_in o ≤ 1
+    count-most (Some row) = omega arith
+    count-most None = omega arith
 
 -- ---- the bodies of a row
 -- a row that d gives is between a and b
@@ -88,73 +61,85 @@ b-is x row e = cc
 pub mine-go : {a b : ℕ} {row : EqualityRow} → row.a ≡ a → row.b ≡ b → Mine a b (go row)
 mine-go {row} ea eb = record { between = λ x e. (a-is x row e ∙ ea, b-is x row e ∙ eb) }
 
-pub mine-stop : {a b : ℕ} (f : Fault) → Mine a b (stop f)
+pub mine-stop : {a b : ℕ} (f : CollisionError) → Mine a b (stop f)
 mine-stop f = record { between = λ x e. let z : ◌≡◌ {A = ℕ} 0 1 = cc in absurd (omega arith) }
 
 pub mine-then : {A : Type 0} {a b : ℕ} (m : Result A) {f : A → Result EqualityRow} → ((x : A) → Mine a b (f x)) → Mine a b (m >>= f)
-unfolding ◌>>=◌
+unfolding and_then
 mine-then (go x) {f} h = h x
 mine-then (stop e) {f} h = mine-stop e
 
--- an answer with that row
-mine-row : {a b : ℕ} (row : EqualityRow) (locked : Bool) (D : Result EqualityRow) → Mine a b D → go (row ∷ []) ≡ row_if locked D → (row.a ≡ a) × (row.b ≡ b)
-unfolding ◌>>=◌
-mine-row row true (go x) m e = m.between row (cc)
-mine-row row true (stop f) m e = let z : ◌≡◌ {A = ℕ} 0 1 = cc in absurd (omega arith)
-mine-row row false D m e = let z : ◌≡◌ {A = ℕ} 0 1 = cc in absurd (omega arith)
+-- so is the row that an answer has, where it has one
+pub record Ours (a b : ℕ) (o : Option EqualityRow) : Type 0 where
+  pub between : (row : EqualityRow) → o ≡ Some row → (row.a ≡ a) × (row.b ≡ b)
 
--- ---- one row more
+row-if-between : {a b : ℕ} (locked : Bool) (D : Result EqualityRow) → Mine a b D → (row : EqualityRow) → go (row ∷ []) ≡ row_if locked D
+    → (row.a ≡ a) × (row.b ≡ b)
+unfolding and_then
+row-if-between true (go x) m row e = m.between row (cc)
+row-if-between true (stop f) m row e = let z : ◌≡◌ {A = ℕ} 0 1 = cc in absurd (omega arith)
+row-if-between false D m row e = let z : ◌≡◌ {A = ℕ} 0 1 = cc in absurd (omega arith)
+
+pub ours : {a b : ℕ} {o : Option EqualityRow} (locked : Bool) (D : Result EqualityRow) → Mine a b D → listed (Ok o) ≡ row_if locked D → Ours a b o
+ours locked D m e = record { between = λ row h. row-if-between locked D m row (ap (λ (o : Option EqualityRow). listed (Ok o)) (sym h) ∙ e) }
+
+pub ours-some : {a b : ℕ} {row : EqualityRow} {D : Result EqualityRow} → Mine a b D → go row ≡ D → Ours a b (Some row)
+ours-some {row = row} {D} m e = record { between = λ x h. let same : x ≡ row = cc in m.between x (ap go same ∙ e) }
+
+-- ---- n rows that were written since s was
+pub record Begun (joint : Joint) (i n : ℕ) (s t : List Float) (rows : List EqualityRow) : Type 0 where
+  pub kept : Kept (λ k. Out i (14 * n) k) s t
+  pub is : rows_at t i joint.body_a joint.body_b n ≡ rows
+
+pub begun : (joint : Joint) (i : ℕ) (s : List Float) → Begun joint i 0 s s []
+unfolding tab
+begun joint i s = record { kept = kept_refl _ s; is = refl }
+
 row-there : (t : List Float) (p a b : ℕ) {row : EqualityRow} → row_at t p row.a row.b ≡ row → (row.a ≡ a) × (row.b ≡ b) → row_at t p a b ≡ row
 row-there t p a b {row} e m = ap (λ (x : ℕ). row_at t p x b) (sym m.0) ∙ ap (λ (y : ℕ). row_at t p row.a y) (sym m.1) ∙ e
 
-module _ (a b i : ℕ) (t u : List Float) (locked : Bool) (D : Result EqualityRow) (mine : Mine a b D) where
-  same_rows : (n m : ℕ) → Kept (λ k. Out (i + 14 * n) m k) t u → (j : ℕ) → j < n → row_at u (i + 14 * j) a b ≡ row_at t (i + 14 * j) a b
-  same_rows n m k j q = kept_row k (i + 14 * j) a b (λ l x y. omega arith)
-
-  more : (w : Written) (answer : RowAnswer) {d : Result (List EqualityRow)}
-      → Kept (λ k. Out (i + 14 * count_of w) (14 * added w answer) k) t u → There i u w answer
-      → written_as w t i a b ≡ d → row_as answer ≡ row_if locked D → written_as (appended w answer) u i a b ≡ followed_by d (row_if locked D)
-  unfolding There
-  more (Written.Rows n) (Row.Value row) k h e l =
-      ap go (tab-more n (same_rows n 14 k) (row-there u (i + 14 * n) a b h (mine-row row locked D mine l))) ∙ then-go _ l ∙ then-go _ e
-  more (Written.Rows n) Row.Free k h e l =
-      ap go (tab-ext n (same_rows n 0 k) ∙ sym (append-nil _)) ∙ then-go _ l ∙ then-go _ e
-  more (Written.Rows n) Row.NonConvergent k h e l = then-stop _ l ∙ then-go _ e
-  more (Written.Rows n) Row.ArithmeticOverflow k h e l = then-stop _ l ∙ then-go _ e
-  more Written.NonConvergent answer k h e l = then-stop _ e
-  more Written.ArithmeticOverflow answer k h e l = then-stop _ e
-
--- what a write and one answer more may touch
-span_more : (i : ℕ) {s t u : List Float} (w : Written) (answer : RowAnswer) → count_of w ≤ 5 → Kept (λ k. Out i (span_of w) k) s t
-    → Kept (λ k. Out (i + 14 * count_of w) (14 * added w answer) k) t u → Kept (λ k. Out i (span_of (appended w answer)) k) s u
-span_more i (Written.Rows n) (Row.Value row) h p q = kept_then (kept_more p (λ k x. omega arith)) q (λ k x. omega arith)
-span_more i (Written.Rows n) Row.Free h p q = kept_then p q (λ k x. omega arith)
-span_more i (Written.Rows n) Row.NonConvergent h p q = kept_then (kept_more p (λ k x. omega arith)) q (λ k x. omega arith)
-span_more i (Written.Rows n) Row.ArithmeticOverflow h p q = kept_then (kept_more p (λ k x. omega arith)) q (λ k x. omega arith)
-span_more i Written.NonConvergent answer h p q = kept_then p q (λ k x. omega arith)
-span_more i Written.ArithmeticOverflow answer h p q = kept_then p q (λ k x. omega arith)
-
--- nothing yet
-pub adds_none : {a b : ℕ} (i k : ℕ) (s : List Float) → Adds a b i k s s (Written.Rows 0) (go [])
-unfolding tab
-adds_none {a} {b} i k s = record { kept = kept_refl _ s; within = omega arith; is = refl }
-
--- an answer more
-pub adds-more : {a b i k : ℕ} {s t u : List Float} {w r : Written} {answer : RowAnswer} {d : Result (List EqualityRow)}
-    (locked : Bool) (D : Result EqualityRow) → k ≤ 5 → Adds a b i k s t w d → Appends i w answer t u r → row_as answer ≡ row_if locked D → Mine a b D
-    → Adds a b i (k + 1) s u r (followed_by d (row_if locked D))
-adds-more {a} {b} {i} {k} {s} {t} {u} {w} {r} {answer} {d} locked D h p q l m = record {
-  kept = subst (λ (x : Written). Kept (λ j. Out i (span_of x) j) s u) (sym q.is) (span_more i w answer (few p.within) p.kept q.kept);
-  within = within p.within (appends-most q);
-  is = ap (λ (x : Written). written_as x u i a b) q.is ∙ more a b i t u locked D m w answer q.kept q.there p.is l;
-}
+-- and one row more
+pub onward : {joint : Joint} {i n r : ℕ} {s t u : List Float} {rows : List EqualityRow} {o : Option EqualityRow}
+    → Begun joint i n s t rows → Appends i n o t u r → Ours joint.body_a joint.body_b o → Begun joint i r s u (rows ++ option_to_list o)
+onward {joint} {i} {n} {r} {s} {t} {u} {rows} {o} p q m =
+    subst (λ (r : ℕ). Begun joint i r s u (rows ++ option_to_list o)) (sym q.is) (case o q.kept q.there m)
   where
-    few : count_of w ≤ k → count_of w ≤ 5
-    few m = omega arith
+    same_rows : (k : ℕ) → Kept (λ j. Out (i + 14 * n) k j) t u → (j : ℕ) → j < n
+        → row_at u (i + 14 * j) joint.body_a joint.body_b ≡ row_at t (i + 14 * j) joint.body_a joint.body_b
+    same_rows k h j l = kept_row h (i + 14 * j) joint.body_a joint.body_b (λ x y z. omega arith)
 
-    within : count_of w ≤ k → count_of r ≤ count_of w + 1 → count_of r ≤ k + 1
-    within m l = omega arith
+    case : (o : Option EqualityRow) → Kept (λ k. Out (i + 14 * n) (14 * count_in o) k) t u
+        → ((x : EqualityRow) → o ≡ Some x → row_at u (i + 14 * n) x.a x.b ≡ x) → Ours joint.body_a joint.body_b o
+        → Begun joint i (n + count_in o) s u (rows ++ option_to_list o)
+    case (Some row) k h m = record {
+      kept = kept_then (kept_more p.kept (λ j x. omega arith)) k (λ j x. omega arith);
+      is = tab-more n (same_rows 14 k) (row-there u (i + 14 * n) joint.body_a joint.body_b (h row refl) (m.between row refl))
+          ∙ ap (λ (xs : List EqualityRow). xs ++ (row ∷ [])) p.is;
+    }
+    case None k h m =
+        let same : n + 0 ≡ n = omega arith in
+        subst (λ (r : ℕ). Begun joint i r s u (rows ++ [])) (sym same) (record {
+          kept = kept_then p.kept k (λ j x. omega arith);
+          is = tab-ext n (same_rows 0 k) ∙ p.is ∙ sym (append-nil rows);
+        })
 
-pub adds-as : {a b i k k' : ℕ} {s t : List Float} {r : Written} {d d' : Result (List EqualityRow)} → k ≤ k' → d ≡ d'
-    → Adds a b i k s t r d → Adds a b i k' s t r d'
-adds-as h e p = record { kept = p.kept; within = omega (arith, p.within); is = p.is ∙ e }
+-- ---- the end of a write: its rows, or a failure after some of them
+module _ {joint : Joint} {i n most : ℕ} {s t : List Float} {rows : List EqualityRow} {d : Result (List EqualityRow)}
+    (p : Begun joint i n s t rows) (h : n ≤ most) where
+  pub written : go rows ≡ d → Adds joint i most s t (Ok n) d
+  written e = record {
+    kept = p.kept;
+    within = λ m q. let same : n ≡ m = cc in omega arith;
+    is = ap go p.is ∙ e;
+  }
+
+  pub broken_off : {r : Result ℕ} {f : CollisionError} → r ≡ Err f → stop f ≡ d → Adds joint i most s t r d
+  broken_off {r} {f} l e = subst (λ (r : Result ℕ). Adds joint i most s t r d) (sym l) (record {
+    kept = kept_more p.kept (λ k x. omega arith);
+    within = λ m q. let z : ◌≡◌ {A = ℕ} 0 1 = cc in absurd (omega arith);
+    is = e;
+  })
+
+pub lost_at_once : {joint : Joint} {i most : ℕ} {s : List Float} {d : Result (List EqualityRow)} {r : Result ℕ} {f : CollisionError}
+    → r ≡ Err f → stop f ≡ d → Adds joint i most s s r d
+lost_at_once {joint} {i} {s = s} l e = broken_off (begun joint i s) (omega arith) l e

@@ -1,5 +1,6 @@
 -- How many rows a joint has: the definition's list is as long as `row_count` says, and so the code counts.
-use Prim.Native.Nat.{ℕ, ◌+◌}
+use Rattle.std.specs.Int.{from_bool}
+use Prim.Native.Nat.{ℕ, ◌+◌, ◌≤◌}
 use mathlib.Core.Path.{◌≡◌, refl, sym, ◌∙◌, ap}
 use mathlib.Core.Bool.{Bool, true, false}
 use mathlib.Core.List.{List, [], ◌∷◌, ◌++◌}
@@ -8,7 +9,7 @@ use lib.Ieee as Ieee
 use lib.Ieee.{Float}
 use lib.ListN.{length, length-append}
 use Rattle.arith.specs.Real.{F}
-use Rattle.arith.specs.Flow.{go, stop, ◌>>=◌}
+use Rattle.arith.specs.Flow.{go, stop, and_then, ◌>>=◌}
 use Rattle.vectors.specs.Vector.{axis_x, axis_y, axis_z}
 use Rattle.rows.specs.declared.body.MomentumBody.{MomentumBody}
 use Rattle.rows.specs.declared.geometry.Joint.{Joint}
@@ -22,13 +23,13 @@ use Rattle.rows.specs.declared.geometry.Motions.TheVariants.{Rod, Frame}
 use Rattle.rows.specs.declared.geometry.EqualityRow.{EqualityRow}
 use Rattle.rows.specs.declared.geometry.Ends.{Ends}
 use Rattle.rows.specs.declared.geometry.Cone.{Cone}
-use Rattle.rows.specs.Fault.{Fault, Result}
+use Rattle.rows.specs.Fault.{CollisionError, Result}
 use Rattle.rows.specs.Motions.{motions_of}
 use Rattle.rows.specs.Geometry.{linear_row, row_if, linear_rows}
 use Rattle.rows.specs.Geometry.{swing_locked, twist_locked, cone_rows, align_rows, turning_rows}
 use Rattle.rows.specs.Geometry.{frame_rows, motion_rows, write_equality_rows}
 use Rattle.rows.specs.Count.{one_if, linear_count, turning_count, motion_count, row_count}
-use Rattle.rows.proofs.Constants.{zero_is}
+use Rattle.arith.specs.Laws.Constants.{zero_is}
 
 abbrev Rows : Type 0
 Rows = Result (List EqualityRow)
@@ -45,16 +46,16 @@ listed-is e = cc
 sized-go : {n : ℕ} (rows : List EqualityRow) → length rows ≡ n → Sized n (go rows)
 sized-go rows e = record { long = λ x h. ap length (listed-is h) ∙ e }
 
-sized-stop : {n : ℕ} (f : Fault) → Sized n (stop f)
+sized-stop : {n : ℕ} (f : CollisionError) → Sized n (stop f)
 sized-stop f = record { long = λ x e. let z : ◌≡◌ {A = ℕ} 0 1 = cc in absurd (omega arith) }
 
 sized-then : {A : Type 0} {n : ℕ} (m : Result A) {f : A → Rows} → ((x : A) → Sized n (f x)) → Sized n (m >>= f)
-unfolding ◌>>=◌
+unfolding and_then
 sized-then (go x) {f} h = h x
 sized-then (stop e) {f} h = sized-stop e
 
 sized_rows : {k n : ℕ} {m : Rows} {f : List EqualityRow → Rows} → Sized k m → ((x : List EqualityRow) → length x ≡ k → Sized n (f x)) → Sized n (m >>= f)
-unfolding ◌>>=◌
+unfolding and_then
 sized_rows {m = go x} {f} s h = h x (s.long x refl)
 sized_rows {m = stop e} {f} s h = sized-stop e
 
@@ -99,28 +100,12 @@ unfolding write_equality_rows
 rows-sized joint a b = sized-then _ λ e. motion-sized joint e (motions_of joint.kind)
 
 -- ---- as the code counts them
-pub one-yes : {b : Bool} → b ≡ true → 1 ≡ one_if b
+-- ---- a test as a number
+pub one-as : {n : ℕ} (b : Bool) → n ≡ from_bool b → (n ≡ one_if b) × (n ≤ 1)
 unfolding one_if
-one-yes e = ap one_if (sym e)
+one-as true h = (h, omega arith)
+one-as false h = (h, omega arith)
 
-pub one-no : {b : Bool} → b ≡ false → 0 ≡ one_if b
-unfolding one_if
-one-no e = ap one_if (sym e)
-
--- the rows of a cone twist, as the code adds them up
-pub cone-count : {turning : Turning} {cone : Cone} {m n o : ℕ} → turning ≡ Turns.Cone cone
-    → m ≡ one_if (Ieee.eq cone.swing_x (F 0)) → n ≡ one_if (Ieee.eq cone.swing_y (F 0)) → o ≡ one_if (twist_locked cone)
-    → m + n + o ≡ turning_count turning
-cone-count {cone = cone} {m = m} {n = n} {o = o} e a b d =
-    let u : m ≡ one_if (swing_locked cone.swing_x) = a ∙ ap (λ (z : Float). one_if (Ieee.eq cone.swing_x z)) zero_is in
-    let v : n ≡ one_if (swing_locked cone.swing_y) = b ∙ ap (λ (z : Float). one_if (Ieee.eq cone.swing_y z)) zero_is in
-    omega arith ∙ sym (ap turning_count e)
-
-module _ (kind : Kind) {m : Motions} (e : m ≡ motions_of kind) where
-  pub rod-count : {length : Float} → m ≡ Rod length → 1 ≡ row_count kind
-  rod-count h = ap motion_count (sym h ∙ e)
-
-  pub frame-count : {linear : Linear} {turning : Turning} {p q : ℕ} → m ≡ Frame linear turning → p ≡ linear_count linear → q ≡ turning_count turning
-      → p + q ≡ row_count kind
-  frame-count {turning} {p} {q} h x y =
-      ap (λ (n : ℕ). p + n) y ∙ ap (λ (n : ℕ). n + turning_count turning) x ∙ ap motion_count (sym h ∙ e)
+-- of a swing's limit, which the code compares with its own zero
+pub swing-as : {n : ℕ} (limit : Float) → n ≡ from_bool (Ieee.eq limit (F 0)) → (n ≡ one_if (swing_locked limit)) × (n ≤ 1)
+swing-as limit h = one-as (swing_locked limit) (h ∙ ap (λ (zero : Float). from_bool (Ieee.eq limit zero)) zero_is)

@@ -1,10 +1,7 @@
 -- Laws that the proofs of this crate cite, each file over those above it; Starred has the examples of SPECIFICATION §15.
-pub mod Constants
 pub mod PlaceLaws
 pub mod AppendLaws
 pub mod UnitLaws
-pub mod BodyLaws
-pub mod RowLaws
 pub mod FiniteLaws
 pub mod CountLaws
 pub mod WriteLaws

@@ -1,5 +1,6 @@
 -- The ten examples of SPECIFICATION §15 that are proved: one table, by one computed test. A line has the bits that the definitions
 -- answer and the bits that SPECIFICATION gives.
+use Rattle.std.specs.Prelude.{Option, Some, None}
 use Prim.Native.Nat.{ℕ, ◌^◌}
 use mathlib.Core.Bool.{Bool, true, false, cond, ◌&&◌}
 use mathlib.Core.List.{List, [], ◌∷◌, ◌++◌}
@@ -9,25 +10,21 @@ use Rattle.arith.specs.Real.{◌⊘◌, ratio, is_finite, abs_of}
 use Rattle.arith.specs.Root.{root_in, root, round_root, sqrt}
 use Rattle.arith.specs.Hypot.{scaled_root, hypot_of}
 use Rattle.arith.specs.Angle.{PI, horner, arc_sum, half_tangent, octant, quadrant, facing, angle_of, atan2_of}
-use Rattle.arith.specs.declared.angle.Angle.{Angle}
-use Rattle.arith.specs.declared.angle.Angle.TheVariants as Angles
-use Rattle.arith.specs.Flow.{go, stop, turns, loop, ◌>>=◌}
+use Rattle.arith.specs.Flow.{Turn, go, stop, turns, loop, and_then}
 use Rattle.vectors.specs.declared.vector.Vec3.{Vec3}
-use Rattle.vectors.specs.declared.vector.OptionVec3.{OptionVec3}
-use Rattle.vectors.specs.declared.vector.OptionVec3.TheVariants.{Some, None}
 use Rattle.vectors.specs.declared.matrix.Mat3.{Mat3}
-use Rattle.vectors.specs.declared.matrix.Inverted.{Inverted}
+use Rattle.vectors.specs.declared.matrix.CholeskyError.{CholeskyError}
 use Rattle.vectors.specs.declared.quaternion.Quat.{Quat}
 use Rattle.vectors.specs.Vector.{vec, zero_vec, axis_x, axis_y, axis_z, normalize_by, checked_length_of}
-use Rattle.vectors.specs.Matrix.{column_of, from_cols, correction_of, entry_of, factor_row_of, factor_of, factor_spd_of, factor_solve_of, done, solve_spd_of}
-use Rattle.vectors.specs.Matrix.{inverse_spd_of}
+use Rattle.vectors.specs.Matrix.{column_of, from_cols, correction_of, entry_of, factor_row_of, factor_of, factor_spd_of, factor_solve_of, solve_spd_of}
+use Rattle.vectors.specs.Matrix.{inverse_by, inverse_spd_of}
 use Rattle.vectors.specs.Quaternion.{quat, rotate_vector_of}
 use Rattle.rows.specs.declared.body.MomentumBody.{MomentumBody}
 use Rattle.rows.specs.declared.geometry.Kind.TheVariants.{Distance}
 use Rattle.rows.specs.declared.geometry.JointFrame.{JointFrame}
 use Rattle.rows.specs.declared.geometry.Joint.{Joint}
 use Rattle.rows.specs.declared.geometry.EqualityRow.{EqualityRow}
-use Rattle.rows.specs.Fault.{Result, try_finite}
+use Rattle.rows.specs.Fault.{CollisionError, Result, try_finite}
 use Rattle.rows.specs.Body.{anchor_of}
 use Rattle.rows.specs.Geometry.{ends_of, tolerance_of, distance_row, write_equality_rows}
 
@@ -41,20 +38,21 @@ bits x = to_bits binary64 x ∷ []
 abbrev vector : Vec3 → List ℕ
 vector v = to_bits binary64 v.x ∷ to_bits binary64 v.y ∷ to_bits binary64 v.z ∷ []
 
-abbrev angle : Angle → List ℕ
-angle (Angles.Value x) = bits x
-angle Angles.Refused = []
+abbrev angle : Turn Float CollisionError → List ℕ
+angle (go x) = bits x
+angle (stop e) = []
 
-abbrev turned : OptionVec3 → List ℕ
+abbrev turned : Option Vec3 → List ℕ
 turned (Some v) = vector v
 turned None = []
 
 abbrev matrix : Mat3 → List ℕ
 matrix m = vector (column_of m 0) ++ vector (column_of m 1) ++ vector (column_of m 2)
 
--- 1 for the outcome `Done`, and the matrix beside it
-abbrev inverted : Inverted → List ℕ
-inverted i = cond (done i.outcome) 1 0 ∷ matrix i.inverse
+-- 1 where there is an inverse, and it behind that
+abbrev inverted : Turn Mat3 CholeskyError → List ℕ
+inverted (go inverse) = 1 ∷ matrix inverse
+inverted (stop e) = 0 ∷ []
 
 -- value and tolerance of each row
 unfoldable numbers : List EqualityRow → List ℕ
@@ -131,7 +129,8 @@ right (line ∷ lines) = same line.0 line.1 && right lines
 
 starred : T (right table)
 unfolding right same numbers write_equality_rows ends_of tolerance_of distance_row anchor_of try_finite rotate_vector_of normalize_by checked_length_of
-    correction_of entry_of factor_row_of factor_of factor_spd_of factor_solve_of solve_spd_of inverse_spd_of turns loop ◌>>=◌ horner arc_sum half_tangent
+    correction_of entry_of factor_row_of factor_of factor_spd_of factor_solve_of solve_spd_of inverse_by inverse_spd_of
+    turns loop and_then horner arc_sum half_tangent
     octant quadrant
     facing angle_of atan2_of hypot_of scaled_root sqrt round_root root root_in is_finite abs_of add sub mul div neg lt le eq round to_bits of_bits
 starred = tt

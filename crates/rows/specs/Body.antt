@@ -1,8 +1,8 @@
 -- body.rs: a body with its momenta, as the solver moves it.
-use Rattle.std.specs.Prelude.{◌^◌, Bool, cond, not, ◌&&◌, Float}
+use Rattle.std.specs.Prelude.{◌^◌, Bool, cond, not, ◌&&◌, Float, ok_or}
 use Rattle.rows.specs.Words.{eq, le, ◌⊕◌, ◌⊗◌, ◌⊘◌, ratio, Turn, go, stop, ◌>>=◌, loop, return_if, Vec3, Quat, Mat3}
 use Rattle.rows.specs.Words.{add_of, sub_of, scale_of, div_of, conjugate_of, is_normalized_of, integrate_of, apply_of, RigidBody, BodyState, MomentumBody}
-use Rattle.rows.specs.Fault.{non_convergent, arithmetic_overflow, Result, quat_or, try_finite, try_length, try_rotate, or_leave}
+use Rattle.rows.specs.Fault.{NonConvergent, ArithmeticOverflow, Result, try_finite, try_length, try_rotate, or_leave}
 
 abbrev pub body_with : Vec3 → Quat → Vec3 → Vec3 → Float → Vec3 → Mat3 → MomentumBody  -- the body with these parts
 body_with center rotation momentum spin mass local inverse =
@@ -45,7 +45,7 @@ unfoldable pub anchor_of : MomentumBody → Vec3 → Result Vec3  -- fn anchor
 anchor_of self local = try_rotate self.rotation (sub_of local self.center_of_mass) >>= λ arm. try_finite (add_of self.center arm)
 
 abbrev pub integrate : Quat → Vec3 → Float → Result Quat  -- rotation.integrate_world_angular_velocity(omega, dt)?
-integrate rotation omega dt = quat_or arithmetic_overflow (integrate_of rotation omega dt)
+integrate rotation omega dt = ok_or (integrate_of rotation omega dt) ArithmeticOverflow
 
 -- a pass of the loop, from the rotation at entry: the next omega, or the loop is left with the rotation at the end of the step
 unfoldable pub pass_of : MomentumBody → Float → Vec3 → Turn Vec3 (Result Quat)
@@ -58,7 +58,7 @@ pass_of self dt omega = do
   go next
 
 abbrev pub settled : Turn Vec3 (Result Quat) → Result Quat  -- after MAX_ITERATIONS passes: Err(NonConvergent)
-settled passes = elim passes [ go omega ↦ stop non_convergent | stop rotation ↦ rotation ]
+settled passes = elim passes [ go omega ↦ stop NonConvergent | stop rotation ↦ rotation ]
 
 unfoldable pub drift_of : MomentumBody → Float → Result MomentumBody  -- fn drift
 drift_of self dt = do
@@ -77,7 +77,7 @@ unfoldable pub origin_of : MomentumBody → Result Vec3  -- the origin, as Trans
 origin_of self = do
   turned ← try_rotate self.rotation self.center_of_mass
   origin ← try_finite (sub_of self.center turned)
-  _ ← return_if (not (is_normalized_of self.rotation)) arithmetic_overflow
+  _ ← return_if (not (is_normalized_of self.rotation)) ArithmeticOverflow
   _ ← world_center_of_mass_of origin self.rotation self.center_of_mass
   go origin
 

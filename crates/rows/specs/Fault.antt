@@ -1,28 +1,21 @@
--- How a call of the solver fails, and mod.rs: `Turn A Fault` is its Result.
-use Rattle.std.specs.Prelude.{cond, Float}
-use Rattle.rows.specs.Words.{Turn, go, stop, Vec3, OptionVec3, OptionF64, Quat, OptionQuat, finite_of, checked_length_of, rotate_vector_of}
-pub use Rattle.arith.specs.Fault.{Fault, non_convergent, arithmetic_overflow, number}
+-- mod.rs: the solver's Result, and how what may be missing becomes its error.
+use Rattle.std.specs.Prelude.{cond, Float, ok_or}
+use Rattle.rows.specs.Words.{Turn, go, stop, Vec3, Quat, finite_of, checked_length_of, rotate_vector_of}
+pub use Rattle.arith.specs.declared.fault.CollisionError.{CollisionError}
+pub use Rattle.arith.specs.declared.fault.CollisionError.TheVariants.{NonConvergent, ArithmeticOverflow}
+pub use Rattle.arith.specs.Fault.{number, refusal_number}
 
 abbrev pub Result : Type 0 → Type 0
-Result A = Turn A Fault
-
-abbrev pub vector_or : Fault → OptionVec3 → Result Vec3  -- .ok_or(fault), of a vector
-vector_or fault option = elim option [ OptionVec3.Some v ↦ go v | OptionVec3.None ↦ stop fault ]
-
-abbrev pub number_or : Fault → OptionF64 → Result Float  -- .ok_or(fault), of a number
-number_or fault option = elim option [ OptionF64.Some x ↦ go x | OptionF64.None ↦ stop fault ]
-
-abbrev pub quat_or : Fault → OptionQuat → Result Quat  -- and of a quaternion
-quat_or fault option = elim option [ OptionQuat.Some q ↦ go q | OptionQuat.None ↦ stop fault ]
+Result A = Turn A CollisionError
 
 unfoldable pub try_finite : Vec3 → Result Vec3  -- fn finite
-try_finite value = cond (finite_of value) (go value) (stop arithmetic_overflow)
+try_finite value = cond (finite_of value) (go value) (stop ArithmeticOverflow)
 
 abbrev pub try_length : Vec3 → Result Float  -- fn length
-try_length value = number_or arithmetic_overflow (checked_length_of value)
+try_length value = ok_or (checked_length_of value) ArithmeticOverflow
 
 abbrev pub try_rotate : Quat → Vec3 → Result Vec3  -- fn rotate
-try_rotate rotation value = vector_or arithmetic_overflow (rotate_vector_of rotation value)
+try_rotate rotation value = ok_or (rotate_vector_of rotation value) ArithmeticOverflow
 
 abbrev pub or_leave : {A B : Type 0} → Result A → Turn A (Result B)  -- e? in a function whose loop a Result leaves
 or_leave result = elim result [ go a ↦ go a | stop fault ↦ stop (stop fault) ]

@@ -1,10 +1,10 @@
 -- geometry.rs: the equality rows of a joint between two bodies.
-use Rattle.std.specs.Prelude.{◌^◌, List, [], ◌∷◌, Bool, cond, not, ◌&&◌, ◌||◌, true, false, Float, ◌++◌}
+use Rattle.std.specs.Prelude.{◌^◌, List, [], ◌∷◌, Bool, cond, not, ◌&&◌, ◌||◌, true, false, Float, ◌++◌, ok_or}
 use Rattle.rows.specs.Words.{binary64, neg, eq, le, ◌⊕◌, ◌⊖◌, ◌⊗◌, ◌⊘◌, ratio}
-use Rattle.rows.specs.Words.{is_finite, abs_of, max_of, sqrt, go, stop, ◌>>=◌, return_if, PI, atan2_of, rem_tau_of, Angle, Vec3, Quat, add_of, sub_of}
+use Rattle.rows.specs.Words.{is_finite, abs_of, max_of, sqrt, go, stop, ◌>>=◌, return_if, PI, atan2_of, rem_tau_of, Vec3, Quat, add_of, sub_of}
 use Rattle.rows.specs.Words.{scale_of, vec, zero_vec, axis_x, axis_y, axis_z, neg_of, dot_of, cross_of, try_normalize_of, conjugate_of, product_of}
 use Rattle.rows.specs.Words.{quat_try_normalize_of, MomentumBody, Linear, Turning, Motions, Joint, EqualityRow, Ends, Axes, Cone, Relative, Swing}
-use Rattle.rows.specs.Fault.{Fault, non_convergent, arithmetic_overflow, Result, vector_or, quat_or, try_finite, try_length, try_rotate}
+use Rattle.rows.specs.Fault.{NonConvergent, ArithmeticOverflow, Result, try_finite, try_length, try_rotate}
 use Rattle.rows.specs.Body.{anchor_of}
 use Rattle.rows.specs.Motions.{motions_of}
 
@@ -33,7 +33,7 @@ row_with j la aa lb ab value tolerance =
 unfoldable pub distance_row : Joint → Ends → Float → Result EqualityRow  -- Joint::Distance
 distance_row joint e lower = do
   distance ← try_length e.delta
-  axis ← vector_or non_convergent (try_normalize_of e.delta)
+  axis ← ok_or (try_normalize_of e.delta) NonConvergent
   tolerance ← tolerance_of e.pa e.pb
   go (row_with joint (neg_of axis) (neg_of (cross_of e.arm_a axis)) axis (cross_of e.arm_b axis) (distance ⊖ lower) tolerance)
 
@@ -77,9 +77,9 @@ half_turned cone norm_squared = le norm_squared (ratio 64 1 ⊗ epsilon ⊗ (rat
 
 unfoldable pub relative_of : Cone → Quat → Quat → Result Relative  -- if let Some(cone): the relative rotation, norm_squared and norm
 relative_of cone frame_a frame_b = do
-  q ← quat_or arithmetic_overflow (quat_try_normalize_of (product_of (conjugate_of frame_a) frame_b))
+  q ← ok_or (quat_try_normalize_of (product_of (conjugate_of frame_a) frame_b)) ArithmeticOverflow
   let norm_squared = q.w ⊗ q.w ⊕ q.z ⊗ q.z
-  _ ← return_if (half_turned cone norm_squared) non_convergent
+  _ ← return_if (half_turned cone norm_squared) NonConvergent
   go (record { rotation = q; norm_squared = norm_squared; norm = sqrt binary64 norm_squared })
 
 abbrev pub swing_x : Quat → Swing  -- (numerator, gradient, scalar) of axis 0
@@ -104,16 +104,13 @@ swing_row joint frame_a r swing =
     let scalar = ratio 2 1 ⊗ swing.scalar ⊘ r.norm ⊖ ratio 2 1 ⊗ swing.numerator ⊗ q.w ⊘ cubed in
     gradient_row joint frame_a q gradient scalar value
 
-abbrev pub angle_or : Fault → Angle → Result Float  -- atan2, whose refusal is 11
-angle_or fault angle = elim angle [ Angle.Value x ↦ go x | Angle.Refused ↦ stop fault ]
-
 unfoldable pub twist_row : Joint → Quat → Relative → Float → Result EqualityRow  -- if cone.twist_limit.lower == cone.twist_limit.upper
 twist_row joint frame_a r lower = do
   let q = r.rotation
-  half ← angle_or arithmetic_overflow (atan2_of q.z q.w)
+  half ← atan2_of q.z q.w
   let value = rem_tau_of (ratio 2 1 ⊗ half ⊖ lower ⊕ PI) ⊖ PI
   let gradient = scale_of axis_z (ratio 2 1 ⊗ q.w ⊘ r.norm_squared)
-  _ ← return_if (le (PI ⊖ ratio 1 (10 ^ 10)) (abs_of value)) non_convergent
+  _ ← return_if (le (PI ⊖ ratio 1 (10 ^ 10)) (abs_of value)) NonConvergent
   gradient_row joint frame_a q gradient (neg (ratio 2 1) ⊗ q.z ⊘ r.norm_squared) value
 
 unfoldable pub cone_rows : Joint → Ends → Cone → Result (List EqualityRow)
@@ -128,7 +125,7 @@ unfoldable pub aligned_of : Quat → Quat → Result Vec3  -- else if align: b's
 aligned_of frame_a frame_b = do
   z ← try_rotate frame_b axis_z
   za ← try_rotate frame_a axis_z
-  _ ← return_if (le (dot_of za z) (ratio 1 (10 ^ 10))) non_convergent
+  _ ← return_if (le (dot_of za z) (ratio 1 (10 ^ 10))) NonConvergent
   go z
 
 unfoldable pub align_row : Joint → Quat → Vec3 → Vec3 → Result EqualityRow
@@ -155,7 +152,7 @@ unfoldable pub frame_rows : Linear → Turning → Joint → Ends → Result (Li
 frame_rows linear turning joint e = do
   along ← linear_rows linear joint e
   angular ← turning_rows turning joint e
-  _ ← return_if (not (finite_values (along ++ angular))) arithmetic_overflow
+  _ ← return_if (not (finite_values (along ++ angular))) ArithmeticOverflow
   go (along ++ angular)
 
 abbrev pub motion_rows : Motions → Joint → Ends → Result (List EqualityRow)  -- match joint.joint

@@ -9,6 +9,7 @@ use native.Mathlib.Omega.{arith}
 use Rattle.std.proofs.Math.Decide.{ℕ_discrete}
 use Rattle.std.specs.Float.{nan}
 use Rattle.std.proofs.Math.ListN.{get_or, length-append, get_or-append}
+use mathlib.Core.List.{append-nil, append_assoc}
 use Rattle.std.proofs.lemmas.List.{get_or_at}
 use Rattle.arith.specs.Flow.{tab}
 use Rattle.vectors.specs.declared.vector.Vec3.{Vec3}
@@ -67,6 +68,14 @@ module _ {A : Type 0} where
   tab-more k {f} {g} {x} h e =
       let l : tab k g ≡ tab k f = tab-ext k h in
       rw (add-one k) (cc)
+
+  -- and m more
+  pub tab-append : (n m : ℕ) (f : ℕ → A) → tab (n + m) f ≡ tab n f ++ tab m (λ i. f (n + i))
+  unfolding tab
+  tab-append n zero f = ap (λ (k : ℕ). tab k f) (let same : n + 0 ≡ n = omega arith in same) ∙ sym (append-nil (tab n f))
+  tab-append n (suc m) f =
+      let l : n + suc m ≡ suc (n + m) = omega arith in
+      ap (λ (k : ℕ). tab k f) l ∙ ap (λ (xs : List A). xs ++ (f (n + m) ∷ [])) (tab-append n m f) ∙ append_assoc (tab n f) _ _
 
 -- A write of one double.
 pub kept_set : (s : List Float) (i : ℕ) (v : Float) → Kept (λ k. Out i 1 k) s (set s i v)

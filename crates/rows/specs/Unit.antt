@@ -1,26 +1,28 @@
 -- What private functions compute with a rotation that is normalized already: body.rt does that once a body, geometry.rt once a joint.
 -- In `Body` and `Geometry` each turn normalizes for itself; that the answers are the same is proved in proofs/UnitLaws.
-use Rattle.std.specs.Prelude.{◌≡◌, Float}
+use Rattle.std.specs.Prelude.{◌≡◌, Float, Some, ok_or}
 use Rattle.arith.specs.Flow.{◌>>=◌}
 use Rattle.vectors.specs.declared.vector.Vec3.{Vec3}
 use Rattle.vectors.specs.declared.matrix.Mat3.{Mat3}
 use Rattle.vectors.specs.declared.quaternion.Quat.{Quat}
-use Rattle.vectors.specs.declared.quaternion.OptionQuat.TheVariants.{Some}
 use Rattle.vectors.specs.Vector.{add_of}
 use Rattle.vectors.specs.Matrix.{apply_of}
 use Rattle.vectors.specs.Quaternion.{conjugate_of, quat_try_normalize_of}
 use Rattle.vectors.specs.Answered.{rotate_as_unit_of, integrate_as_unit_of}
-use Rattle.rows.specs.Fault.{arithmetic_overflow, Result, vector_or, quat_or, try_finite}
+use Rattle.rows.specs.Fault.{ArithmeticOverflow, Result, try_finite}
 
 -- q normalizes to unit
 pub record UnitOf (q unit : Quat) : Type 0 where
   pub is : quat_try_normalize_of q ≡ Some unit
 
+abbrev pub unit_of : Quat → Result Quat  -- what q normalizes to, or the error of whoever turns by q
+unit_of q = ok_or (quat_try_normalize_of q) ArithmeticOverflow
+
 abbrev pub try_rotate_as_unit : Quat → Vec3 → Result Vec3
-try_rotate_as_unit unit value = vector_or arithmetic_overflow (rotate_as_unit_of unit value)
+try_rotate_as_unit unit value = ok_or (rotate_as_unit_of unit value) ArithmeticOverflow
 
 abbrev pub integrate_as_unit : Quat → Vec3 → Float → Result Quat
-integrate_as_unit unit omega dt = quat_or arithmetic_overflow (integrate_as_unit_of unit omega dt)
+integrate_as_unit unit omega dt = ok_or (integrate_as_unit_of unit omega dt) ArithmeticOverflow
 
 -- a matrix of the body's frame, applied to a vector of the world
 unfoldable pub in_frame : Quat → Mat3 → Vec3 → Result Vec3

@@ -1,12 +1,8 @@
 -- The names that the definitions use of the toolchain, of the crates beneath and of the code's types, passed on: nothing is defined here.
 pub use Rattle.vectors.specs.Words.{binary64, neg, eq, le, ◌⊕◌, ◌⊖◌, ◌⊗◌, ◌⊘◌, ratio}
 pub use Rattle.vectors.specs.Words.{is_finite, abs_of, max_of, sqrt, Turn, go, stop, ◌>>=◌, loop, return_if, PI, atan2_of, rem_tau_of}
-pub use Rattle.arith.specs.declared.angle.Angle.{Angle}
 pub use Rattle.vectors.specs.declared.vector.Vec3.{Vec3}
-pub use Rattle.vectors.specs.declared.vector.OptionVec3.{OptionVec3}
-pub use Rattle.vectors.specs.declared.vector.OptionF64.{OptionF64}
 pub use Rattle.vectors.specs.declared.quaternion.Quat.{Quat}
-pub use Rattle.vectors.specs.declared.quaternion.OptionQuat.{OptionQuat}
 pub use Rattle.vectors.specs.declared.matrix.Mat3.{Mat3}
 pub use Rattle.vectors.specs.Vector.{finite_of, checked_length_of, add_of, sub_of, scale_of, div_of, vec, zero_vec, axis_x, axis_y, axis_z, neg_of, dot_of}
 pub use Rattle.vectors.specs.Vector.{cross_of}

@@ -1,27 +1,25 @@
 // Joints and their equality rows (geometry.rs). A row lies in the lent slice as 14 doubles: the linear and
 // the angular part of a, those of b, value and tolerance. The bodies that it joins are kept beside the slice.
-ghost use Rattle.std.specs.Prelude.{◌≡◌, true, ℕ, ◌+◌, ◌*◌, ◌≤◌, length};
-ghost use Rattle.std.specs.Float.Ieee as Ieee;
+ghost use Rattle.std.specs.Prelude.{◌≡◌, ℕ, ◌+◌, ◌*◌, ◌≤◌, length, Ok};
 ghost use Rattle.arith.specs.Real.{ratio};
-ghost use Rattle.arith.specs.Flow.{go};
-ghost use Rattle.rows.specs.Fault.{arithmetic_overflow, number_or};
 ghost use Rattle.rows.specs.Motions.{motions_of};
 ghost use Rattle.rows.specs.Geometry.{turning, ends_of, tolerance_of, distance_row, linear_row, row_if, axes_of, linear_rows};
 ghost use Rattle.rows.specs.Geometry.{any_locked, half_turned, relative_of, swing_x, swing_y, local_of, gradient_row, swing_locked, swing_row};
 ghost use Rattle.rows.specs.Geometry.{twist_locked, twist_row, cone_rows, aligned_of, align_row, align_rows, turning_rows, finite_values};
 ghost use Rattle.rows.specs.Geometry.{frame_rows, write_equality_rows};
-ghost use Rattle.rows.specs.Count.{one_if, linear_count, turning_count, row_count};
+ghost use Rattle.rows.specs.Count.{linear_count, turning_count, row_count};
 ghost use Rattle.rows.specs.View.{vec3_at, row_at, rows_at, Out, Kept};
 ghost use Rattle.rows.specs.Answer.{Writes};
 ghost use Rattle.rows.specs.Unit.{UnitOf};
-ghost use Rattle.rows.specs.Append.{ends_as, axis_as, relative_as, row_as, Stored2, count_of, Room, Appends, Adds, Follows, Filled};
+ghost use Rattle.rows.specs.Append.{Stored2, listed, Appends, Adds, Filled};
 
-use crate::body::{MomentumBody, finite};
-use arith::angle::{Angle, PI, atan2, rem_tau};
+use crate::body::{MomentumBody, finite, length, rotate, rotate_as_unit, unit_of};
+use arith::angle::{PI, atan2, rem_tau};
+use arith::fault::CollisionError;
 use arith::number::{abs, is_finite, max};
 use arith::root::sqrt;
-use vectors::quaternion::{OptionQuat, Quat};
-use vectors::vector::{OptionF64, OptionVec3, Vec3};
+use vectors::quaternion::Quat;
+use vectors::vector::Vec3;
 
 // The doubles of a row, and where its value and its tolerance stand among them.
 pub const ROW: usize = 14;
@@ -110,23 +108,6 @@ pub struct EqualityRow {
     pub tolerance: f64,
 }
 
-// A row, or none where its axis is free, or why there is no answer.
-#[derive(Drop)]
-enum RowAnswer {
-    Value(EqualityRow),
-    Free,
-    NonConvergent,
-    ArithmeticOverflow,
-}
-
-// How many rows were written, or why not.
-#[derive(Drop)]
-pub enum Written {
-    Rows(usize),
-    NonConvergent,
-    ArithmeticOverflow,
-}
-
 // Both anchors, what leads from a's to b's, the arms from the centres to them, and both frames.
 #[derive(Clone, Copy)]
 struct Ends {
@@ -137,12 +118,6 @@ struct Ends {
     pub arm_b: Vec3,
     pub frame_a: Quat,
     pub frame_b: Quat,
-}
-
-#[derive(Drop)]
-enum EndsAnswer {
-    Value(Ends),
-    ArithmeticOverflow,
 }
 
 // The axes of frame a along which the anchors' difference is held.
@@ -161,13 +136,6 @@ struct Relative {
     pub norm: f64,
 }
 
-#[derive(Drop)]
-enum RelativeAnswer {
-    Value(Relative),
-    NonConvergent,
-    ArithmeticOverflow,
-}
-
 // What differs between the two swing rows.
 #[derive(Drop)]
 struct Swing {
@@ -176,12 +144,15 @@ struct Swing {
     pub scalar: f64,
 }
 
-// The Z axis of frame b, where frame a's leads the same way.
-#[derive(Drop)]
-enum AxisAnswer {
-    Value(Vec3),
-    NonConvergent,
-    ArithmeticOverflow,
+// What the rows of a joint share: its ends, frame a's rotation normalized, and the tolerance of the linear rows.
+#[derive(Clone, Copy)]
+struct Basis {
+    joint: Joint,
+    ends: Ends,
+    unit: Quat,
+    tolerance: f64,
+    ghost unit_is: { UnitOf ends.frame_a unit },
+    ghost tolerance_is: { Ok tolerance ≡ tolerance_of ends.pa ends.pb },
 }
 
 pub fn load3(s: &[f64], at: usize) -> Vec3
@@ -242,6 +213,7 @@ impl EqualityRow {
     }
 
     // A row that turns only, with the smallest tolerance.
+    #[tactic(auto, using(arith::specs::Literals::literals))]
     fn turning(joint: Joint, angular_a: Vec3, angular_b: Vec3, value: f64) -> EqualityRow
         ensures { result ≡ turning joint angular_a angular_b value }
     {
@@ -258,138 +230,54 @@ impl EqualityRow {
     }
 }
 
-fn ends_of(joint: Joint, a: MomentumBody, b: MomentumBody) -> EndsAnswer
-    ensures { ends_as result ≡ ends_of joint a b }
+#[tactic(auto, unfolding(crate::specs::Geometry::ends_of, arith::specs::Flow::and_then))]
+fn ends_of(joint: Joint, a: MomentumBody, b: MomentumBody) -> Result<Ends, CollisionError>
+    ensures { result ≡ ends_of joint a b }
 {
-    let frame_a = joint.frame_a;
-    let frame_b = joint.frame_b;
-    let OptionVec3::Some(pa) = a.anchor(frame_a.local_anchor) else {
-        return EndsAnswer::ArithmeticOverflow;
-    };
-    let OptionVec3::Some(pb) = b.anchor(frame_b.local_anchor) else {
-        return EndsAnswer::ArithmeticOverflow;
-    };
-    let OptionVec3::Some(delta) = finite(pb.sub(pa)) else {
-        return EndsAnswer::ArithmeticOverflow;
-    };
-    EndsAnswer::Value(Ends {
+    let pa = a.anchor(joint.frame_a.local_anchor)?;
+    let pb = b.anchor(joint.frame_b.local_anchor)?;
+    let delta = finite(pb.sub(pa))?;
+    Ok(Ends {
         pa,
         pb,
         delta,
         arm_a: pa.sub(a.center),
         arm_b: pb.sub(b.center),
-        frame_a: a.rotation.product(frame_a.local_rotation),
-        frame_b: b.rotation.product(frame_b.local_rotation),
+        frame_a: a.rotation.product(joint.frame_a.local_rotation),
+        frame_b: b.rotation.product(joint.frame_b.local_rotation),
     })
 }
 
 // 32 epsilon times the anchors' lengths, at least 1e-13.
-fn tolerance(pa: Vec3, pb: Vec3) -> OptionF64
-    ensures { number_or arithmetic_overflow result ≡ tolerance_of pa pb }
+#[tactic(auto, using(arith::specs::Literals::literals), unfolding(crate::specs::Geometry::tolerance_of, arith::specs::Flow::and_then))]
+fn tolerance(pa: Vec3, pb: Vec3) -> Result<f64, CollisionError>
+    ensures { result ≡ tolerance_of pa pb }
 {
-    let OptionF64::Some(la) = pa.checked_length() else {
-        return OptionF64::None;
-    };
-    let OptionF64::Some(lb) = pb.checked_length() else {
-        return OptionF64::None;
-    };
-    OptionF64::Some(max(32.0 * EPSILON * (la + lb), 1.0e-13))
+    let la = length(pa)?;
+    let lb = length(pb)?;
+    Ok(max(32.0 * EPSILON * (la + lb), 1.0e-13))
 }
 
-fn distance_row(joint: Joint, e: Ends, length: f64) -> RowAnswer
-    ensures { row_as result ≡ row_if true (distance_row joint e length) }
+#[tactic(auto, unfolding(crate::specs::Geometry::distance_row, arith::specs::Flow::and_then))]
+fn distance_row(joint: Joint, e: Ends, rod: f64) -> Result<EqualityRow, CollisionError>
+    ensures { result ≡ distance_row joint e rod }
 {
-    let OptionF64::Some(distance) = e.delta.checked_length() else {
-        return RowAnswer::ArithmeticOverflow;
-    };
-    let OptionVec3::Some(axis) = e.delta.try_normalize() else {
-        return RowAnswer::NonConvergent;
-    };
-    let OptionF64::Some(tolerance) = tolerance(e.pa, e.pb) else {
-        return RowAnswer::ArithmeticOverflow;
-    };
-    RowAnswer::Value(EqualityRow {
+    let distance = length(e.delta)?;
+    let axis = e
+        .delta
+        .try_normalize()
+        .ok_or(CollisionError::NonConvergent)?;
+    let tolerance = tolerance(e.pa, e.pb)?;
+    Ok(EqualityRow {
         a: joint.body_a,
         b: joint.body_b,
         linear_a: axis.neg(),
         angular_a: e.arm_a.cross(axis).neg(),
         linear_b: axis,
         angular_b: e.arm_b.cross(axis),
-        value: distance - length,
+        value: distance - rod,
         tolerance,
     })
-}
-
-// The anchors' difference along an axis of frame a.
-fn linear_row(joint: Joint, e: Ends, unit: Quat, local_axis: Vec3, tolerance: f64) -> RowAnswer
-    requires { (UnitOf e.frame_a unit) × (go tolerance ≡ tolerance_of e.pa e.pb) }
-    ensures { row_as result ≡ row_if true (linear_row joint e local_axis) }
-{
-    let OptionVec3::Some(axis) = unit.rotate_as_unit(local_axis) else {
-        return RowAnswer::ArithmeticOverflow;
-    };
-    let OptionVec3::Some(angular_a) = finite(axis.cross(e.delta).sub(e.arm_a.cross(axis))) else {
-        return RowAnswer::ArithmeticOverflow;
-    };
-    let OptionVec3::Some(angular_b) = finite(e.arm_b.cross(axis)) else {
-        return RowAnswer::ArithmeticOverflow;
-    };
-    RowAnswer::Value(EqualityRow {
-        a: joint.body_a,
-        b: joint.body_b,
-        linear_a: axis.neg(),
-        angular_a,
-        linear_b: axis,
-        angular_b,
-        value: e.delta.dot(axis),
-        tolerance,
-    })
-}
-
-fn linear_row_if(
-    locked: bool,
-    joint: Joint,
-    e: Ends,
-    unit: Quat,
-    local_axis: Vec3,
-    tolerance: f64,
-) -> RowAnswer
-    requires { (UnitOf e.frame_a unit) × (go tolerance ≡ tolerance_of e.pa e.pb) }
-    ensures { row_as result ≡ row_if locked (linear_row joint e local_axis) }
-{
-    if locked {
-        return linear_row(joint, e, unit, local_axis, tolerance);
-    }
-    RowAnswer::Free
-}
-
-// The Z axis of frame b. The aligning kinds refuse where the Z axes lead apart.
-fn aligned(unit: Quat, frame_b: Quat) -> AxisAnswer
-    ensures { (q : Quat) → UnitOf q unit → axis_as result ≡ aligned_of q frame_b }
-{
-    let OptionVec3::Some(z) = frame_b.rotate_vector(Vec3::Z) else {
-        return AxisAnswer::ArithmeticOverflow;
-    };
-    let OptionVec3::Some(za) = unit.rotate_as_unit(Vec3::Z) else {
-        return AxisAnswer::ArithmeticOverflow;
-    };
-    if za.dot(z) <= 1.0e-10 {
-        return AxisAnswer::NonConvergent;
-    }
-    AxisAnswer::Value(z)
-}
-
-// The Z axis of frame b across an axis of frame a.
-fn align_row(joint: Joint, unit: Quat, local_axis: Vec3, z: Vec3) -> RowAnswer
-    ensures { (q : Quat) → UnitOf q unit → row_as result ≡ row_if true (align_row joint q local_axis z) }
-{
-    let OptionVec3::Some(axis) = unit.rotate_as_unit(local_axis) else {
-        return RowAnswer::ArithmeticOverflow;
-    };
-    let OptionVec3::Some(gradient) = finite(axis.cross(z)) else {
-        return RowAnswer::ArithmeticOverflow;
-    };
-    RowAnswer::Value(EqualityRow::turning(joint, gradient, gradient.neg(), axis.dot(z)))
 }
 
 // swing = relative * conjugate(normalize(relative.zw)).
@@ -414,6 +302,7 @@ fn swing_y(q: Quat) -> Swing
 }
 
 // A gradient in the relative rotation as an angular velocity of frame a.
+#[tactic(auto, using(arith::specs::Literals::literals))]
 fn local_gradient(q: Quat, gradient: Vec3, scalar: f64) -> Vec3
     ensures { result ≡ local_of q gradient scalar }
 {
@@ -425,106 +314,31 @@ fn local_gradient(q: Quat, gradient: Vec3, scalar: f64) -> Vec3
         .scale(0.5)
 }
 
-// A row along a gradient in the relative rotation.
-fn gradient_row(
-    joint: Joint,
-    unit: Quat,
-    relative: Quat,
-    gradient: Vec3,
-    scalar: f64,
-    value: f64,
-) -> RowAnswer
-    ensures { (q : Quat) → UnitOf q unit → row_as result ≡ row_if true (gradient_row joint q relative gradient scalar value) }
-{
-    match unit.rotate_as_unit(local_gradient(relative, gradient, scalar)) {
-        OptionVec3::Some(angular) => {
-            RowAnswer::Value(EqualityRow::turning(joint, angular.neg(), angular, value))
-        }
-        OptionVec3::None => RowAnswer::ArithmeticOverflow,
-    }
-}
-
-fn swing_row(joint: Joint, unit: Quat, r: Relative, swing: Swing) -> RowAnswer
-    ensures { (q : Quat) → UnitOf q unit → row_as result ≡ row_if true (swing_row joint q r swing) }
-{
-    let q = r.rotation;
-    let value = 2.0 * swing.numerator / r.norm;
-    let cubed = r.norm_squared * r.norm;
-    let gradient = swing
-        .gradient
-        .scale(2.0 / r.norm)
-        .sub(Vec3::Z.scale(2.0 * swing.numerator * q.z / cubed));
-    let scalar = 2.0 * swing.scalar / r.norm - 2.0 * swing.numerator * q.w / cubed;
-    gradient_row(joint, unit, q, gradient, scalar, value)
-}
-
-fn swing_row_if(limit: f64, joint: Joint, unit: Quat, r: Relative, swing: Swing) -> RowAnswer
-    ensures { (q : Quat) → UnitOf q unit → row_as result ≡ row_if (swing_locked limit) (swing_row joint q r swing) }
-{
-    if limit == 0.0 {
-        return swing_row(joint, unit, r, swing);
-    }
-    RowAnswer::Free
-}
-
-fn twist_row(joint: Joint, unit: Quat, r: Relative, lower: f64) -> RowAnswer
-    ensures { (q : Quat) → UnitOf q unit → row_as result ≡ row_if true (twist_row joint q r lower) }
-{
-    let q = r.rotation;
-    let Angle::Value(half) = atan2(q.z, q.w) else {
-        return RowAnswer::ArithmeticOverflow;
-    };
-    let value = rem_tau(2.0 * half - lower + PI) - PI;
-    if abs(value) >= PI - 1.0e-10 {
-        return RowAnswer::NonConvergent;
-    }
-    let gradient = Vec3::Z.scale(2.0 * q.w / r.norm_squared);
-    let scalar = -2.0 * q.z / r.norm_squared;
-    gradient_row(joint, unit, q, gradient, scalar, value)
-}
-
-fn twist_row_if(joint: Joint, unit: Quat, r: Relative, cone: Cone) -> RowAnswer
-    ensures { (q : Quat) → UnitOf q unit → row_as result ≡ row_if (twist_locked cone) (twist_row joint q r cone.twist_lower) }
-{
-    if cone.twist_lower == cone.twist_upper {
-        return twist_row(joint, unit, r, cone.twist_lower);
-    }
-    RowAnswer::Free
-}
-
+#[tactic(auto, using(arith::specs::Literals::literals))]
 fn any_locked(cone: Cone) -> bool
     ensures { result ≡ any_locked cone }
 {
-    if cone.swing_x == 0.0 {
-        return true;
-    }
-    if cone.swing_y == 0.0 {
-        return true;
-    }
-    cone.twist_lower == cone.twist_upper
+    cone.swing_x == 0.0 || cone.swing_y == 0.0 || cone.twist_lower == cone.twist_upper
 }
 
 // A half turn has no twist, so nothing may be locked there.
+#[tactic(auto, using(arith::specs::Literals::literals))]
 fn half_turned(cone: Cone, norm_squared: f64) -> bool
     ensures { result ≡ half_turned cone norm_squared }
 {
-    if norm_squared <= (64.0 * EPSILON) * (64.0 * EPSILON) {
-        return any_locked(cone);
-    }
-    false
+    norm_squared <= (64.0 * EPSILON) * (64.0 * EPSILON) && any_locked(cone)
 }
 
-fn relative_of(cone: Cone, frame_a: Quat, frame_b: Quat) -> RelativeAnswer
-    ensures { relative_as result ≡ relative_of cone frame_a frame_b }
+#[tactic(auto, unfolding(crate::specs::Geometry::relative_of, arith::specs::Flow::and_then))]
+fn relative_of(cone: Cone, frame_a: Quat, frame_b: Quat) -> Result<Relative, CollisionError>
+    ensures { result ≡ relative_of cone frame_a frame_b }
 {
-    let OptionQuat::Some(q) = frame_a.conjugate().product(frame_b).try_normalize() else {
-        return RelativeAnswer::ArithmeticOverflow;
-    };
+    let q = unit_of(frame_a.conjugate().product(frame_b))?;
     let norm_squared = q.w * q.w + q.z * q.z;
     if half_turned(cone, norm_squared) {
-        return RelativeAnswer::NonConvergent;
+        return Err(CollisionError::NonConvergent);
     }
-    RelativeAnswer::Value(Relative {
+    Ok(Relative {
         rotation: q,
         norm_squared,
         norm: sqrt(norm_squared),
@@ -580,120 +394,202 @@ fn axes_of(linear: Linear) -> Axes
     }
 }
 
-fn append_row(s: &mut [f64], at: usize, n: usize, answer: RowAnswer) -> Written
+// The row behind the n that stand there, and how many do then.
+fn append(s: &mut [f64], at: usize, n: usize, row: Option<EqualityRow>) -> usize
     requires { at + 14 * n + 14 ≤ length s.old }
-    ensures { Appends at (Written.Rows n) answer s.old s.new result }
+    ensures { Appends at n row s.old s.new result }
 {
-    match answer {
-        RowAnswer::Value(row) => {
-            row.store(s, at + ROW * n);
-            Written::Rows(n + 1)
+    let Some(row) = row else {
+        return n;
+    };
+    row.store(s, at + ROW * n);
+    n + 1
+}
+
+impl Basis {
+    // The anchors' difference along an axis of frame a.
+    #[tactic(auto, using(crate::proofs::UnitLaws::rotate_is), unfolding(crate::specs::Geometry::linear_row, arith::specs::Flow::and_then))]
+    fn linear_row(self, local_axis: Vec3) -> Result<EqualityRow, CollisionError>
+        ensures { result ≡ linear_row self.joint self.ends local_axis }
+    {
+        let e = self.ends;
+        let axis = rotate_as_unit(self.unit, local_axis)?;
+        let angular_a = finite(axis.cross(e.delta).sub(e.arm_a.cross(axis)))?;
+        let angular_b = finite(e.arm_b.cross(axis))?;
+        Ok(EqualityRow {
+            a: self.joint.body_a,
+            b: self.joint.body_b,
+            linear_a: axis.neg(),
+            angular_a,
+            linear_b: axis,
+            angular_b,
+            value: e.delta.dot(axis),
+            tolerance: self.tolerance,
+        })
+    }
+
+    #[tactic(auto, unfolding(arith::specs::Flow::and_then))]
+    fn linear_row_if(
+        self,
+        locked: bool,
+        local_axis: Vec3,
+    ) -> Result<Option<EqualityRow>, CollisionError>
+        ensures { listed result ≡ row_if locked (linear_row self.joint self.ends local_axis) }
+    {
+        if !locked {
+            return Ok(None);
         }
-        RowAnswer::Free => Written::Rows(n),
-        RowAnswer::NonConvergent => Written::NonConvergent,
-        RowAnswer::ArithmeticOverflow => Written::ArithmeticOverflow,
+        let row = self.linear_row(local_axis)?;
+        Ok(Some(row))
     }
-}
 
-// The answer's row behind those written. The first failure stands.
-fn append(s: &mut [f64], at: usize, written: Written, answer: RowAnswer) -> Written
-    requires { at + 14 * count_of written + 14 ≤ length s.old }
-    ensures { Appends at written answer s.old s.new result }
-{
-    match written {
-        Written::Rows(n) => append_row(s, at, n, answer),
-        Written::NonConvergent => Written::NonConvergent,
-        Written::ArithmeticOverflow => Written::ArithmeticOverflow,
-    }
-}
-
-fn write_linear(
-    s: &mut [f64],
-    at: usize,
-    joint: Joint,
-    e: Ends,
-    linear: Linear,
-    unit: Quat,
-    tolerance: f64,
-) -> Written
-    requires { (at + 84 ≤ length s.old) × (UnitOf e.frame_a unit) × (go tolerance ≡ tolerance_of e.pa e.pb) }
-    ensures { Adds joint.body_a joint.body_b at 3 s.old s.new result (linear_rows linear joint e) }
-{
-    let locked = axes_of(linear);
-    let x = linear_row_if(locked.x, joint, e, unit, Vec3::X, tolerance);
-    let one = append(s, at, Written::Rows(0), x);
-    let y = linear_row_if(locked.y, joint, e, unit, Vec3::Y, tolerance);
-    let two = append(s, at, one, y);
-    let z = linear_row_if(locked.z, joint, e, unit, Vec3::Z, tolerance);
-    append(s, at, two, z)
-}
-
-fn write_align(
-    s: &mut [f64],
-    at: usize,
-    written: Written,
-    joint: Joint,
-    e: Ends,
-    unit: Quat,
-) -> Written
-    requires { (Room at 3 s.old written) × (UnitOf e.frame_a unit) }
-    ensures { Follows joint at s.old s.new written result (align_rows joint e) }
-{
-    match aligned(unit, e.frame_b) {
-        AxisAnswer::Value(z) => {
-            let x = align_row(joint, unit, Vec3::X, z);
-            let one = append(s, at, written, x);
-            let y = align_row(joint, unit, Vec3::Y, z);
-            append(s, at, one, y)
+    // The Z axis of frame b. The aligning kinds refuse where the Z axes lead apart.
+    #[tactic(auto, using(crate::proofs::UnitLaws::rotate_is, arith::specs::Literals::literals), unfolding(crate::specs::Geometry::aligned_of, arith::specs::Flow::and_then))]
+    fn aligned(self) -> Result<Vec3, CollisionError>
+        ensures { result ≡ aligned_of self.ends.frame_a self.ends.frame_b }
+    {
+        let z = rotate(self.ends.frame_b, Vec3::Z)?;
+        let za = rotate_as_unit(self.unit, Vec3::Z)?;
+        if za.dot(z) <= 1.0e-10 {
+            return Err(CollisionError::NonConvergent);
         }
-        AxisAnswer::NonConvergent => append(s, at, written, RowAnswer::NonConvergent),
-        AxisAnswer::ArithmeticOverflow => append(s, at, written, RowAnswer::ArithmeticOverflow),
+        Ok(z)
     }
-}
 
-fn write_cone(
-    s: &mut [f64],
-    at: usize,
-    written: Written,
-    joint: Joint,
-    e: Ends,
-    unit: Quat,
-    cone: Cone,
-) -> Written
-    requires { (Room at 3 s.old written) × (UnitOf e.frame_a unit) }
-    ensures { Follows joint at s.old s.new written result (cone_rows joint e cone) }
-{
-    match relative_of(cone, e.frame_a, e.frame_b) {
-        RelativeAnswer::Value(r) => {
-            let x = swing_row_if(cone.swing_x, joint, unit, r, swing_x(r.rotation));
-            let one = append(s, at, written, x);
-            let y = swing_row_if(cone.swing_y, joint, unit, r, swing_y(r.rotation));
-            let two = append(s, at, one, y);
-            let twist = twist_row_if(joint, unit, r, cone);
-            append(s, at, two, twist)
+    // The Z axis of frame b across an axis of frame a.
+    #[tactic(auto, using(crate::proofs::UnitLaws::rotate_is), unfolding(crate::specs::Geometry::align_row, arith::specs::Flow::and_then))]
+    fn align_row(self, local_axis: Vec3, z: Vec3) -> Result<EqualityRow, CollisionError>
+        ensures { result ≡ align_row self.joint self.ends.frame_a local_axis z }
+    {
+        let axis = rotate_as_unit(self.unit, local_axis)?;
+        let gradient = finite(axis.cross(z))?;
+        Ok(EqualityRow::turning(self.joint, gradient, gradient.neg(), axis.dot(z)))
+    }
+
+    // A row along a gradient in the relative rotation.
+    #[tactic(auto, using(crate::proofs::UnitLaws::rotate_is), unfolding(crate::specs::Geometry::gradient_row, arith::specs::Flow::and_then))]
+    fn gradient_row(
+        self,
+        relative: Quat,
+        gradient: Vec3,
+        scalar: f64,
+        value: f64,
+    ) -> Result<EqualityRow, CollisionError>
+        ensures { result ≡ gradient_row self.joint self.ends.frame_a relative gradient scalar value }
+    {
+        let angular = rotate_as_unit(self.unit, local_gradient(relative, gradient, scalar))?;
+        Ok(EqualityRow::turning(self.joint, angular.neg(), angular, value))
+    }
+
+    #[tactic(auto, using(arith::specs::Literals::literals), unfolding(crate::specs::Geometry::swing_row))]
+    fn swing_row(self, r: Relative, swing: Swing) -> Result<EqualityRow, CollisionError>
+        ensures { result ≡ swing_row self.joint self.ends.frame_a r swing }
+    {
+        let q = r.rotation;
+        let value = 2.0 * swing.numerator / r.norm;
+        let cubed = r.norm_squared * r.norm;
+        let gradient = swing
+            .gradient
+            .scale(2.0 / r.norm)
+            .sub(Vec3::Z.scale(2.0 * swing.numerator * q.z / cubed));
+        let scalar = 2.0 * swing.scalar / r.norm - 2.0 * swing.numerator * q.w / cubed;
+        self.gradient_row(q, gradient, scalar, value)
+    }
+
+    #[tactic(auto, using(arith::specs::Literals::literals), unfolding(arith::specs::Flow::and_then))]
+    fn swing_row_if(
+        self,
+        limit: f64,
+        r: Relative,
+        swing: Swing,
+    ) -> Result<Option<EqualityRow>, CollisionError>
+        ensures { listed result ≡ row_if (swing_locked limit) (swing_row self.joint self.ends.frame_a r swing) }
+    {
+        if limit == 0.0 {
+            let row = self.swing_row(r, swing)?;
+            return Ok(Some(row));
         }
-        RelativeAnswer::NonConvergent => append(s, at, written, RowAnswer::NonConvergent),
-        RelativeAnswer::ArithmeticOverflow => append(s, at, written, RowAnswer::ArithmeticOverflow),
+        Ok(None)
     }
-}
 
-// The rows on rotations behind the linear ones.
-fn write_turning(
-    s: &mut [f64],
-    at: usize,
-    written: Written,
-    joint: Joint,
-    e: Ends,
-    turning: Turning,
-    unit: Quat,
-) -> Written
-    requires { (Room at 3 s.old written) × (UnitOf e.frame_a unit) }
-    ensures { Follows joint at s.old s.new written result (turning_rows turning joint e) }
-{
-    match turning {
-        Turning::Free => written,
-        Turning::Align => write_align(s, at, written, joint, e, unit),
-        Turning::Cone(cone) => write_cone(s, at, written, joint, e, unit, cone),
+    #[tactic(auto, using(arith::specs::Literals::literals), unfolding(crate::specs::Geometry::twist_row, arith::specs::Flow::and_then))]
+    fn twist_row(self, r: Relative, lower: f64) -> Result<EqualityRow, CollisionError>
+        ensures { result ≡ twist_row self.joint self.ends.frame_a r lower }
+    {
+        let q = r.rotation;
+        let half = atan2(q.z, q.w)?;
+        let value = rem_tau(2.0 * half - lower + PI) - PI;
+        if abs(value) >= PI - 1.0e-10 {
+            return Err(CollisionError::NonConvergent);
+        }
+        let gradient = Vec3::Z.scale(2.0 * q.w / r.norm_squared);
+        let scalar = -2.0 * q.z / r.norm_squared;
+        self.gradient_row(q, gradient, scalar, value)
+    }
+
+    #[tactic(auto, unfolding(arith::specs::Flow::and_then))]
+    fn twist_row_if(self, r: Relative, cone: Cone) -> Result<Option<EqualityRow>, CollisionError>
+        ensures { listed result ≡ row_if (twist_locked cone) (twist_row self.joint self.ends.frame_a r cone.twist_lower) }
+    {
+        if cone.twist_lower == cone.twist_upper {
+            let row = self.twist_row(r, cone.twist_lower)?;
+            return Ok(Some(row));
+        }
+        Ok(None)
+    }
+
+    fn write_linear(self, s: &mut [f64], at: usize, linear: Linear) -> Result<usize, CollisionError>
+        requires { at + 42 ≤ length s.old }
+        ensures { Adds self.joint at 3 s.old s.new result (linear_rows linear self.joint self.ends) }
+    {
+        let locked = axes_of(linear);
+        let x = self.linear_row_if(locked.x, Vec3::X)?;
+        let one = append(s, at, 0, x);
+        let y = self.linear_row_if(locked.y, Vec3::Y)?;
+        let two = append(s, at, one, y);
+        let z = self.linear_row_if(locked.z, Vec3::Z)?;
+        Ok(append(s, at, two, z))
+    }
+
+    fn write_align(self, s: &mut [f64], at: usize) -> Result<usize, CollisionError>
+        requires { at + 42 ≤ length s.old }
+        ensures { Adds self.joint at 3 s.old s.new result (align_rows self.joint self.ends) }
+    {
+        let z = self.aligned()?;
+        let x = self.align_row(Vec3::X, z)?;
+        let one = append(s, at, 0, Some(x));
+        let y = self.align_row(Vec3::Y, z)?;
+        Ok(append(s, at, one, Some(y)))
+    }
+
+    fn write_cone(self, s: &mut [f64], at: usize, cone: Cone) -> Result<usize, CollisionError>
+        requires { at + 42 ≤ length s.old }
+        ensures { Adds self.joint at 3 s.old s.new result (cone_rows self.joint self.ends cone) }
+    {
+        let r = relative_of(cone, self.ends.frame_a, self.ends.frame_b)?;
+        let x = self.swing_row_if(cone.swing_x, r, swing_x(r.rotation))?;
+        let one = append(s, at, 0, x);
+        let y = self.swing_row_if(cone.swing_y, r, swing_y(r.rotation))?;
+        let two = append(s, at, one, y);
+        let twist = self.twist_row_if(r, cone)?;
+        Ok(append(s, at, two, twist))
+    }
+
+    // The rows on rotations.
+    fn write_turning(
+        self,
+        s: &mut [f64],
+        at: usize,
+        turning: Turning,
+    ) -> Result<usize, CollisionError>
+        requires { at + 42 ≤ length s.old }
+        ensures { Adds self.joint at 3 s.old s.new result (turning_rows turning self.joint self.ends) }
+    {
+        match turning {
+            Turning::Free => Ok(0),
+            Turning::Align => self.write_align(s, at),
+            Turning::Cone(cone) => self.write_cone(s, at, cone),
+        }
     }
 }
 
@@ -715,45 +611,47 @@ fn write_frames(
     s: &mut [f64],
     at: usize,
     joint: Joint,
-    e: Ends,
+    ends: Ends,
     linear: Linear,
     turning: Turning,
-) -> Written
+) -> Result<usize, CollisionError>
     requires { at + 84 ≤ length s.old }
-    ensures { Adds joint.body_a joint.body_b at 6 s.old s.new result (frame_rows linear turning joint e) }
+    ensures { Adds joint at 6 s.old s.new result (frame_rows linear turning joint ends) }
 {
-    let OptionF64::Some(tolerance) = tolerance(e.pa, e.pb) else {
-        return Written::ArithmeticOverflow;
+    let tolerance = tolerance(ends.pa, ends.pb)?;
+    let unit = unit_of(ends.frame_a)?;
+    let basis = Basis {
+        joint,
+        ends,
+        unit,
+        tolerance,
     };
-    let OptionQuat::Some(unit) = e.frame_a.try_normalize() else {
-        return Written::ArithmeticOverflow;
-    };
-    let along = write_linear(s, at, joint, e, linear, unit, tolerance);
-    let written = write_turning(s, at, along, joint, e, turning, unit);
-    match written {
-        Written::Rows(count) => {
-            if values_finite(s, at, count) {
-                return Written::Rows(count);
-            }
-            Written::ArithmeticOverflow
-        }
-        Written::NonConvergent => Written::NonConvergent,
-        Written::ArithmeticOverflow => Written::ArithmeticOverflow,
+    let along = basis.write_linear(s, at, linear)?;
+    let count = along + basis.write_turning(s, at + ROW * along, turning)?;
+    if !values_finite(s, at, count) {
+        return Err(CollisionError::ArithmeticOverflow);
     }
+    Ok(count)
 }
 
 // The rows of a joint by what its kind holds.
-fn write_kind(s: &mut [f64], at: usize, joint: Joint, a: MomentumBody, b: MomentumBody) -> Written
+fn write_kind(
+    s: &mut [f64],
+    at: usize,
+    joint: Joint,
+    a: MomentumBody,
+    b: MomentumBody,
+) -> Result<usize, CollisionError>
     requires { at + 84 ≤ length s.old }
-    ensures { Adds joint.body_a joint.body_b at 6 s.old s.new result (write_equality_rows joint a b) }
+    ensures { Adds joint at 6 s.old s.new result (write_equality_rows joint a b) }
 {
-    let EndsAnswer::Value(e) = ends_of(joint, a, b) else {
-        return Written::ArithmeticOverflow;
-    };
-    let kind = joint.kind;
-    match motions_of(kind) {
-        Motions::Rod(length) => { append(s, at, Written::Rows(0), distance_row(joint, e, length)) }
-        Motions::Frame(linear, turning) => write_frames(s, at, joint, e, linear, turning),
+    let ends = ends_of(joint, a, b)?;
+    match motions_of(joint.kind) {
+        Motions::Rod(rod) => {
+            let row = distance_row(joint, ends, rod)?;
+            Ok(append(s, at, 0, Some(row)))
+        }
+        Motions::Frame(linear, turning) => write_frames(s, at, joint, ends, linear, turning),
     }
 }
 
@@ -774,21 +672,15 @@ pub fn write_equality_rows(
     joint: Joint,
     a: MomentumBody,
     b: MomentumBody,
-) -> Written
+) -> Result<usize, CollisionError>
     requires { at + 84 ≤ length s.old }
     ensures { Writes joint a b at s.old s.new result }
 {
-    match write_kind(s, at, joint, a, b) {
-        Written::Rows(n) => Written::Rows(n),
-        Written::NonConvergent => {
-            clear(s, at, SPACE);
-            Written::NonConvergent
-        }
-        Written::ArithmeticOverflow => {
-            clear(s, at, SPACE);
-            Written::ArithmeticOverflow
-        }
+    let written = write_kind(s, at, joint, a, b);
+    if written.is_err() {
+        clear(s, at, SPACE);
     }
+    written
 }
 
 fn linear_count(linear: Linear) -> usize
@@ -801,12 +693,6 @@ fn linear_count(linear: Linear) -> usize
     }
 }
 
-fn one_if_equal(a: f64, b: f64) -> usize
-    ensures { (result ≡ one_if (Ieee.eq a b)) × (result ≤ 1) }
-{
-    if a == b { 1 } else { 0 }
-}
-
 fn turning_count(turning: Turning) -> usize
     ensures { (result ≡ turning_count turning) × (result ≤ 3) }
 {
@@ -814,9 +700,9 @@ fn turning_count(turning: Turning) -> usize
         Turning::Free => 0,
         Turning::Align => 2,
         Turning::Cone(cone) => {
-            one_if_equal(cone.swing_x, 0.0)
-                + one_if_equal(cone.swing_y, 0.0)
-                + one_if_equal(cone.twist_lower, cone.twist_upper)
+            usize::from(cone.swing_x == 0.0)
+                + usize::from(cone.swing_y == 0.0)
+                + usize::from(cone.twist_lower == cone.twist_upper)
         }
     }
 }

@@ -1,25 +1,29 @@
 -- The path's blocks and edges: what `path_blocks` and `path_edges` leave in the lent arrays is what Path defines over lists. By the laws of loops and of `set`.
-use Prim.Native.Nat.{ℕ, ◌+◌, ◌*◌, ◌-◌, ◌≤◌, ◌<◌}
+use Prim.Native.Nat.{ℕ, zero, suc, ◌+◌, ◌-◌, ◌≤◌, ◌<◌}
 use mathlib.Core.Path.{◌≡◌, refl, sym, ◌∙◌, ap, subst}
-use mathlib.Core.Bool.{Bool, true, false, cond, not, ◌&&◌, ◌||◌}
+use mathlib.Core.Bool.{Bool, true, false, cond, not, ◌&&◌}
 use mathlib.Core.List.{List, [], ◌∷◌, ◌++◌}
 use native.Mathlib.Omega.{arith}
-use native.Mathlib.Decide.{ℕ_discrete, dec_lt}
+use native.Mathlib.Decide.{ℕ_discrete}
 use borrow.Author.Tests.{eq-eqb, ne_eqb}
 use lib.Dec.{eqb}
-use lib.ListN.{length, get_or, set, replicate, length-set, length-replicate, get_or-replicate, get_or-eq_default}
+use lib.ListN.{length, get_or, set, replicate, take, length-set, length-replicate, get_or-replicate}
 use lib.Seq.{get_or-set_same, get_or-set_other}
-use Rattle.arith.specs.Flow.{Turn, go, stop, turns, loop, tab}
-use Rattle.arith.specs.FlowLaws.{turns-none, turns_more, then-go, then-stop, loop-none, loop-more, loop-stop, cond_yes, cond_no}
-use Rattle.rows.specs.Region.{tab-length, tab-ext, tab-at, tab-more}
-use Rattle.solves.specs.Path.{index, none, begins, path_starts, add_edge, block_edges}
-use Rattle.solves.specs.Answer.{edges_as}
+use Rattle.std.proofs.lemmas.List.Sums.{sum_by-set, sum_by_push}
+use Rattle.std.proofs.lemmas.List.{length-append, get_or_append_left, get_or_at, get_or_default, length-take-le, get_or-take}
+use Rattle.std.specs.Prelude.{Option, Some, None}
+use Rattle.std.proofs.lemmas.Option.{same_Some}
+use Rattle.arith.specs.Flow.{Turn, go, stop, turns, loop}
+use Rattle.arith.specs.FlowLaws.{turns_more, then-go, then-stop, loop-none, loop-more, loop-stop, loop-end, cond_yes}
+use Rattle.rows.specs.Region.{tab-at, tab-more}
+use Rattle.solves.specs.declared.order.Ends.{Ends}
+use Rattle.solves.specs.declared.order.NoPath.{NoPath}
+use Rattle.solves.specs.declared.order.RowBlock.{RowBlock}
+use Rattle.solves.specs.Path.{index, no_block, block_at, on_pair, to_row, note_row, path_blocks}
+use Rattle.solves.specs.Path.{no_ends, full_ends, ends_at, with_block, add_edge, block_edges, path_edges}
+use Rattle.solves.specs.Answer.{left_as}
 use Rattle.solves.specs.View.{list_of_first}
-use Rattle.solves.specs.PathView.{Bodies, Blocks, starts_of, rows_of, Blocked, Parted, Linked, Linking, edges_on}
-
--- a turn of `path_starts`
-abbrev pub start_turn : List ℕ → List ℕ → ℕ → List ℕ → List ℕ
-start_turn a b i starts = cond (begins a b i) (starts ++ (i ∷ [])) starts
+use Rattle.solves.specs.PathView.{Bodies, size_of, rows_of, BlockIn, Blocked, Noted, Linked, EndsIn, Linking}
 
 -- an element of the first n
 pub list_at : (l : List ℕ) (n k : ℕ) → k < n → get_or l k 0 ≡ index (list_of_first l n) k
@@ -29,277 +33,275 @@ list_at l n k h = sym (tab-at n (λ j. get_or l j 0) 0 k h)
 pub list-more : (l : List ℕ) (k v : ℕ) → k < length l → list_of_first (set l k v) (k + 1) ≡ list_of_first l k ++ (v ∷ [])
 list-more l k v h = tab-more k (λ i q. get_or-set_other l k i v 0 (λ e. omega arith)) (get_or-set_same l k v 0 h)
 
--- ---- begins
-module _ (ia ib : List ℕ) (i : ℕ) where
-  -- by the three tests: first row, same a, same b
-  begins-by : {x y z : Bool} → eqb i 0 ≡ x → eqb (index ia i) (index ia (i - 1)) ≡ y → eqb (index ib i) (index ib (i - 1)) ≡ z
-      → x || not (y && z) ≡ begins ia ib i
-  unfolding begins
-  begins-by f a b = sym (λ j. f j || not (a j && b j))
-
-  pub begins-first : i ≡ 0 → true ≡ begins ia ib i
-  begins-first e = begins-by (eq-eqb i 0 e) refl refl
-
-  module _ (z : i ≡ 0 → ⊥) where
-    pub begins-same : index ia i ≡ index ia (i - 1) → index ib i ≡ index ib (i - 1) → false ≡ begins ia ib i
-    begins-same a b = begins-by (ne_eqb i 0 z) (eq-eqb _ _ a) (eq-eqb _ _ b)
-
-    pub begins-b : index ia i ≡ index ia (i - 1) → (index ib i ≡ index ib (i - 1) → ⊥) → true ≡ begins ia ib i
-    begins-b a b = begins-by (ne_eqb i 0 z) (eq-eqb _ _ a) (ne_eqb _ _ b)
-
-    pub begins-a : (index ia i ≡ index ia (i - 1) → ⊥) → true ≡ begins ia ib i
-    begins-a a = begins-by (ne_eqb i 0 z) (ne_eqb _ _ a) refl
-
-  -- over the first n alone
-  pub begins-in : (n : ℕ) → i < n → begins ia ib i ≡ begins (list_of_first ia n) (list_of_first ib n) i
-  unfolding begins
-  begins-in n h = λ j.
-      eqb i 0 || not (eqb (list_at ia n i h j) (list_at ia n (i - 1) (omega arith) j) && eqb (list_at ib n i h j) (list_at ib n (i - 1) (omega arith) j))
-
 -- ---- path_blocks
--- when it is at row i: the starts so far, and behind them the array as it was
-pub record Starts (ia ib : List ℕ) (n : ℕ) (before : List ℕ) (i : ℕ) (starts : List ℕ) (blocks : ℕ) : Type 0 where
-  pub size : length starts ≡ 97
-  pub few : blocks ≤ i
-  pub is : list_of_first starts blocks ≡ turns (start_turn (list_of_first ia n) (list_of_first ib n)) i []
-  pub inside : (k : ℕ) → k < blocks → get_or starts k 0 < i
-  pub rising : (k : ℕ) → k + 1 < blocks → get_or starts k 0 ≤ get_or starts (k + 1) 0
-  pub rest : (k : ℕ) → blocks ≤ k → get_or starts k 0 ≡ get_or before k 0
+-- a write among the first n
+set-take : {A : Type 0} (xs : List A) (n i : ℕ) (y : A) → take n (set xs i y) ≡ set (take n xs) i y
+set-take xs zero i y = refl
+set-take [] (suc n) i y = refl
+set-take (x ∷ xs) (suc n) zero y = refl
+set-take (x ∷ xs) (suc n) (suc i) y = ap (λ l. x ∷ l) (set-take xs n i y)
 
--- a write of v at the end of a rising list of at most v
-module _ (starts : List ℕ) (blocks v : ℕ) (there : blocks < length starts) (below : (k : ℕ) → k < blocks → get_or starts k 0 ≤ v) where
-  written : get_or (set starts blocks v) blocks 0 ≡ v
-  written = get_or-set_same starts blocks v 0 there
+-- `note_row` where row i ends the last of m blocks
+row_same : {x y m : ℕ} (i : ℕ) (blocks : List RowBlock) → length blocks ≡ m → 0 < m → (block_at blocks (m - 1)).a ≡ x → (block_at blocks (m - 1)).b ≡ y
+    → set blocks (m - 1) (to_row i (block_at blocks (m - 1))) ≡ note_row x y i blocks
+unfolding note_row
+row_same {x} {y} {m} i blocks size h ea eb =
+    ap (λ (m : ℕ). set blocks (m - 1) (to_row i (block_at blocks (m - 1)))) (sym size) ∙ cond_yes _ _ test
+  where
+    last : block_at blocks (length blocks - 1) ≡ block_at blocks (m - 1)
+    last = ap (λ (m : ℕ). block_at blocks (m - 1)) size
 
-  unwritten : (k : ℕ) → (k ≡ blocks → ⊥) → get_or (set starts blocks v) k 0 ≡ get_or starts k 0
-  unwritten k q = get_or-set_other starts blocks k v 0 q
+    test : not (eqb (length blocks) 0) && on_pair x y (block_at blocks (length blocks - 1)) ≡ true
+    test = λ j. not (ne_eqb (length blocks) 0 (λ e. omega arith) j)
+        && (eq-eqb _ x (ap (λ (b : RowBlock). b.a) last ∙ ea) j && eq-eqb _ y (ap (λ (b : RowBlock). b.b) last ∙ eb) j)
 
-  still-below : (k : ℕ) → k < blocks + 1 → get_or (set starts blocks v) k 0 ≤ v
-  still-below k q = by (ℕ_discrete k blocks)
-    where
-      by : Dec (k ≡ blocks) → get_or (set starts blocks v) k 0 ≤ v
-      by (yes r) = rw r (rw written (omega arith))
-      by (no r) = rw (unwritten k r) (below k (omega arith))
+-- the same in a table
+pub row_ends : (table : List RowBlock) {number : ℕ} {x y : ℕ} (i : ℕ) → 0 < number → number ≤ length table → (block_at table (number - 1)).a ≡ x
+    → (block_at table (number - 1)).b ≡ y
+    → Noted (set table (number - 1) (to_row i (block_at table (number - 1)))) number (note_row x y i (take number table))
+row_ends table {number} {x} {y} i h m ea eb = record {
+  number_is = sym (length-take-le number _ (rw length-set m)) ∙ ap length same;
+  is = same;
+}
+  where
+    last : block_at (take number table) (number - 1) ≡ block_at table (number - 1)
+    last = get_or-take number table (number - 1) no_block (omega arith)
 
-  still-rising : ((k : ℕ) → k + 1 < blocks → get_or starts k 0 ≤ get_or starts (k + 1) 0)
-      → (k : ℕ) → k + 1 < blocks + 1 → get_or (set starts blocks v) k 0 ≤ get_or (set starts blocks v) (k + 1) 0
-  still-rising rising k q = by (ℕ_discrete (k + 1) blocks)
-    where
-      here : get_or (set starts blocks v) k 0 ≡ get_or starts k 0
-      here = unwritten k (λ e. omega arith)
+    same : take number (set table (number - 1) (to_row i (block_at table (number - 1)))) ≡ note_row x y i (take number table)
+    same = set-take table number (number - 1) _ ∙ ap (λ (b : RowBlock). set (take number table) (number - 1) (to_row i b)) (sym last)
+        ∙ row_same i (take number table) (length-take-le number table m) h (ap (λ (b : RowBlock). b.a) last ∙ ea) (ap (λ (b : RowBlock). b.b) last ∙ eb)
 
-      by : Dec (k + 1 ≡ blocks) → get_or (set starts blocks v) k 0 ≤ get_or (set starts blocks v) (k + 1) 0
-      by (yes r) =
-          let next : get_or (set starts blocks v) (k + 1) 0 ≡ v = ap (λ (j : ℕ). get_or (set starts blocks v) j 0) r ∙ written in
-          omega (arith, here, below k (omega arith))
-      by (no r) = omega (arith, here, unwritten (k + 1) r, rising k (omega arith))
+-- a block of row i alone
+abbrev one-row : ℕ → ℕ → ℕ → RowBlock
+one-row x y i = record { a = x; b = y; start = i; end = i + 1 }
 
-module _ (ia ib : List ℕ) (n : ℕ) (before : List ℕ) where
-  abbrev Turned : ℕ → List ℕ → List ℕ
-  Turned = start_turn (list_of_first ia n) (list_of_first ib n)
+-- when it is at row i
+pub record BlocksSo (i : ℕ) (blocks : List RowBlock) : Type 0 where
+  pub few : length blocks ≤ i
+  pub total : rows_of blocks ≡ i
+  pub each : (k : ℕ) → k < length blocks → BlockIn i (block_at blocks k)
+  pub last : 0 < length blocks → (block_at blocks (length blocks - 1)).end ≡ i
 
-  pub starts_none : length before ≡ 97 → Starts ia ib n before 0 before 0
-  unfolding tab
-  starts_none l = record {
-    size = l;
-    few = omega arith;
-    is = turns-none Turned [];
-    inside = λ k h. absurd (omega arith);
-    rising = λ k h. absurd (omega arith);
-    rest = λ k h. refl;
+so_none : BlocksSo 0 []
+so_none = record { few = omega arith; total = refl; each = λ k h. absurd (omega arith); last = λ h. absurd (omega arith) }
+
+module _ {i : ℕ} {blocks : List RowBlock} (so : BlocksSo i blocks) where
+  abbrev final : RowBlock
+  final = block_at blocks (length blocks - 1)
+
+  abbrev longer : RowBlock
+  longer = record { a = final.a; b = final.b; start = final.start; end = i + 1 }
+
+  wider : {block : RowBlock} → BlockIn i block → BlockIn (i + 1) block
+  wider b = record { rising = b.rising; inside = omega (arith, b.inside); a-there = b.a-there; b_there = b.b_there }
+
+  ended : 0 < length blocks → BlocksSo (i + 1) (set blocks (length blocks - 1) longer)
+  ended h = record {
+    few = omega (arith, length-set blocks (length blocks - 1) longer);
+    total = omega (arith, sum_by-set size_of blocks (length blocks - 1) longer no_block here, so.total, old.rising, so.last h);
+    each = λ k q. by k (omega (arith, length-set blocks (length blocks - 1) longer)) (ℕ_discrete k (length blocks - 1));
+    last = λ q. ap (λ (b : RowBlock). b.end)
+        (ap (λ (m : ℕ). block_at (set blocks (length blocks - 1) longer) (m - 1)) (length-set blocks (length blocks - 1) longer)
+        ∙ get_or-set_same blocks (length blocks - 1) longer no_block here);
   }
-
-  module _ {i : ℕ} {starts : List ℕ} {blocks : ℕ} (inv : Starts ia ib n before i starts blocks) (h : i < n) (m : n ≤ 96) where
-    there : blocks < length starts
-    there = omega (arith, inv.size, inv.few)
-
-    below : (k : ℕ) → k < blocks → get_or starts k 0 ≤ i
-    below k q = omega (arith, inv.inside k q)
-
-    noted : begins ia ib i ≡ true → Starts ia ib n before (i + 1) (set starts blocks i) (blocks + 1)
-    noted e = record {
-      size = length-set starts blocks i ∙ inv.size;
-      few = omega arith;
-      is = list-more starts blocks i there ∙ ap (λ (l : List ℕ). l ++ (i ∷ [])) inv.is
-          ∙ cond_yes _ _ (sym (begins-in ia ib i n h) ∙ e) ∙ turns_more Turned i [] refl;
-      inside = λ k q. omega (arith, still-below starts blocks i there below k q);
-      rising = still-rising starts blocks i there below inv.rising;
-      rest = λ k q. unwritten starts blocks i there below k (λ r. omega arith) ∙ inv.rest k (omega arith);
-    }
-
-    passed : begins ia ib i ≡ false → Starts ia ib n before (i + 1) starts blocks
-    passed e = record {
-      size = inv.size;
-      few = omega arith;
-      is = inv.is ∙ cond_no _ _ (sym (begins-in ia ib i n h) ∙ e) ∙ turns_more Turned i [] refl;
-      inside = λ k q. omega (arith, inv.inside k q);
-      rising = inv.rising;
-      rest = inv.rest;
-    }
-
-    by : (b : Bool) → begins ia ib i ≡ b → Starts ia ib n before (i + 1) (cond b (set starts blocks i) starts) (cond b (blocks + 1) blocks)
-    by true e = noted e
-    by false e = passed e
-
-    -- as note_start leaves it
-    pub starts_more : {t : List ℕ} {r : ℕ} → r ≡ cond (begins ia ib i) (blocks + 1) blocks → t ≡ cond (begins ia ib i) (set starts blocks i) starts
-        → Starts ia ib n before (i + 1) t r
-    starts_more e f = rw (e, f) (by (begins ia ib i) refl)
-
-  module _ (m : n ≤ 96) (pa : Bodies ia n) (pb : Bodies ib n) {i : ℕ} {starts : List ℕ} {blocks : ℕ} (inv : Starts ia ib n before i starts blocks)
-      (a : i ≤ n) (b : n ≤ i) where
-    fits : blocks < length starts
-    fits = omega (arith, inv.size, inv.few)
-
-    low : (k : ℕ) → k < blocks → get_or starts k 0 ≤ n
-    low k q = omega (arith, inv.inside k q)
-
-    rows_is : get_or (set starts blocks n) blocks 0 ≡ n
-    rows_is = written starts blocks n fits low
-
-    old : (k : ℕ) → k < blocks → get_or (set starts blocks n) k 0 ≡ get_or starts k 0
-    old k q = unwritten starts blocks n fits low k (λ e. omega arith)
-
-    pub blocks-made : Parted ia ib n before (set starts blocks n) blocks
-    unfolding path_starts
-    blocks-made = record {
-      are = record {
-        most = omega (arith, rows_is);
-        few = omega (arith, rows_is, inv.few);
-        inside = λ k q. omega (arith, rows_is, old k q, inv.inside k q);
-        ends = λ k q. omega (arith, rows_is, still-below starts blocks n fits low (k + 1) (omega arith));
-        rising = λ k q. still-rising starts blocks n fits low inv.rising k (omega arith);
-        a-there = λ k q. pa k (omega (arith, rows_is));
-        b_there = λ k q. pb k (omega (arith, rows_is));
-      };
-      rows = rows_is;
-      is = tab-ext blocks old ∙ inv.is ∙ ap (λ (j : ℕ). turns Turned j []) (omega arith);
-      rest = λ k q. unwritten starts blocks n fits low k (λ e. omega arith) ∙ inv.rest k (omega arith);
-    }
-
--- ---- what the definitions read of blocks
-module _ {ia ib : List ℕ} {blocks : Blocks} (pre : Blocked ia ib blocks) {k : ℕ} (h : k < blocks.number) where
-  abbrev row : ℕ
-  row = get_or blocks.starts k 0
-
-  pub start_is : row ≡ index (starts_of blocks) k
-  start_is = list_at blocks.starts blocks.number k h
-
-  pub row-there : row < 96
-  row-there = omega (arith, pre.inside k h, pre.most)
-
-  -- the body of the block's first row, on either side
-  pub body_is : (ix : List ℕ) → get_or ix row 0 ≡ index (list_of_first ix (rows_of blocks)) (index (starts_of blocks) k)
-  body_is ix = list_at ix (rows_of blocks) row (pre.inside k h) ∙ ap (index (list_of_first ix (rows_of blocks))) start_is
-
-  pub a_body : get_or ia row 0 < 16
-  a_body = pre.a-there row (pre.inside k h)
-
-  pub b-body : get_or ib row 0 < 16
-  b-body = pre.b_there row (pre.inside k h)
-
-  pub end_is : get_or blocks.starts (k + 1) 0 ≡ get_or (starts_of blocks) (k + 1) (rows_of blocks)
-  end_is = by (dec_lt (k + 1) blocks.number)
     where
-      by : Dec (k + 1 < blocks.number) → get_or blocks.starts (k + 1) 0 ≡ get_or (starts_of blocks) (k + 1) (rows_of blocks)
-      by (yes q) = sym (tab-at blocks.number (λ j. get_or blocks.starts j 0) (rows_of blocks) (k + 1) q)
-      by (no q) =
-          let last : k + 1 ≡ blocks.number = omega arith in
-          ap (λ (j : ℕ). get_or blocks.starts j 0) last
-          ∙ sym (get_or-eq_default (starts_of blocks) (rows_of blocks) (rw (tab-length blocks.number (λ j. get_or blocks.starts j 0)) (omega arith)))
+      here : length blocks - 1 < length blocks
+      here = omega arith
+
+      old : BlockIn i final
+      old = so.each (length blocks - 1) here
+
+      by : (k : ℕ) → k < length blocks → Dec (k ≡ length blocks - 1) → BlockIn (i + 1) (block_at (set blocks (length blocks - 1) longer) k)
+      by k q (yes e) = rw e (rw (get_or-set_same blocks (length blocks - 1) longer no_block here) (record {
+        rising = omega (arith, old.rising, old.inside);
+        inside = omega arith;
+        a-there = old.a-there;
+        b_there = old.b_there;
+      }))
+      by k q (no e) = rw (get_or-set_other blocks (length blocks - 1) k longer no_block e) (wider (so.each k q))
+
+  begun : (x y : ℕ) → x < 16 → y < 16 → BlocksSo (i + 1) (blocks ++ (one-row x y i ∷ []))
+  begun x y hx hy = record {
+    few = omega (arith, longer-by, so.few);
+    total = omega (arith, sum_by_push size_of blocks (one-row x y i), so.total);
+    each = λ k q. by k (ℕ_discrete k (length blocks)) (omega (arith, longer-by));
+    last = λ q. ap (λ (b : RowBlock). b.end)
+        (ap (λ (m : ℕ). block_at (blocks ++ (one-row x y i ∷ [])) (m - 1)) longer-by
+        ∙ ap (λ (m : ℕ). block_at (blocks ++ (one-row x y i ∷ [])) m) (omega arith)
+        ∙ get_or_at blocks (one-row x y i) [] no_block (length blocks) refl);
+  }
+    where
+      longer-by : length (blocks ++ (one-row x y i ∷ [])) ≡ length blocks + 1
+      longer-by = length-append blocks (one-row x y i ∷ [])
+
+      by : (k : ℕ) → Dec (k ≡ length blocks) → k < length blocks + 1 → BlockIn (i + 1) (block_at (blocks ++ (one-row x y i ∷ [])) k)
+      by k (yes e) q = rw e (rw (get_or_at blocks (one-row x y i) [] no_block (length blocks) refl)
+          (record { rising = omega arith; inside = omega arith; a-there = hx; b_there = hy }))
+      by k (no e) q = rw (get_or_append_left blocks (one-row x y i ∷ []) no_block k (omega arith)) (wider (so.each k (omega arith)))
+
+  so_more : (x y : ℕ) → x < 16 → y < 16 → BlocksSo (i + 1) (note_row x y i blocks)
+  unfolding note_row
+  so_more x y hx hy = by (eqb (length blocks) 0) refl (on_pair x y final)
+    where
+      by : (none : Bool) → eqb (length blocks) 0 ≡ none → (same : Bool)
+          → BlocksSo (i + 1) (cond (not none && same) (set blocks (length blocks - 1) longer) (blocks ++ (one-row x y i ∷ [])))
+      by true e same = begun x y hx hy
+      by false e false = begun x y hx hy
+      by false e true = ended (some (length blocks) e)
+        where
+          some : (n : ℕ) → eqb n 0 ≡ false → 0 < n
+          some zero f = cc
+          some (suc n) f = omega arith
+
+-- a table at row i
+pub record BlocksAt (a b : List ℕ) (i : ℕ) (table : List RowBlock) (number : ℕ) : Type 0 where
+  pub noted : Noted table number (path_blocks a b i)
+  pub so : BlocksSo i (path_blocks a b i)
+
+pub blocks_none : (a b : List ℕ) (table : List RowBlock) → BlocksAt a b 0 table 0
+unfolding path_blocks turns
+blocks_none a b table = record { noted = record { number_is = refl; is = refl }; so = so_none }
+
+module _ (ia ib : List ℕ) {n : ℕ} (pa : Bodies ia n) (pb : Bodies ib n) {i : ℕ} {table : List RowBlock} {number : ℕ}
+    (at : BlocksAt (list_of_first ia n) (list_of_first ib n) i table number) where
+  pub blocks_few : number ≤ i
+  blocks_few = omega (arith, at.noted.number_is, at.so.few)
+
+  pub blocks_more : i < n → {after : List RowBlock} {r : ℕ} → Noted after r (note_row (get_or ia i 0) (get_or ib i 0) i (take number table))
+      → BlocksAt (list_of_first ia n) (list_of_first ib n) (i + 1) after r
+  unfolding path_blocks
+  blocks_more h {after} {r} e = record {
+    noted = record { number_is = e.number_is ∙ ap length next; is = e.is ∙ next };
+    so = subst (BlocksSo (i + 1)) (ap (note_row (get_or ia i 0) (get_or ib i 0) i) (sym at.noted.is) ∙ next)
+        (so_more at.so (get_or ia i 0) (get_or ib i 0) (pa i h) (pb i h));
+  }
+    where
+      next : note_row (get_or ia i 0) (get_or ib i 0) i (take number table) ≡ path_blocks (list_of_first ia n) (list_of_first ib n) (i + 1)
+      next = (λ j. note_row (list_at ia n i h j) (list_at ib n i h j) i (at.noted.is j)) ∙ turns_more _ i [] refl
+
+  -- the blocks of n rows
+  pub blocks_made : i ≤ n → n ≤ i → n ≤ 96 → (Noted table number (path_blocks (list_of_first ia n) (list_of_first ib n) n))
+      × (Blocked (take number table)) × (rows_of (take number table) ≡ n)
+  blocks_made h l m =
+      let same : i ≡ n = omega arith in
+      let so : BlocksSo n (take number table) = subst (BlocksSo n) (sym at.noted.is)
+      (subst (λ (k : ℕ). BlocksSo k (path_blocks (list_of_first ia n) (list_of_first ib n) i)) same at.so) in (
+        subst (λ (k : ℕ). Noted table number (path_blocks (list_of_first ia n) (list_of_first ib n) k)) same at.noted,
+        record { most = omega (arith, so.total); few = omega (arith, so.total, so.few); each = λ k q. rw so.total (so.each k q) },
+        so.total,
+      )
 
 -- ---- edges
-module _ (body block : ℕ) (edges : List ℕ) where
-  pub edge-first : get_or edges (2 * body) 0 ≡ 96 → go (set edges (2 * body) block) ≡ add_edge body block edges
-  unfolding add_edge
-  edge-first e = cond_yes _ _ (eq-eqb _ _ e)
+-- ends stay linked
+linked-none : {m : ℕ} → EndsIn m no_ends
+linked-none = record { first = λ k e. cc; second = λ k e. cc }
 
-  module _ (taken : get_or edges (2 * body) 0 ≡ 96 → ⊥) where
-    pub edge-second : get_or edges (2 * body + 1) 0 ≡ 96 → go (set edges (2 * body + 1) block) ≡ add_edge body block edges
-    unfolding add_edge
-    edge-second e = cond_yes _ _ (eq-eqb _ _ e) ∙ cond_no _ _ (ne_eqb _ _ taken)
+linked-block : {m block : ℕ} → block < m → Linked m (Some block)
+linked-block h k e = let same : k ≡ _ = sym (same_Some _ _ e) in omega arith
 
-    pub edge-full : (get_or edges (2 * body + 1) 0 ≡ 96 → ⊥) → stop tt ≡ add_edge body block edges
-    unfolding add_edge
-    edge-full e = cond_no _ _ (ne_eqb _ _ e) ∙ cond_no _ _ (ne_eqb _ _ taken)
-
--- edges stay linked
-pub linked-none : {m : ℕ} → Linking m (replicate 32 96)
-linked-none {m} = record {
-  size = length-replicate {A = ℕ} 32 96;
-  each = λ i h. rw (get_or-replicate {A = ℕ} 32 i 96 0 h) (record { low = omega arith; block = omega arith });
-}
-
-linked-set : (m : ℕ) (edges : List ℕ) (j block : ℕ) → block < m → m ≤ 96 → j < 32 → Linking m edges → Linking m (set edges j block)
-linked-set m edges j block h l q k = record { size = length-set edges j block ∙ k.size; each = λ i r. by i r (ℕ_discrete i j) }
-  where
-    by : (i : ℕ) → i < 32 → Dec (i ≡ j) → Linked m (get_or (set edges j block) i 0)
-    by i r (yes e) = rw e (rw (get_or-set_same edges j block 0 (omega (arith, k.size))) (record { low = omega arith; block = omega arith }))
-    by i r (no e) = rw (get_or-set_other edges j i block 0 e) (k.each i r)
-
-go-is : {x y : List ℕ} → ◌≡◌ {A = Turn (List ℕ) (Unit {0})} (go x) (go y) → x ≡ y
+go-is : {x y : Ends} → ◌≡◌ {A = Turn Ends NoPath} (go x) (go y) → x ≡ y
 go-is e = cc
 
-stop-not : {x : List ℕ} → ◌≡◌ {A = Turn (List ℕ) (Unit {0})} (go x) (stop tt) → ⊥
-stop-not e = let z : ◌≡◌ {A = ℕ} 0 1 = cc in omega arith
-
-pub edge-linked : {m body : ℕ} (block : ℕ) {edges t : List ℕ} → block < m → m ≤ 96 → body < 16 → Linking m edges → go t ≡ add_edge body block edges
-    → Linking m t
-unfolding add_edge
-edge-linked {m} {body} block {edges} {t} h l q k e = by (eqb (index edges (2 * body)) none) (eqb (index edges (2 * body + 1)) none) e
+ends-linked : {m block : ℕ} (ends : Ends) {t : Ends} → block < m → EndsIn m ends → go t ≡ with_block ends block → EndsIn m t
+unfolding with_block
+ends-linked {m} {block} ends {t} h l e = by ends.first ends.second l.first l.second e
   where
-    set_is : {j : ℕ} → j < 32 → ◌≡◌ {A = Turn (List ℕ) (Unit {0})} (go t) (go (set edges j block)) → Linking m t
-    set_is {j} r f = subst (λ (x : List ℕ). Linking m x) (sym (go-is f)) (linked-set m edges j block h l r k)
+    by : (x y : Option ℕ) → Linked m x → Linked m y → ◌≡◌ {A = Turn Ends NoPath} (go t) (with_block (record { first = x; second = y }) block) → EndsIn m t
+    by None y p q f = subst (EndsIn m) (sym (go-is f)) (record { first = linked-block h; second = q })
+    by (Some x) None p q f = subst (EndsIn m) (sym (go-is f)) (record { first = p; second = linked-block h })
+    by (Some x) (Some y) p q f = cc
 
-    by : (x y : Bool)
-        → ◌≡◌ {A = Turn (List ℕ) (Unit {0})} (go t) (cond x (go (set edges (2 * body) block)) (cond y (go (set edges (2 * body + 1) block)) (stop (tt {0}))))
-        → Linking m t
-    by true y f = set_is (omega arith) f
-    by false true f = set_is (omega arith) f
-    by false false f = absurd (stop-not f)
+links-none : {m : ℕ} → Linking m (replicate 16 no_ends)
+links-none {m} = record {
+  size = length-replicate 16 no_ends;
+  each = λ body h. subst (EndsIn m) (sym (get_or-replicate 16 body no_ends full_ends h)) linked-none;
+}
 
-pub edges-yes : (r : Bool) (t : List ℕ) {d : Turn (List ℕ) (Unit {0})} → edges_as r t ≡ d → r ≡ true → go t ≡ d
-edges-yes r t e h = sym (ap (λ (b : Bool). edges_as b t) h) ∙ e
+links-set : {m : ℕ} {edges : List Ends} {ends : Ends} (body : ℕ) → body < 16 → EndsIn m ends → Linking m edges → Linking m (set edges body ends)
+links-set {m} {edges} {ends} body h l k = record { size = length-set edges body ends ∙ k.size; each = λ i r. by i r (ℕ_discrete i body) }
+  where
+    by : (i : ℕ) → i < 16 → Dec (i ≡ body) → EndsIn m (ends_at (set edges body ends) i)
+    by i r (yes e) = rw e (rw (get_or-set_same edges body ends full_ends (omega (arith, k.size))) l)
+    by i r (no e) = rw (get_or-set_other edges body i ends full_ends e) (k.each i r)
 
-pub edges-no : (r : Bool) (t : List ℕ) {d : Turn (List ℕ) (Unit {0})} → edges_as r t ≡ d → r ≡ false → stop tt ≡ d
-edges-no r t e h = sym (ap (λ (b : Bool). edges_as b t) h) ∙ e
+-- after k turns
+pub record EdgesSo (blocks : List RowBlock) (k : ℕ) (edges : List Ends) : Type 0 where
+  pub is : go edges ≡ loop k (block_edges blocks) (replicate 16 no_ends)
+  pub links : Linking (length blocks) edges
 
--- path_edges after k turns
-pub record EdgesSo (ia ib : List ℕ) (blocks : Blocks) (before : List ℕ) (k : ℕ) (edges : List ℕ) : Type 0 where
-  pub is : go edges ≡ loop k (edges_on ia ib blocks) before
-  pub links : Linking blocks.number edges
+pub edges_none : {blocks : List RowBlock} → EdgesSo blocks 0 (replicate 16 no_ends)
+edges_none {blocks} = record { is = loop-none (block_edges blocks) _; links = links-none }
 
-pub edges_none : {ia ib : List ℕ} {blocks : Blocks} {edges : List ℕ} → Linking blocks.number edges → EdgesSo ia ib blocks edges 0 edges
-edges_none l = record { is = loop-none _ _; links = l }
+-- what a call left, in the case of its answer
+module _ {A : Type 0} {r : Turn (Unit {0}) NoPath} (x : A) {d : Turn A NoPath} where
+  pub left-go : {u : Unit {0}} → r ≡ go u → left_as r x ≡ d → go x ≡ d
+  left-go h e = sym (ap (λ (r : Turn (Unit {0}) NoPath). left_as r x) h) ∙ e
+
+  pub left-stop : {e : NoPath} → r ≡ stop e → left_as r x ≡ d → stop e ≡ d
+  left-stop h f = sym (ap (λ (r : Turn (Unit {0}) NoPath). left_as r x) h) ∙ f
+
+-- an array's read of a body that there is, as the definition has it
+read-ends : {m : ℕ} (edges : List Ends) (body : ℕ) → Linking m edges → body < 16 → get_or edges body no_ends ≡ ends_at edges body
+read-ends edges body k h = get_or_default edges body no_ends full_ends (omega (arith, k.size))
 
 -- what a turn does, from what its two calls did
-module _ {ia ib : List ℕ} {blocks : Blocks} (pre : Blocked ia ib blocks) {before : List ℕ} {k : ℕ} {edges : List ℕ}
-    (inv : EdgesSo ia ib blocks before k edges) (h : k < blocks.number) where
-  abbrev Noted : ℕ → List ℕ → Turn (List ℕ) (Unit {0})
-  Noted = edges_on ia ib blocks
+module _ {blocks : List RowBlock} (pre : Blocked blocks) {k : ℕ} {edges : List Ends} (so : EdgesSo blocks k edges) (h : k < length blocks) where
+  abbrev block : RowBlock
+  block = block_at blocks k
 
-  -- the call for one side, as the definition names its body
-  call-is : (ix u : List ℕ) {d : Turn (List ℕ) (Unit {0})} → d ≡ add_edge (get_or ix (get_or blocks.starts k 0) 0) k u
-      → d ≡ add_edge (index (list_of_first ix (rows_of blocks)) (index (starts_of blocks) k)) k u
-  call-is ix u e = e ∙ ap (λ (b : ℕ). add_edge b k u) (body_is pre h ix)
+  there : BlockIn (rows_of blocks) block
+  there = pre.each k h
 
-  pub edges-lost-a : stop tt ≡ add_edge (get_or ia (get_or blocks.starts k 0) 0) k edges → stop tt ≡ loop blocks.number Noted before
-  unfolding block_edges
-  edges-lost-a e = loop-stop Noted before blocks.number h inv.is (then-stop _ (call-is ia edges e))
+  -- a call of `add` on a body, as the definition names its ends
+  called : (edges : List Ends) (body : ℕ) → Linking (length blocks) edges → body < 16 → {d : Turn Ends NoPath}
+      → d ≡ with_block (get_or edges body no_ends) k → d ≡ with_block (ends_at edges body) k
+  called edges body l q e = e ∙ ap (λ (x : Ends). with_block x k) (read-ends edges body l q)
 
-  module _ {t : List ℕ} (e : go t ≡ add_edge (get_or ia (get_or blocks.starts k 0) 0) k edges) where
-    both : {d : Turn (List ℕ) (Unit {0})} → d ≡ add_edge (get_or ib (get_or blocks.starts k 0) 0) k t → d ≡ Noted k edges
-    unfolding block_edges
-    both f = call-is ib t f ∙ then-go _ (call-is ia edges e)
+  lost-a : (e : NoPath) → stop e ≡ with_block (get_or edges block.a no_ends) k → stop e ≡ block_edges blocks k edges
+  unfolding block_edges add_edge
+  lost-a e f = then-stop _ (then-stop _ (called edges block.a so.links there.a-there f))
 
-    pub edges-lost-b : stop tt ≡ add_edge (get_or ib (get_or blocks.starts k 0) 0) k t → stop tt ≡ loop blocks.number Noted before
-    edges-lost-b f = loop-stop Noted before blocks.number h inv.is (both f)
+  pub edges-lost-a : (e : NoPath) → stop e ≡ with_block (get_or edges block.a no_ends) k → stop e ≡ path_edges blocks
+  unfolding path_edges
+  edges-lost-a e f = loop-stop (block_edges blocks) _ (length blocks) h so.is (lost-a e f)
 
-    pub edges_more : {u : List ℕ} → go u ≡ add_edge (get_or ib (get_or blocks.starts k 0) 0) k t → EdgesSo ia ib blocks before (k + 1) u
-    edges_more f = record {
-      is = loop-more Noted before inv.is (both f);
-      links = edge-linked k h few (b-body pre h) (edge-linked k h few (a_body pre h) inv.links e) f;
-    }
-      where
-        few : blocks.number ≤ 96
-        few = omega (arith, pre.few, pre.most)
+  module _ {a : Ends} (ea : go a ≡ with_block (get_or edges block.a no_ends) k) where
+    abbrev edges₁ : List Ends
+    edges₁ = set edges block.a a
+
+    ea-there : go a ≡ with_block (ends_at edges block.a) k
+    ea-there = called edges block.a so.links there.a-there ea
+
+    links₁ : Linking (length blocks) edges₁
+    links₁ = links-set block.a there.a-there (ends-linked _ h (so.links.each block.a there.a-there) ea-there) so.links
+
+    to-b : {d : Turn (List Ends) NoPath} → d ≡ add_edge block.b k edges₁ → d ≡ block_edges blocks k edges
+    unfolding block_edges add_edge
+    to-b f = f ∙ then-go (add_edge block.b k) (then-go (λ ends. go (set edges block.a ends)) ea-there)
+
+    lost-b : (e : NoPath) → stop e ≡ with_block (get_or edges₁ block.b no_ends) k → stop e ≡ add_edge block.b k edges₁
+    unfolding add_edge
+    lost-b e f = then-stop _ (called edges₁ block.b links₁ there.b_there f)
+
+    pub edges-lost-b : (e : NoPath) → stop e ≡ with_block (get_or edges₁ block.b no_ends) k → stop e ≡ path_edges blocks
+    unfolding path_edges
+    edges-lost-b e f = loop-stop (block_edges blocks) _ (length blocks) h so.is (to-b (lost-b e f))
+
+    module _ {b : Ends} (eb : go b ≡ with_block (get_or edges₁ block.b no_ends) k) where
+      eb-there : go b ≡ with_block (ends_at edges₁ block.b) k
+      eb-there = called edges₁ block.b links₁ there.b_there eb
+
+      added : go (set edges₁ block.b b) ≡ add_edge block.b k edges₁
+      unfolding add_edge
+      added = then-go (λ ends. go (set edges₁ block.b ends)) eb-there
+
+      pub edges_more : EdgesSo blocks (k + 1) (set edges₁ block.b b)
+      edges_more = record {
+        is = loop-more (block_edges blocks) _ so.is (to-b added);
+        links = links-set block.b there.b_there (ends-linked _ h (links₁.each block.b there.b_there) eb-there) links₁;
+      }
+
+pub edges-end : {blocks : List RowBlock} {k : ℕ} {edges : List Ends} → EdgesSo blocks k edges → k ≤ length blocks → length blocks ≤ k
+    → (go edges ≡ path_edges blocks) × (Linking (length blocks) edges)
+unfolding path_edges
+edges-end {blocks} so a b = (loop-end (block_edges blocks) _ a b so.is, so.links)

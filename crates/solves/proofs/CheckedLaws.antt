@@ -11,13 +11,13 @@ use lib.ListN.{length, set, replicate, length-set, length-replicate, get_or-repl
 use lib.Seq.{get_or-set_same, get_or-set_other}
 use lib.Ieee.{Float, round}
 use Rattle.arith.specs.Real.{is_finite, ◌⊕◌}
-use Rattle.arith.specs.Flow.{Turn, go, stop, ◌>>=◌, loop, every}
+use Rattle.arith.specs.Flow.{Turn, go, stop, and_then, ◌>>=◌, loop, every}
 use Rattle.arith.specs.FlowLaws.{every-none, every_more, every-at}
 use Rattle.arith.specs.Laws.Magnitude.{finite-same}
 use Rattle.vectors.specs.declared.vector.Vec3.{Vec3}
 use Rattle.vectors.specs.Vector.{add_of, scale_of, finite_of}
 use Rattle.vectors.specs.Laws.UnitTest.{add-finite}
-use Rattle.rows.specs.Fault.{arithmetic_overflow, try_finite}
+use Rattle.rows.specs.Fault.{ArithmeticOverflow, try_finite}
 use Rattle.solves.specs.declared.places.Generalized.{Generalized}
 use Rattle.solves.specs.Solver.{generalized_in, no_share, pushed, push_into}
 use Rattle.solves.specs.View.{no_generalized}
@@ -109,26 +109,26 @@ module _ (out : List Generalized) (i : ℕ) (linear angular : Vec3) (value : Flo
       ∙ ap (λ (g : Generalized). all_finite out && finite_share g) there
 
   tested : (p q : Bool)
-      → cond (p && q) (go (set out i new)) (stop arithmetic_overflow)
-      ≡ (cond p (go new.linear) (stop arithmetic_overflow)
-      >>= (λ l. cond q (go new.angular) (stop arithmetic_overflow) >>= λ a. go (record { linear = l; angular = a }))
+      → cond (p && q) (go (set out i new)) (stop ArithmeticOverflow)
+      ≡ (cond p (go new.linear) (stop ArithmeticOverflow)
+      >>= (λ l. cond q (go new.angular) (stop ArithmeticOverflow) >>= λ a. go (record { linear = l; angular = a }))
       >>= λ g. go (set out i g))
-  unfolding ◌>>=◌
+  unfolding and_then
   tested true true = refl
   tested true false = refl
   tested false q = refl
 
-  push-out : cond (finite_share new) (go (set out i new)) (stop arithmetic_overflow) ≡ push_into i linear angular value out
+  push-out : cond (finite_share new) (go (set out i new)) (stop ArithmeticOverflow) ≡ push_into i linear angular value out
   unfolding push_into pushed try_finite
   push-out = tested (finite_of new.linear) (finite_of new.angular)
 
   pub push-is : checked (set out i new) ≡ (checked out >>= push_into i linear angular value)
-  push-is = ap (λ (b : Bool). cond b (go (set out i new)) (stop arithmetic_overflow)) all-is ∙ by (all_finite out)
+  push-is = ap (λ (b : Bool). cond b (go (set out i new)) (stop ArithmeticOverflow)) all-is ∙ by (all_finite out)
     where
-      by : (b : Bool) → cond (b && finite_share new) (go (set out i new)) (stop arithmetic_overflow)
-          ≡ (cond b (go out) (stop arithmetic_overflow) >>= push_into i linear angular value)
-      by true = unfold ◌>>=◌ in push-out
-      by false = unfold ◌>>=◌ in refl
+      by : (b : Bool) → cond (b && finite_share new) (go (set out i new)) (stop ArithmeticOverflow)
+          ≡ (cond b (go out) (stop ArithmeticOverflow) >>= push_into i linear angular value)
+      by true = unfold and_then in push-out
+      by false = unfold and_then in refl
 
 -- ---- where the rows begin: zeros are finite
 zero-share : finite_share no_share ≡ true
@@ -138,5 +138,5 @@ zero-share = refl
 pub zeros-checked : (n : ℕ) → checked (replicate n no_share) ≡ go (replicate n no_share)
 zeros-checked n =
     let out = replicate n no_share in
-    ap (λ (b : Bool). cond b (go out) (stop arithmetic_overflow)) (sym (every-all (λ k. finite_share (generalized_in out k)) (length out)
+    ap (λ (b : Bool). cond b (go out) (stop ArithmeticOverflow)) (sym (every-all (λ k. finite_share (generalized_in out k)) (length out)
     (λ k l. ap finite_share (get_or-replicate n k no_share no_generalized (subst (λ (m : ℕ). k < m) (length-replicate n no_share) l)) ∙ zero-share)))

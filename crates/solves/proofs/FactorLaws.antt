@@ -10,20 +10,17 @@ use lib.Ieee as Ieee
 use lib.Ieee.{Float, binary64}
 use Rattle.arith.specs.Real.{ratio, is_finite, ◌⊗◌, ◌⊘◌}
 use Rattle.arith.specs.Root.{sqrt}
-use Rattle.arith.specs.Flow.{go, stop, tab, loop}
+use Rattle.arith.specs.Flow.{go, stop, leaving, tab, loop}
 use Rattle.arith.specs.FlowLaws.{then-go, then-stop, loop-none, loop-more, loop-stop, each_none, each_more, each-stop, each-end, cond_yes, cond_no}
 use Rattle.rows.specs.declared.geometry.EqualityRow.{EqualityRow}
-use Rattle.rows.specs.Fault.{Fault, non_convergent, arithmetic_overflow, Result}
+use Rattle.rows.specs.Fault.{CollisionError, NonConvergent, Result}
 use Rattle.rows.specs.View.{at, Out, Kept}
 use Rattle.rows.specs.Region.{is-tab, kept_refl, kept_then, kept_more, kept_set}
 use Rattle.solves.specs.declared.places.MassResponse.{MassResponse}
-use Rattle.rows.specs.declared.End.{End}
-use Rattle.rows.specs.declared.End.TheVariants as Ends
 use Rattle.solves.specs.Region.{vec_at, Filled, Does}
 use Rattle.solves.specs.RegionLaws.{vec-at, kept-vec, vec-set, vec-more, filled-vec}
 use Rattle.solves.specs.Solver.{row_in, cross_mass}
 use Rattle.solves.specs.Path.{index, band_cell, reduced, Factor, row_of, scale_at, path_scale, path_entry, path_row, path_factor, path_factored}
-use Rattle.solves.specs.Answer.{ran_as}
 use Rattle.solves.specs.View.{row_on, rows_on, masses_at, list_of_first, band_at, factor_at, Factoring, RowsAlong, MASSES, PATH_BAND, PATH_SCALE, Beside, BAND}
 use Rattle.solves.specs.DoesLaws.{goes_on, returns-if}
 use Rattle.solves.specs.ViewLaws.{kept-rows, kept-masses, row-in}
@@ -85,13 +82,13 @@ module _ {z : List Float} {ia ib order : List ℕ} {place n body-count : ℕ} (p
         kept : rows_on ia ib s place n ≡ R
         kept = kept-rows inv.kept ia ib place n (λ k x y. omega (arith, pre.rows.table, pre.rows.most))
 
-    pub scales-lost : stop arithmetic_overflow ≡ Cross s
-        → Does (λ i. Beside PATH_SCALE i) s₀ s (stop arithmetic_overflow) (path_scale R M O n)
+    pub scales-lost : {f : CollisionError} → stop f ≡ Cross s
+        → Does (λ i. Beside PATH_SCALE i) s₀ s (stop f) (path_scale R M O n)
     unfolding scale_at
     scales-lost e = record { kept = inv.kept; is = each-stop (scale_at R M O) n h inv.is (then-stop _ (cross-is e)) }
 
     module _ {value zero : Float} (ez : zero ≡ ratio 0 1) (e : go value ≡ Cross s) where
-      pub scales-refused : Ieee.le value zero ≡ true → Does (λ i. Beside PATH_SCALE i) s₀ s (stop non_convergent) (path_scale R M O n)
+      pub scales-refused : Ieee.le value zero ≡ true → Does (λ i. Beside PATH_SCALE i) s₀ s (stop NonConvergent) (path_scale R M O n)
       unfolding scale_at
       scales-refused q = record {
         kept = inv.kept;
@@ -104,7 +101,7 @@ module _ {z : List Float} {ia ib order : List ℕ} {place n body-count : ℕ} (p
         kept = kept_then inv.kept (kept_set s (PATH_SCALE + i) root) (λ j x. omega (arith, pre.rows.most));
         is = ap go (vec-more s PATH_SCALE i root (omega (arith, pre.rows.whole, pre.rows.most)))
             ∙ each_more (scale_at R M O) inv.is
-            (ap go f ∙ then-go _ (goes_on {E = Fault} non_convergent (ap (Ieee.le value) (sym ez) ∙ q)) ∙ then-go _ (cross-is e));
+            (ap go f ∙ then-go _ (goes_on {E = CollisionError} NonConvergent (ap (Ieee.le value) (sym ez) ∙ q)) ∙ then-go _ (cross-is e));
       }
 
   pub scales-end : {i : ℕ} {s : List Float} → ScaleSo i s → i ≤ n → n ≤ i → ScaleSo n s
@@ -139,7 +136,7 @@ module _ {s : List Float} {ia ib order : List ℕ} {place n body-count i j : ℕ
   abbrev Cross₁ : Result Float
   Cross₁ = cross_mass (row_of R₁ M₁ O₁ i) (row_of R₁ M₁ O₁ j) M₁
 
-  pub entry-lost : stop arithmetic_overflow ≡ Cross₁ → Does Banded s s (stop arithmetic_overflow) Entry
+  pub entry-lost : {f : CollisionError} → stop f ≡ Cross₁ → Does Banded s s (stop f) Entry
   unfolding path_entry
   entry-lost e = record { kept = kept_refl _ s; is = then-stop _ e }
 
@@ -158,14 +155,14 @@ module _ {s : List Float} {ia ib order : List ℕ} {place n body-count i j : ℕ
       low-is : Ieee.le Val (ratio 0 1) ≡ Ieee.le value zero
       low-is = sym (λ x. Ieee.le (value-is x) (ez x))
 
-      refused : not (is_finite Val) || Ieee.le Val (ratio 0 1) ≡ true → Does Banded s s (stop non_convergent) Entry
+      refused : not (is_finite Val) || Ieee.le Val (ratio 0 1) ≡ true → Does Banded s s (stop NonConvergent) Entry
       unfolding path_entry
       refused q = record { kept = kept_refl _ s; is = cond_yes _ _ q ∙ cond_yes _ _ (eq-eqb j i same) ∙ then-go _ e }
 
-      pub entry-wild : f ≡ false → Does Banded s s (stop non_convergent) Entry
+      pub entry-wild : f ≡ false → Does Banded s s (stop NonConvergent) Entry
       entry-wild q = refused (λ x. ap not (finite-is ∙ q) x || Ieee.le Val (ratio 0 1))
 
-      pub entry-low : f ≡ true → Ieee.le value zero ≡ true → Does Banded s s (stop non_convergent) Entry
+      pub entry-low : f ≡ true → Ieee.le value zero ≡ true → Does Banded s s (stop NonConvergent) Entry
       entry-low q w = refused ((λ x. ap not (finite-is ∙ q) x || Ieee.le Val (ratio 0 1)) ∙ low-is ∙ w)
 
       pub entry-pivot : f ≡ true → Ieee.le value zero ≡ false → {root : Float} → root ≡ sqrt binary64 value
@@ -208,7 +205,7 @@ module _ (n : ℕ) (f : ℕ → List Float → Result (List Float)) (s₀ : List
     pub band-more : Does Banded s t (go (band_at t n)) (f k (band_at s n)) → BandSo n f s₀ (k + 1) t
     band-more d = record { kept = kept_then inv.kept d.kept (λ i x. x); is = loop-more f (band_at s₀ n) inv.is d.is }
 
-    pub band-stop : (m : ℕ) {e : Fault} → k < m → Does Banded s t (stop e) (f k (band_at s n)) → Does Banded s₀ t (stop e) (loop m f (band_at s₀ n))
+    pub band-stop : (m : ℕ) {e : CollisionError} → k < m → Does Banded s t (stop e) (f k (band_at s n)) → Does Banded s₀ t (stop e) (loop m f (band_at s₀ n))
     band-stop m h d = record { kept = kept_then inv.kept d.kept (λ i x. x); is = loop-stop f (band_at s₀ n) m h inv.is d.is }
 
   pub band-end : {k m : ℕ} {s : List Float} → BandSo n f s₀ k s → k ≡ m → BandSo n f s₀ m s
@@ -258,7 +255,7 @@ module _ {z : List Float} {ia ib order : List ℕ} {place n body-count : ℕ} (p
         let p : j - (i - 11) + 1 ≡ j + 1 - (i - 11) = omega arith in
         band-end n Turned s₀ (band-more n Turned s₀ (j - (i - 11)) inv (turn_is d)) p
 
-    pub entries-stop : {f : Fault} → j < i + 1 → Does Banded s t (stop f) (EntryOf s j (band_at s n)) → Does Banded s₀ t (stop f) RowOf
+    pub entries-stop : {f : CollisionError} → j < i + 1 → Does Banded s t (stop f) (EntryOf s j (band_at s n)) → Does Banded s₀ t (stop f) RowOf
     unfolding path_row
     entries-stop h d = band-stop n Turned s₀ (j - (i - 11)) inv (i + 1 - (i - 11)) (omega arith) (turn_is d)
 
@@ -288,7 +285,8 @@ module _ {z : List Float} {ia ib order : List ℕ} {place n body-count : ℕ} (p
     pub rows_more : Does Banded s t (go (band_at t n)) (RowIn s i (band_at s n)) → BandSo n (RowIn s₀) s₀ (i + 1) t
     rows_more d = band-more n (RowIn s₀) s₀ i inv (row_is d)
 
-    pub rows-stop : {f : Fault} → i < n → Does Banded s t (stop f) (RowIn s i (band_at s n)) → Does Banded s₀ t (stop f) (loop n (RowIn s₀) (band_at s₀ n))
+    pub rows-stop : {f : CollisionError} → i < n → Does Banded s t (stop f) (RowIn s i (band_at s n))
+        → Does Banded s₀ t (stop f) (loop n (RowIn s₀) (band_at s₀ n))
     rows-stop h d = band-stop n (RowIn s₀) s₀ i inv n h (row_is d)
 
   -- from the cleared band
@@ -319,7 +317,7 @@ module _ {s : List Float} {ia ib order : List ℕ} {place n body-count : ℕ} (p
   abbrev Scales : Result (List Float)
   Scales = path_scale (rows_on ia ib s place n) (masses_at s MASSES body-count) (list_of_first order n) n
 
-  pub factored-unscaled : {t : List Float} {f : Fault} → Does (λ i. Beside PATH_SCALE i) s t (stop f) Scales → Does Factoring s t (stop f) Factored
+  pub factored-unscaled : {t : List Float} {f : CollisionError} → Does (λ i. Beside PATH_SCALE i) s t (stop f) Scales → Does Factoring s t (stop f) Factored
   unfolding path_factored
   factored-unscaled d = record { kept = kept_more d.kept (λ i x. x.1); is = then-stop _ d.is }
 
@@ -331,7 +329,7 @@ module _ {s : List Float} {ia ib order : List ℕ} {place n body-count : ℕ} (p
     factor-is = λ j. path_factor (kept-rows d.kept ia ib place n (λ i x y. omega (arith, pre.rows.table, pre.rows.most)) j)
         (kept-masses d.kept MASSES body-count (λ i x y. omega (arith, pre.rows.bodies)) j) (list_of_first order n) (vec_at t PATH_SCALE n) n
 
-    pub factored-failed : {u : List Float} {f : Fault} → Does Banded t u (stop f) FactorFrom → Does Factoring s u (stop f) Factored
+    pub factored-failed : {u : List Float} {f : CollisionError} → Does Banded t u (stop f) FactorFrom → Does Factoring s u (stop f) Factored
     unfolding path_factored
     factored-failed e = record {
       kept = kept_then (kept_more d.kept (λ i x. x.1)) e.kept (λ i x. x.0);
@@ -347,7 +345,7 @@ module _ {s : List Float} {ia ib order : List ℕ} {place n body-count : ℕ} (p
     }
 
     -- whichever way the factor ended
-    pub factored-on : {u : List Float} (r : End) → Does Banded t u (ran_as r (band_at u n)) FactorFrom → Does Factoring s u (ran_as r (factor_at u n)) Factored
-    factored-on Ends.Done e = factored-done e
-    factored-on Ends.NonConvergent e = factored-failed e
-    factored-on Ends.ArithmeticOverflow e = factored-failed e
+    pub factored-on : {u : List Float} (r : Result (Unit {0})) → Does Banded t u (leaving r (band_at u n)) FactorFrom
+        → Does Factoring s u (leaving r (factor_at u n)) Factored
+    factored-on (go _) e = factored-done e
+    factored-on (stop fault) e = factored-failed e

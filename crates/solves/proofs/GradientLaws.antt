@@ -6,25 +6,17 @@ use mathlib.Core.List.{List, [], ◌∷◌, ◌++◌}
 use native.Mathlib.Omega.{arith}
 use lib.ListN.{length, set}
 use lib.Ieee as Ieee
-use lib.Ieee.{Float, binary64}
+use lib.Ieee.{Float}
 use Rattle.arith.specs.Real.{ratio, is_finite, ◌⊕◌, ◌⊗◌, ◌⊘◌}
-use Rattle.arith.specs.Root.{sqrt}
 use Rattle.arith.specs.Flow.{Turn, go, stop, turns, loop, tab}
 use Rattle.arith.specs.FlowLaws.{turns_more, turns-end, then-go, then-stop, loop-none, loop-more, loop-stop, loop-end}
 use Rattle.arith.specs.Run.{ran, again, leave, fail, up_to}
-use Rattle.arith.specs.RunLaws.{ticks, try-go, try-stop, leave-yes, leave-no, over}
-use Rattle.vectors.specs.declared.vector.Vec3.{Vec3}
-use Rattle.vectors.specs.Vector.{dot_of}
-use Rattle.vectors.specs.Matrix.{apply_of}
+use Rattle.arith.specs.RunLaws.{ticks, try-go, try-stop, leave-yes, leave-no}
 use Rattle.rows.specs.declared.geometry.EqualityRow.{EqualityRow}
-use Rattle.rows.specs.Fault.{Fault, non_convergent, Result}
+use Rattle.rows.specs.Fault.{CollisionError, NonConvergent, Result}
 use Rattle.rows.specs.View.{at, Out, Kept}
 use Rattle.rows.specs.Region.{tab-length, tab-ext, kept_refl, kept_then, kept_more, kept_set}
 use Rattle.solves.specs.declared.places.MassResponse.{MassResponse}
-use Rattle.rows.specs.declared.End.{End}
-use Rattle.rows.specs.declared.End.TheVariants as Ends
-use Rattle.solves.specs.declared.Pass.{Pass}
-use Rattle.solves.specs.declared.Pass.TheVariants as Passes
 use Rattle.solves.specs.declared.Table.{Table}
 use Rattle.solves.specs.System.{System, Counting}
 use Rattle.solves.specs.Region.{vec_at, Filled, Does}
@@ -32,39 +24,15 @@ use Rattle.solves.specs.RegionLaws.{vec-at, vec_in, kept-vec, vec-more, filled-v
 use Rattle.solves.specs.Solver.{row_in, mass_in, dot, operator, plus, minus, difference, within, tolerance_for, Search, diagonal_of, Prepared}
 use Rattle.solves.specs.Solver.{prepare_row, prepare, Tested, true_residual, scaled_square, next_direction, advance}
 use Rattle.solves.specs.Search.{gradient_most, settle, gradient_pass, gradients}
-use Rattle.solves.specs.Answer.{ran_as, test_as, true_as}
+use Rattle.solves.specs.Answer.{tested_as}
 use Rattle.solves.specs.View.{row_on, rows_on, mass_at, masses_at, system_on, search_at, prepared_at, Rows, Beside, Operating, Passing, Preparing, Testing}
 use Rattle.solves.specs.View.{Work}
 use Rattle.solves.specs.View.{VECTOR, ROWS_MOST, MASSES, RHS, SOLUTION, RESIDUAL, DIRECTION, PRODUCT, DIAGONAL}
-use Rattle.solves.specs.DoesLaws.{goes_on, returns-if, does-stop, does-as}
+use Rattle.solves.specs.DoesLaws.{goes_on, returns-if, does-stop}
 use Rattle.solves.specs.ViewLaws.{row-in, mass-in, passing-vector, passing-moves, passing-testing}
 use Rattle.solves.proofs.OperatorLaws.{on-a, on-b}
 use Rattle.solves.proofs.VectorLaws.{plus-neg}
 use Rattle.solves.proofs.SearchLaws.{passing-system, work-system}
-
--- residual_test
-module _ (residual : List Float) (tolerance : Float) where
-  pub test-over : {f : Fault} → stop f ≡ dot residual residual → stop f ≡ within residual tolerance
-  unfolding within
-  test-over e = then-stop (λ square. go (Ieee.le (sqrt binary64 square) tolerance)) e
-
-  pub test-there : {square root : Float} {b : Bool} → go square ≡ dot residual residual → root ≡ sqrt binary64 square → Ieee.le root tolerance ≡ b
-      → go b ≡ within residual tolerance
-  unfolding within
-  test-there {square} {root} {b} e f h =
-      ap go (sym h ∙ ap (λ (x : Float). Ieee.le x tolerance) f) ∙ then-go (λ square. go (Ieee.le (sqrt binary64 square) tolerance)) e
-
-pub test-is : {r q : Pass} {x : Result Bool} → test_as r ≡ x → r ≡ q → test_as q ≡ x
-test-is e h = sym (ap test_as h) ∙ e
-
--- diagonal_entry
-module _ (row : EqualityRow) (ma mb : MassResponse) where
-  pub diagonal-is : {p q : Float} {v w : Vec3} {x y : Float} → p ≡ dot_of row.linear_a row.linear_a
-      → v ≡ apply_of ma.angular row.angular_a → x ≡ dot_of row.angular_a v
-      → q ≡ dot_of row.linear_b row.linear_b → w ≡ apply_of mb.angular row.angular_b → y ≡ dot_of row.angular_b w
-      → ma.linear ⊗ p ⊕ x ⊕ mb.linear ⊗ q ⊕ y ≡ diagonal_of row ma mb
-  unfolding diagonal_of
-  diagonal-is a b c d e f = cc
 
 -- prepare
 either : {a : Bool} (b : Bool) → a ≡ true → a || b ≡ true
@@ -124,18 +92,18 @@ module _ {z : List Float} {ia ib : List ℕ} {place n body-count : ℕ} (pre : R
     small : (b : Bool) → f ≡ true → Ieee.le d zero ≡ b → not (is_finite D) || Ieee.le D (ratio 0 1) ≡ b
     small b q w = other _ (ap not (sym (ef ∙ ap is_finite d-is) ∙ q)) ∙ sym (λ j. Ieee.le (d-is j) (ez j)) ∙ w
 
-    refused : not (is_finite D) || Ieee.le D (ratio 0 1) ≡ true → Does Preparing s₀ s (stop non_convergent) (loop n (prepare_row S E) nothing)
+    refused : not (is_finite D) || Ieee.le D (ratio 0 1) ≡ true → Does Preparing s₀ s (stop NonConvergent) (loop n (prepare_row S E) nothing)
     unfolding prepare_row
     refused q = record { kept = inv.kept; is = loop-stop (prepare_row S E) nothing n h inv.is (then-stop _ (returns-if _ q)) }
 
-    whole : Does Preparing s₀ s (stop non_convergent) (loop n (prepare_row S E) nothing) → Does Preparing s₀ s (stop non_convergent) (prepare S E)
+    whole : Does Preparing s₀ s (stop NonConvergent) (loop n (prepare_row S E) nothing) → Does Preparing s₀ s (stop NonConvergent) (prepare S E)
     unfolding prepare
     whole d = record { kept = d.kept; is = d.is ∙ ap (λ (m : ℕ). loop m (prepare_row S E) nothing) (sym (tab-length n (row_on ia ib s₀ place))) }
 
-    pub prepared-wild : f ≡ false → Does Preparing s₀ s (stop non_convergent) (prepare S E)
+    pub prepared-wild : f ≡ false → Does Preparing s₀ s (stop NonConvergent) (prepare S E)
     prepared-wild q = whole (refused (wild q))
 
-    pub prepared-small : f ≡ true → Ieee.le d zero ≡ true → Does Preparing s₀ s (stop non_convergent) (prepare S E)
+    pub prepared-small : f ≡ true → Ieee.le d zero ≡ true → Does Preparing s₀ s (stop NonConvergent) (prepare S E)
     prepared-small q w = whole (refused (small true q w))
 
     abbrev x : Float
@@ -239,12 +207,12 @@ module _ {s : List Float} {ia ib : List ℕ} (table : Table) (pre : Rows s ia ib
   unfolding true_residual
   true-beyond e = record { kept = kept_refl _ s; is = then-go _ e }
 
-  pub true-wild : {f : Fault} → stop f ≡ within (vec_at s RESIDUAL n₁) tolerance → Does Testing s s (stop f) True
+  pub true-wild : {f : CollisionError} → stop f ≡ within (vec_at s RESIDUAL n₁) tolerance → Does Testing s s (stop f) True
   unfolding true_residual
   true-wild e = record { kept = kept_refl _ s; is = then-stop _ e }
 
   module _ (e : go true ≡ within (vec_at s RESIDUAL n₁) tolerance) {s₁ : List Float} where
-    pub true-unmoved : {f : Fault} → Does (Operating PRODUCT) s s₁ (stop f) (operator M₁ (vec_at s SOLUTION n₁)) → Does Testing s s₁ (stop f) True
+    pub true-unmoved : {f : CollisionError} → Does (Operating PRODUCT) s s₁ (stop f) (operator M₁ (vec_at s SOLUTION n₁)) → Does Testing s s₁ (stop f) True
     unfolding true_residual
     true-unmoved d = record { kept = kept_more d.kept (λ i x. (x.0, x.1)); is = then-stop _ d.is ∙ then-go _ e }
 
@@ -253,14 +221,12 @@ module _ {s : List Float} {ia ib : List ℕ} (table : Table) (pre : Rows s ia ib
       again-is : vec_at s₂ RESIDUAL n₁ ≡ difference (vec_at s RHS n₁) (vec_at s₁ PRODUCT n₁)
       again-is = d₂.is ∙ ap (λ (l : List Float). difference l (vec_at s₁ PRODUCT n₁)) (kept-vec d₁.kept RHS n₁ (λ i x y. omega (arith, pre.most)))
 
-      tested-is : (r : Pass) → test_as r ≡ within (difference (vec_at s RHS n₁) (vec_at s₁ PRODUCT n₁)) tolerance → true_as r (vec_at s₂ RESIDUAL n₁) ≡ True
+      tested-is : (r : Result Bool) → r ≡ within (difference (vec_at s RHS n₁) (vec_at s₁ PRODUCT n₁)) tolerance → tested_as r (vec_at s₂ RESIDUAL n₁) ≡ True
       unfolding true_residual
-      tested-is Passes.Again f = (λ j. go (record { residual = again-is j; solved = false })) ∙ then-go _ f ∙ then-go _ d₁.is ∙ then-go _ e
-      tested-is (Passes.Over Ends.Done) f = (λ j. go (record { residual = again-is j; solved = true })) ∙ then-go _ f ∙ then-go _ d₁.is ∙ then-go _ e
-      tested-is (Passes.Over Ends.NonConvergent) f = then-stop _ f ∙ then-go _ d₁.is ∙ then-go _ e
-      tested-is (Passes.Over Ends.ArithmeticOverflow) f = then-stop _ f ∙ then-go _ d₁.is ∙ then-go _ e
+      tested-is (go b) f = (λ j. go (record { residual = again-is j; solved = b })) ∙ then-go _ f ∙ then-go _ d₁.is ∙ then-go _ e
+      tested-is (stop fault) f = then-stop _ f ∙ then-go _ d₁.is ∙ then-go _ e
 
-      pub true-again : (r : Pass) → test_as r ≡ within (vec_at s₂ RESIDUAL n₁) tolerance → Does Testing s s₂ (true_as r (vec_at s₂ RESIDUAL n₁)) True
+      pub true-again : (r : Result Bool) → r ≡ within (vec_at s₂ RESIDUAL n₁) tolerance → Does Testing s s₂ (tested_as r (vec_at s₂ RESIDUAL n₁)) True
       true-again r f = record {
         kept = kept_then (kept_more d₁.kept (λ i x. (x.0, x.1))) d₂.kept (λ i x. x.2);
         is = tested-is r (f ∙ ap (λ (l : List Float). within l tolerance) again-is);
@@ -277,7 +243,7 @@ module _ {s : List Float} {ia ib : List ℕ} (table : Table) (pre : Rows s ia ib
   abbrev Advanced : Result Search
   Advanced = advance M₂ (search_at s n₂ rho)
 
-  pub advance-unmoved : {s₁ : List Float} {f : Fault} → Does (Operating PRODUCT) s s₁ (stop f) (operator M₂ (vec_at s DIRECTION n₂))
+  pub advance-unmoved : {s₁ : List Float} {f : CollisionError} → Does (Operating PRODUCT) s s₁ (stop f) (operator M₂ (vec_at s DIRECTION n₂))
       → Does Passing s s₁ (stop f) Advanced
   unfolding advance
   advance-unmoved d = does-stop _ (passing-moves PRODUCT (omega arith) (omega arith)) d
@@ -289,7 +255,7 @@ module _ {s : List Float} {ia ib : List ℕ} (table : Table) (pre : Rows s ia ib
     curve : dot (vec_at s₁ DIRECTION n₂) (vec_at s₁ PRODUCT n₂) ≡ dot (vec_at s DIRECTION n₂) (vec_at s₁ PRODUCT n₂)
     curve = ap (λ (l : List Float). dot l (vec_at s₁ PRODUCT n₂)) (kept-vec d₁.kept DIRECTION n₂ (λ i x y. omega (arith, pre.most)))
 
-    pub advance-unmeasured : {f : Fault} → stop f ≡ dot (vec_at s₁ DIRECTION n₂) (vec_at s₁ PRODUCT n₂) → Does Passing s s₁ (stop f) Advanced
+    pub advance-unmeasured : {f : CollisionError} → stop f ≡ dot (vec_at s₁ DIRECTION n₂) (vec_at s₁ PRODUCT n₂) → Does Passing s s₁ (stop f) Advanced
     unfolding advance
     advance-unmeasured e = record { kept = k₁; is = then-stop _ (e ∙ curve) ∙ then-go _ d₁.is }
 
@@ -297,12 +263,12 @@ module _ {s : List Float} {ia ib : List ℕ} (table : Table) (pre : Rows s ia ib
       flat-is : Ieee.le y zero ≡ Ieee.le y (ratio 0 1)
       flat-is = ap (Ieee.le y) ez
 
-      pub advance-flat : Ieee.le y zero ≡ true → Does Passing s s₁ (stop non_convergent) Advanced
+      pub advance-flat : Ieee.le y zero ≡ true → Does Passing s s₁ (stop NonConvergent) Advanced
       unfolding advance
       advance-flat g = record { kept = k₁; is = then-stop _ (returns-if _ (either _ (sym flat-is ∙ g))) ∙ then-go _ (e₁ ∙ curve) ∙ then-go _ d₁.is }
 
       module _ (h₁ : Ieee.le y zero ≡ false) {f : Bool} (ef : f ≡ is_finite rho) where
-        pub advance-wild : f ≡ false → Does Passing s s₁ (stop non_convergent) Advanced
+        pub advance-wild : f ≡ false → Does Passing s s₁ (stop NonConvergent) Advanced
         unfolding advance
         advance-wild g = record {
           kept = k₁;
@@ -356,19 +322,16 @@ module _ {s : List Float} {ia ib : List ℕ} (table : Table) (pre : Rows s ia ib
     sol₀ : {x : Result Tested} → Does Testing s t x Truth → vec_at t SOLUTION n₃ ≡ vec_at s SOLUTION n₃
     sol₀ d = kept-vec d.kept SOLUTION n₃ (λ i x y. omega (arith, pre.most))
 
-    over-is : (end : End) → Does Testing s t (ran_as end (record { residual = vec_at t RESIDUAL n₃; solved = true })) Truth
-        → ran (over (ran_as end (vec_at t SOLUTION n₃))) 0 0 ≡ Settled
+    pub settle-over : Does Testing s t (go (record { residual = vec_at t RESIDUAL n₃; solved = true })) Truth
+        → Does Passing s t (leave (vec_at t SOLUTION n₃)) Settled
     unfolding settle
-    over-is Ends.Done d = ap leave (sol₀ d) ∙ leave-yes _ _ refl ∙ try-go _ d.is
-    over-is Ends.NonConvergent d = try-stop _ d.is
-    over-is Ends.ArithmeticOverflow d = try-stop _ d.is
+    settle-over d = record { kept = kept_more d.kept passing-testing; is = ap leave (sol₀ d) ∙ leave-yes _ _ refl ∙ try-go _ d.is }
 
-    pub settle-over : (r : Pass) (end : End) → r ≡ Passes.Over end → Does Testing s t (true_as r (vec_at t RESIDUAL n₃)) Truth
-        → Does Passing s t (ran (over (ran_as end (vec_at t SOLUTION n₃))) 0 0) Settled
-    settle-over r end e d =
-        record { kept = kept_more d.kept passing-testing; is = over-is end (does-as (λ (q : Pass). true_as q (vec_at t RESIDUAL n₃)) e d) }
+    pub settle-failed : {f : CollisionError} → Does Testing s t (stop f) Truth → Does Passing s t (fail f) Settled
+    unfolding settle
+    settle-failed d = record { kept = kept_more d.kept passing-testing; is = try-stop _ d.is }
 
-    module _ (r : Pass) (h : r ≡ Passes.Again) (d : Does Testing s t (true_as r (vec_at t RESIDUAL n₃)) Truth) {next : Float}
+    module _ (d : Does Testing s t (go (record { residual = vec_at t RESIDUAL n₃; solved = false })) Truth) {next : Float}
         (en : next ≡ scaled_square (vec_at t RESIDUAL n₃) (vec_at t DIAGONAL n₃)) {u : List Float}
         (e : Does (Beside DIRECTION) t u (vec_at u DIRECTION n₃) (next_direction (vec_at t RESIDUAL n₃) (vec_at t DIAGONAL n₃) (next ⊘ rho)
         (vec_at t DIRECTION n₃)))
@@ -397,7 +360,7 @@ module _ {s : List Float} {ia ib : List ℕ} (table : Table) (pre : Rows s ia ib
         settle-next = record {
           kept = kept_then (kept_more d.kept passing-testing) e.kept (passing-vector DIRECTION (omega arith) (omega arith));
           is = (λ j. ran (go (go (record { solution = sol j; residual = res j; direction = dir j; rho = next-is j }))) 0 1) ∙ ticks (again _)
-              ∙ leave-no _ _ refl ∙ try-go _ (does-as (λ (q : Pass). true_as q (vec_at t RESIDUAL n₃)) h d).is;
+              ∙ leave-no _ _ refl ∙ try-go _ d.is;
         }
 
 -- gradient_pass
@@ -411,20 +374,18 @@ module _ {s : List Float} {ia ib : List ℕ} (table : Table) (pre : Rows s ia ib
   abbrev Whole : Counting (Turn Search (List Float))
   Whole = gradient_pass M₄ (vec_at s RHS n₄) (vec_at s DIAGONAL n₄) tolerance (search_at s n₄ rho)
 
-  near-is : (end : End) → ran_as end true ≡ within (vec_at s RESIDUAL n₄) tolerance → ran (over (ran_as end (vec_at s SOLUTION n₄))) 0 0 ≡ Whole
+  pub pass-over : go true ≡ within (vec_at s RESIDUAL n₄) tolerance → Does Passing s s (leave (vec_at s SOLUTION n₄)) Whole
   unfolding gradient_pass
-  near-is Ends.Done e = leave-yes _ _ refl ∙ try-go _ e
-  near-is Ends.NonConvergent e = try-stop _ e
-  near-is Ends.ArithmeticOverflow e = try-stop _ e
+  pass-over e = record { kept = kept_refl _ s; is = leave-yes _ _ refl ∙ try-go _ e }
 
-  pub pass-over : {r : Pass} (end : End) → r ≡ Passes.Over end → test_as r ≡ within (vec_at s RESIDUAL n₄) tolerance
-      → Does Passing s s (ran (over (ran_as end (vec_at s SOLUTION n₄))) 0 0) Whole
-  pass-over end e f = record { kept = kept_refl _ s; is = near-is end (test-is f e) }
+  pub pass-wild : {f : CollisionError} → stop f ≡ within (vec_at s RESIDUAL n₄) tolerance → Does Passing s s (fail f) Whole
+  unfolding gradient_pass
+  pass-wild e = record { kept = kept_refl _ s; is = try-stop _ e }
 
-  module _ {r : Pass} (h : r ≡ Passes.Again) (e : test_as r ≡ within (vec_at s RESIDUAL n₄) tolerance) {t : List Float} where
-    pub pass-stuck : {f : Fault} → Does Passing s t (stop f) (advance M₄ (search_at s n₄ rho)) → Does Passing s t (fail f) Whole
+  module _ (e : go false ≡ within (vec_at s RESIDUAL n₄) tolerance) {t : List Float} where
+    pub pass-stuck : {f : CollisionError} → Does Passing s t (stop f) (advance M₄ (search_at s n₄ rho)) → Does Passing s t (fail f) Whole
     unfolding gradient_pass
-    pass-stuck d = record { kept = d.kept; is = try-stop _ d.is ∙ leave-no _ _ refl ∙ try-go _ (test-is e h) }
+    pass-stuck d = record { kept = d.kept; is = try-stop _ d.is ∙ leave-no _ _ refl ∙ try-go _ e }
 
     pub pass_on : {u : List Float} {x : Counting (Turn Search (List Float))} → Does Passing s t (go (search_at t n₄ rho)) (advance M₄ (search_at s n₄ rho))
         → Does Passing t u x (settle (system_on ia ib t table) (vec_at t RHS n₄) (vec_at t DIAGONAL n₄) tolerance (search_at t n₄ rho))
@@ -435,7 +396,7 @@ module _ {s : List Float} {ia ib : List ℕ} (table : Table) (pre : Rows s ia ib
       is = f.is
           ∙ (λ j. settle (passing-system table pre d.kept j) (kept-vec d.kept RHS n₄ (λ i x y. omega (arith, pre.most)) j)
           (kept-vec d.kept DIAGONAL n₄ (λ i x y. omega (arith, pre.most)) j) tolerance (search_at t n₄ rho))
-          ∙ try-go _ d.is ∙ leave-no _ _ refl ∙ try-go _ (test-is e h);
+          ∙ try-go _ d.is ∙ leave-no _ _ refl ∙ try-go _ e;
     }
 
 -- before the loop
@@ -452,7 +413,7 @@ module _ {s : List Float} {ia ib : List ℕ} (table : Table) (pre : Rows s ia ib
   abbrev Prepared₅ : Result Prepared
   Prepared₅ = prepare M₅ (vec_at s RESIDUAL n₅)
 
-  pub gradients-refused : {s₁ : List Float} {f : Fault} → Does Preparing s s₁ (stop f) Prepared₅ → Does Work s s₁ (fail f) Gradients
+  pub gradients-refused : {s₁ : List Float} {f : CollisionError} → Does Preparing s s₁ (stop f) Prepared₅ → Does Work s s₁ (fail f) Gradients
   unfolding gradients
   gradients-refused d = record { kept = kept_more d.kept (λ i x. omega arith); is = try-stop _ d.is }
 
@@ -463,7 +424,7 @@ module _ {s : List Float} {ia ib : List ℕ} (table : Table) (pre : Rows s ia ib
     rhs₁ : vec_at s₁ RHS n₅ ≡ vec_at s RHS n₅
     rhs₁ = kept-vec kk RHS n₅ (λ i x y. omega (arith, pre.most))
 
-    pub gradients-intolerant : {f : Fault} → stop f ≡ tolerance_for (ratio 1 (10 ^ 12)) (vec_at s₁ RHS n₅) → Does Work s s₁ (fail f) Gradients
+    pub gradients-intolerant : {f : CollisionError} → stop f ≡ tolerance_for (ratio 1 (10 ^ 12)) (vec_at s₁ RHS n₅) → Does Work s s₁ (fail f) Gradients
     unfolding gradients
     gradients-intolerant e = record { kept = kk; is = try-stop _ (e ∙ ap (tolerance_for (ratio 1 (10 ^ 12))) rhs₁) ∙ try-go _ d₁.is }
 
@@ -481,14 +442,14 @@ module _ {s : List Float} {ia ib : List ℕ} (table : Table) (pre : Rows s ia ib
 
       pub gradients-whole : {t : List Float} {y : Counting (List Float)}
           → Does Work s₁ t y
-          (up_to (gradient_most n₅) non_convergent (gradient_pass (system_on ia ib s₁ table) (vec_at s₁ RHS n₅) (vec_at s₁ DIAGONAL n₅) tolerance)
+          (up_to (gradient_most n₅) NonConvergent (gradient_pass (system_on ia ib s₁ table) (vec_at s₁ RHS n₅) (vec_at s₁ DIAGONAL n₅) tolerance)
           (search_at s₁ n₅ rho))
           → Does Work s t y Gradients
       unfolding gradients
       gradients-whole {t} {y} d = record {
         kept = kept_then kk d.kept (λ i q. q);
         is = d.is
-            ∙ (λ j. up_to (gradient_most (len j)) non_convergent (gradient_pass (work-system table pre kk j) (rhs₁ j) (vec_at s₁ DIAGONAL n₅) tolerance)
+            ∙ (λ j. up_to (gradient_most (len j)) NonConvergent (gradient_pass (work-system table pre kk j) (rhs₁ j) (vec_at s₁ DIAGONAL n₅) tolerance)
             (begun j))
             ∙ try-go _ (e ∙ ap (tolerance_for (ratio 1 (10 ^ 12))) rhs₁) ∙ try-go _ d₁.is;
       }

@@ -12,7 +12,7 @@ use Rattle.arith.specs.Root.{sqrt}
 use Rattle.arith.specs.Flow.{Turn, go, stop}
 use Rattle.arith.specs.Run.{ran, again, leave, fail, up_to}
 use Rattle.arith.specs.RunLaws.{ticks, try-go, try-stop, fail-yes, fail-no, leave-yes, leave-no}
-use Rattle.rows.specs.Fault.{Fault, non_convergent}
+use Rattle.rows.specs.Fault.{CollisionError, NonConvergent}
 use Rattle.rows.specs.View.{Kept}
 use Rattle.rows.specs.Region.{tab-length, kept_refl, kept_then, kept_more}
 use Rattle.solves.specs.declared.Table.{Table}
@@ -64,7 +64,7 @@ module _ {s : List Float} {ia ib : List ℕ} (table : Table) (pre : Rows s ia ib
           → Moved s ia ib table tolerance norm s₁
       pass-moved d = record { on = on-with; does = d }
 
-      pub pass-unmoved : {s₁ : List Float} {f : Fault} → Does (Operating PRODUCT) s s₁ (stop f) (operator M (vec_at s DIRECTION n))
+      pub pass-unmoved : {s₁ : List Float} {f : CollisionError} → Does (Operating PRODUCT) s s₁ (stop f) (operator M (vec_at s DIRECTION n))
           → Does Passing s s₁ (fail f) OnePass
       unfolding least_pass
       pass-unmoved d = record { kept = kept_more d.kept (passing-moves PRODUCT (omega arith) (omega arith)); is = try-stop _ d.is ∙ leave-no _ _ on-with }
@@ -73,12 +73,12 @@ module _ {s : List Float} {ia ib : List ℕ} (table : Table) (pre : Rows s ia ib
     k₁ : Kept Passing s s₁
     k₁ = kept_more m.does.kept (passing-moves PRODUCT (omega arith) (omega arith))
 
-    pub pass-unmeasured : {f : Fault} → stop f ≡ dot (vec_at s₁ PRODUCT n) (vec_at s₁ PRODUCT n) → Does Passing s s₁ (fail f) OnePass
+    pub pass-unmeasured : {f : CollisionError} → stop f ≡ dot (vec_at s₁ PRODUCT n) (vec_at s₁ PRODUCT n) → Does Passing s s₁ (fail f) OnePass
     unfolding least_pass
     pass-unmeasured e = record { kept = k₁; is = try-stop _ e ∙ try-go _ m.does.is ∙ leave-no _ _ m.on }
 
     module _ {y zero : Float} (ez : zero ≡ ratio 0 1) (e₁ : go y ≡ dot (vec_at s₁ PRODUCT n) (vec_at s₁ PRODUCT n)) where
-      pub pass-stuck : Ieee.le y zero ≡ true → Does Passing s s₁ (fail non_convergent) OnePass
+      pub pass-stuck : Ieee.le y zero ≡ true → Does Passing s s₁ (fail NonConvergent) OnePass
       unfolding least_pass
       pass-stuck g = record { kept = k₁; is = fail-yes _ _ (ap (Ieee.le y) (sym ez) ∙ g) ∙ try-go _ e₁ ∙ try-go _ m.does.is ∙ leave-no _ _ m.on }
 
@@ -112,7 +112,8 @@ module _ {s : List Float} {ia ib : List ℕ} (table : Table) (pre : Rows s ia ib
     op₃ : operator (system_on ia ib s₃ table) (vec_at s₃ RESIDUAL n) ≡ operator M (minus (vec_at s RESIDUAL n) (norm ⊘ y) (vec_at s₁ PRODUCT n))
     op₃ = λ j. operator (passing-system table pre a.kept j) (a.residual j)
 
-    pub pass-unreturned : {s₄ : List Float} {f : Fault} → Does (Operating NORMAL) s₃ s₄ (stop f) (operator (system_on ia ib s₃ table) (vec_at s₃ RESIDUAL n))
+    pub pass-unreturned : {s₄ : List Float} {f : CollisionError}
+        → Does (Operating NORMAL) s₃ s₄ (stop f) (operator (system_on ia ib s₃ table) (vec_at s₃ RESIDUAL n))
         → Does Passing s s₄ (fail f) OnePass
     unfolding least_pass
     pass-unreturned d = record {
@@ -125,7 +126,7 @@ module _ {s : List Float} {ia ib : List ℕ} (table : Table) (pre : Rows s ia ib
       k₄ : Kept Passing s s₄
       k₄ = kept_then a.kept d₄.kept passing-normal
 
-      pub pass-unmeasured-again : {f : Fault} → stop f ≡ dot (vec_at s₄ NORMAL n) (vec_at s₄ NORMAL n) → Does Passing s s₄ (fail f) OnePass
+      pub pass-unmeasured-again : {f : CollisionError} → stop f ≡ dot (vec_at s₄ NORMAL n) (vec_at s₄ NORMAL n) → Does Passing s s₄ (fail f) OnePass
       unfolding least_pass
       pass-unmeasured-again e = record {
         kept = k₄;
@@ -171,7 +172,8 @@ module _ {s : List Float} {ia ib : List ℕ} (table : Table) (pre : Rows s ia ib
   abbrev Least : Counting (List Float)
   Least = least_squares S (vec_at s RHS m) (vec_at s SOLUTION m) (vec_at s RESIDUAL m)
 
-  pub least-unmoved : {s₁ : List Float} {f : Fault} → Does (Operating NORMAL) s s₁ (stop f) (operator S (vec_at s RESIDUAL m)) → Does Work s s₁ (fail f) Least
+  pub least-unmoved : {s₁ : List Float} {f : CollisionError} → Does (Operating NORMAL) s s₁ (stop f) (operator S (vec_at s RESIDUAL m))
+      → Does Work s s₁ (fail f) Least
   unfolding least_squares
   least-unmoved d = record { kept = kept_more d.kept (λ i x. omega arith); is = try-stop _ d.is }
 
@@ -179,7 +181,7 @@ module _ {s : List Float} {ia ib : List ℕ} (table : Table) (pre : Rows s ia ib
     kk : Kept Work s s₁
     kk = kept_more d₁.kept (λ i x. omega arith)
 
-    pub least-unmeasured : {f : Fault} → stop f ≡ dot (vec_at s₁ NORMAL m) (vec_at s₁ NORMAL m) → Does Work s s₁ (fail f) Least
+    pub least-unmeasured : {f : CollisionError} → stop f ≡ dot (vec_at s₁ NORMAL m) (vec_at s₁ NORMAL m) → Does Work s s₁ (fail f) Least
     unfolding least_squares
     least-unmeasured e = record { kept = kk; is = try-stop _ e ∙ try-go _ d₁.is }
 
@@ -187,7 +189,7 @@ module _ {s : List Float} {ia ib : List ℕ} (table : Table) (pre : Rows s ia ib
       rhs₁ : tolerance_for (ratio 1 (10 ^ 14)) (vec_at s₁ RHS m) ≡ tolerance_for (ratio 1 (10 ^ 14)) (vec_at s RHS m)
       rhs₁ = ap (tolerance_for (ratio 1 (10 ^ 14))) (kept-vec kk RHS m (λ i x y. omega arith))
 
-      pub least-intolerant : {f : Fault} → stop f ≡ tolerance_for (ratio 1 (10 ^ 14)) (vec_at s₁ RHS m) → Does Work s s₁ (fail f) Least
+      pub least-intolerant : {f : CollisionError} → stop f ≡ tolerance_for (ratio 1 (10 ^ 14)) (vec_at s₁ RHS m) → Does Work s s₁ (fail f) Least
       unfolding least_squares
       least-intolerant e = record { kept = kk; is = try-stop _ (e ∙ rhs₁) ∙ try-go _ e₁ ∙ try-go _ d₁.is }
 
@@ -208,11 +210,11 @@ module _ {s : List Float} {ia ib : List ℕ} (table : Table) (pre : Rows s ia ib
         len = sym (tab-length m (row_on ia ib s table.place))
 
         pub least-whole : {t : List Float} {y : Counting (List Float)}
-            → Does Work s₂ t y (up_to (least_most m) non_convergent (least_pass (system_on ia ib s₂ table) tolerance) (search_at s₂ m norm))
+            → Does Work s₂ t y (up_to (least_most m) NonConvergent (least_pass (system_on ia ib s₂ table) tolerance) (search_at s₂ m norm))
             → Does Work s t y Least
         unfolding least_squares
         least-whole {t} {y} d = record {
           kept = kept_then k₂ d.kept (λ i q. q);
-          is = d.is ∙ (λ j. up_to (least_most (len j)) non_convergent (least_pass (work-system table pre k₂ j) tolerance) (begun j))
+          is = d.is ∙ (λ j. up_to (least_most (len j)) NonConvergent (least_pass (work-system table pre k₂ j) tolerance) (begun j))
               ∙ try-go _ (e₂ ∙ rhs₁) ∙ try-go _ e₁ ∙ try-go _ d₁.is;
         }

@@ -1,21 +1,19 @@
 -- `dot`, `transpose`, `operator` and `cross_mass`: from reads of the scratch to the definitions over lists.
 use Prim.Native.Nat.{ℕ, ◌+◌, ◌*◌, ◌≤◌, ◌<◌}
 use mathlib.Core.Path.{◌≡◌, sym, ◌∙◌, ap, subst}
-use mathlib.Core.Bool.{Bool, true, false, ◌&&◌}
+use mathlib.Core.Bool.{Bool, true}
 use mathlib.Core.List.{List}
 use native.Mathlib.Omega.{arith}
 use lib.Dec.{eqb}
-use borrow.Author.Tests.{eq-eqb, ne_eqb}
+use borrow.Author.Tests.{eq-eqb}
 use lib.ListN.{length, set, replicate}
 use lib.Ieee.{Float}
-use Rattle.arith.specs.Real.{ratio, is_finite, ◌⊕◌, ◌⊗◌}
+use Rattle.arith.specs.Real.{ratio, ◌⊕◌, ◌⊗◌}
 use Rattle.arith.specs.Flow.{go, stop, ◌>>=◌, tab, loop, each, every}
-use Rattle.arith.specs.FlowLaws.{turns_more, cond_no, loop-none, each_none, each_more, each-stop, each-end, then-then}
+use Rattle.arith.specs.FlowLaws.{turns_more, loop-none, each_none, each_more, each-stop, each-end, then-then}
 use Rattle.vectors.specs.declared.vector.Vec3.{Vec3}
-use Rattle.vectors.specs.Vector.{dot_of, finite_of}
-use Rattle.vectors.specs.Matrix.{apply_of}
 use Rattle.rows.specs.declared.geometry.EqualityRow.{EqualityRow}
-use Rattle.rows.specs.Fault.{Fault, arithmetic_overflow, Result}
+use Rattle.rows.specs.Fault.{CollisionError, Result}
 use Rattle.rows.specs.View.{at, Out, Kept}
 use Rattle.rows.specs.Region.{tab-length, tab-at, kept_set, kept_refl, kept_then, kept_more}
 use Rattle.solves.specs.declared.places.Generalized.{Generalized}
@@ -26,10 +24,10 @@ use Rattle.solves.specs.RegionLaws.{vec-at, vec_in, kept-vec, vec-more}
 use Rattle.solves.specs.Solver.{row_in, generalized_in, mass_in, try_number, sum_products, dot, push_into, push_row, transpose}
 use Rattle.solves.specs.Solver.{scaled, scale_all, rate, rates, operator, no_share, through, add_through, cross_end, cross_mass}
 use Rattle.solves.specs.Checked.{added, finite_share, all_finite, checked}
-use Rattle.solves.specs.View.{row_on, rows_on, generalized_at, shares_in, mass_at, masses_at, system_on, Rows, RowsAlong, VectorPlace, Shares, Beside}
+use Rattle.solves.specs.View.{row_on, rows_on, generalized_at, shares_in, mass_at, masses_at, system_on, Rows, VectorPlace, Shares, Beside}
 use Rattle.solves.specs.View.{Operating}
 use Rattle.solves.specs.View.{BODIES_MOST, VECTOR, RHS, GENERALIZED, MASSES, END, no_generalized, no_mass}
-use Rattle.solves.specs.DoesLaws.{number-yes, number-no, does-stop, does-then}
+use Rattle.solves.specs.DoesLaws.{does-stop, does-then}
 use Rattle.solves.specs.ViewLaws.{out_within, kept-rows, kept-masses, row-in, share_in, mass-in, shares-set, shares-more, shares-none}
 use Rattle.solves.proofs.CheckedLaws.{loop-next, push-is, zeros-checked}
 
@@ -43,17 +41,10 @@ products-more s a b n k {total} h e =
     ap (λ (x : Float). total ⊕ x ⊗ at s (b + k)) (vec-at s a n k h) ∙ ap (λ (x : Float). total ⊕ at (vec_at s a n) k ⊗ x) (vec-at s b n k h)
     ∙ turns_more (dot_turn (vec_at s a n) (vec_at s b n)) k (ratio 0 1) e
 
-module _ (s : List Float) (a b n : ℕ) {total : Float} {t : Bool} (e : total ≡ sum_products (vec_at s a n) (vec_at s b n) n) (f : t ≡ is_finite total) where
-  long : total ≡ sum_products (vec_at s a n) (vec_at s b n) (length (vec_at s a n))
-  long = e ∙ ap (sum_products (vec_at s a n) (vec_at s b n)) (sym (tab-length n (λ k. at s (a + k))))
-
-  pub dot-there : t ≡ true → go total ≡ dot (vec_at s a n) (vec_at s b n)
-  unfolding dot
-  dot-there h = number-yes long f h
-
-  pub dot-over : t ≡ false → stop arithmetic_overflow ≡ dot (vec_at s a n) (vec_at s b n)
-  unfolding dot
-  dot-over h = number-no long f h
+pub dot-is : (s : List Float) (a b n : ℕ) {total : Float} {r : Result Float} → total ≡ sum_products (vec_at s a n) (vec_at s b n) n → r ≡ try_number total
+    → r ≡ dot (vec_at s a n) (vec_at s b n)
+unfolding dot
+dot-is s a b n e h = h ∙ ap try_number (e ∙ ap (sum_products (vec_at s a n) (vec_at s b n)) (sym (tab-length n (λ k. at s (a + k)))))
 
 -- push_into
 module _ (s : List Float) (index : ℕ) (linear angular : Vec3) (value : Float) (body-count : ℕ) (h : index < body-count) (most : body-count ≤ BODIES_MOST)
@@ -96,16 +87,8 @@ module _ (s : List Float) (body-count : ℕ) where
     share-is : finite_share g ≡ share_test k
     share-is = ap finite_share (eg ∙ sym (tab-at body-count (generalized_at s GENERALIZED) no_generalized k h))
 
-    pub linear-wild : {b : Bool} → b ≡ finite_of g.linear → b ≡ false → share_test k ≡ false
-    linear-wild {b} e n = sym share-is ∙ ap (λ (x : Bool). x && finite_of g.angular) (sym e ∙ n)
-
-    pub angular-wild : {a b : Bool} → a ≡ finite_of g.linear → a ≡ true → b ≡ finite_of g.angular → b ≡ false → share_test k ≡ false
-    angular-wild {a} {b} f m e n =
-        sym share-is ∙ ap (λ (x : Bool). x && finite_of g.angular) (sym f ∙ m) ∙ sym e ∙ n
-
-    pub share-fine : {a b : Bool} → a ≡ finite_of g.linear → a ≡ true → b ≡ finite_of g.angular → b ≡ true → share_test k ≡ true
-    share-fine {a} {b} f m e n =
-        sym share-is ∙ ap (λ (x : Bool). x && finite_of g.angular) (sym f ∙ m) ∙ sym e ∙ n
+    pub share-tested : {b : Bool} → b ≡ finite_share g → share_test k ≡ b
+    share-tested e = sym share-is ∙ sym e
 
   pub all_of : {r : Bool} → r ≡ every body-count share_test → r ≡ all_finite (shares_in s body-count)
   all_of e = e ∙ ap (λ (m : ℕ). every m share_test) (sym (tab-length body-count (generalized_at s GENERALIZED)))
@@ -194,7 +177,7 @@ module _ (s₀ : List Float) (body-count : ℕ) (most : body-count ≤ BODIES_MO
       is = ap go (shares-more GENERALIZED k st) ∙ each_more scaling inv.is (q ∙ scale-turn);
     }
 
-    pub scale-stops : stop arithmetic_overflow ≡ scaled value mass → Does Shares s₀ s (stop arithmetic_overflow) (each body-count scaling)
+    pub scale-stops : {f : CollisionError} → stop f ≡ scaled value mass → Does Shares s₀ s (stop f) (each body-count scaling)
     scale-stops q = record { kept = kept_more inv.kept (λ i x. omega arith); is = each-stop scaling body-count h inv.is (q ∙ scale-turn) }
 
   pub scale-ends : {k : ℕ} {s : List Float} → ScaleSo k s → k ≤ body-count → body-count ≤ k
@@ -222,26 +205,26 @@ module _ {z : List Float} {ia ib : List ℕ} {place n body-count : ℕ} (pre : R
   unfolding tab
   rates-none = record { kept = kept_refl _ s₀; is = each_none rating }
 
-  module _ {k : ℕ} {s : List Float} {row : EqualityRow} {a b : Generalized} {v : Float} {t : Bool} (inv : RatesSo k s) (h : k < n)
+  module _ {k : ℕ} {s : List Float} {row : EqualityRow} {a b : Generalized} {w : Float} (inv : RatesSo k s) (h : k < n)
       (l : length s ≡ length z) (er : row ≡ row_on ia ib s place k)
-      (ea : a ≡ generalized_at s GENERALIZED row.a) (eb : b ≡ generalized_at s GENERALIZED row.b) (ev : v ≡ rate row a b) (et : t ≡ is_finite v) where
-    rate-turn : v ≡ rate (row_in Q k) (generalized_in M (row_in Q k).a) (generalized_in M (row_in Q k).b)
+      (ea : a ≡ generalized_at s GENERALIZED row.a) (eb : b ≡ generalized_at s GENERALIZED row.b) (ev : w ≡ rate row a b) where
+    rate-turn : w ≡ rate (row_in Q k) (generalized_in M (row_in Q k).a) (generalized_in M (row_in Q k).b)
     rate-turn =
         let x : row ≡ row_in Q k = row-in inv.kept ia ib place n k (λ i x y. omega arith) h er in
         let la : row.a < body-count = subst (λ (q : EqualityRow). q.a < body-count) (sym er) (pre.a-there k h) in
         let lb : row.b < body-count = subst (λ (q : EqualityRow). q.b < body-count) (sym er) (pre.b_there k h) in
         let y : a ≡ generalized_in M row.a = share_in inv.kept GENERALIZED body-count row.a (λ i x y. omega arith) la ea in
-        let w : b ≡ generalized_in M row.b = share_in inv.kept GENERALIZED body-count row.b (λ i x y. omega arith) lb eb in
+        let u : b ≡ generalized_in M row.b = share_in inv.kept GENERALIZED body-count row.b (λ i x y. omega arith) lb eb in
         cc
 
-    stored : Kept (Beside out) s₀ (set s (out + k) v)
-    stored = kept_then inv.kept (kept_set s (out + k) v) (λ i x. out_within out VECTOR (out + k) 1 i (omega arith) (omega (arith, pre.most)) x)
+    pub rates-again : {v : Float} → go v ≡ try_number w → RatesSo (k + 1) (set s (out + k) v)
+    rates-again {v} q = record {
+      kept = kept_then inv.kept (kept_set s (out + k) v) (λ i x. out_within out VECTOR (out + k) 1 i (omega arith) (omega (arith, pre.most)) x);
+      is = ap go (vec-more s out k v (omega arith)) ∙ each_more rating inv.is (q ∙ ap try_number rate-turn);
+    }
 
-    pub rates-again : t ≡ true → RatesSo (k + 1) (set s (out + k) v)
-    rates-again q = record { kept = stored; is = ap go (vec-more s out k v (omega arith)) ∙ each_more rating inv.is (number-yes rate-turn et q) }
-
-    pub rates-stops : t ≡ false → Does (Beside out) s₀ (set s (out + k) v) (stop arithmetic_overflow) (each n rating)
-    rates-stops q = record { kept = stored; is = each-stop rating n h inv.is (number-no rate-turn et q) }
+    pub rates-stops : {f : CollisionError} → stop f ≡ try_number w → Does (Beside out) s₀ s (stop f) (each n rating)
+    rates-stops q = record { kept = inv.kept; is = each-stop rating n h inv.is (q ∙ ap try_number rate-turn) }
 
   pub rates-ends : {k : ℕ} {s : List Float} → RatesSo k s → k ≤ n → n ≤ k → Does (Beside out) s₀ s (go (vec_at s out n)) (each n rating)
   rates-ends {k} {s} inv a b =
@@ -254,10 +237,6 @@ pub rows-kept : {s t : List Float} {ia ib : List ℕ} {place n body-count : ℕ}
 rows-kept pre e = record { whole = omega arith; table = pre.table; most = pre.most; bodies = pre.bodies; a-there = pre.a-there; b_there = pre.b_there }
 
 -- a vector before the shares is a place for the operator
-pub along-kept : {s t : List Float} {ia ib order : List ℕ} {place n body-count : ℕ} → RowsAlong s ia ib order place n body-count
-    → length t ≡ length s → RowsAlong t ia ib order place n body-count
-along-kept pre e = record { rows = rows-kept pre.rows e; along = pre.along }
-
 pub place_of : {s : List Float} (place : ℕ) → RHS ≤ place → place + VECTOR ≤ GENERALIZED → END ≤ length s → VectorPlace s place
 place_of place h l w = record { low = h; apart = omega arith; there = omega arith }
 
@@ -289,7 +268,7 @@ module _ {s : List Float} {ia ib : List ℕ} (table : Table) (pre : Rows s ia ib
         → Does Shares s t x (transpose (rows_on ia ib s table.place table.rows) (vec_at s input table.rows) (length (masses_at s MASSES body-count)))
     first d = record { kept = d.kept; is = d.is ∙ ap (transpose (rows_on ia ib s table.place table.rows) (vec_at s input table.rows)) len }
 
-    pub operator-pushes-failed : {f : Fault} → Does Shares s t (stop f) Pushed → Does (Operating out) s t (stop f) Whole
+    pub operator-pushes-failed : {f : CollisionError} → Does Shares s t (stop f) Pushed → Does (Operating out) s t (stop f) Whole
     unfolding operator
     operator-pushes-failed d = does-stop _ (λ i x. x.0) (first d)
 
@@ -301,7 +280,8 @@ module _ {s : List Float} {ia ib : List ℕ} (table : Table) (pre : Rows s ia ib
         is = e.is ∙ λ j. scale_all (shares_in t body-count) (kept-masses d.kept MASSES body-count (λ i x y. omega (arith, pre.bodies)) j) (len j);
       }
 
-      pub operator-scales-failed : {f : Fault} → Does Shares t u (stop f) (scale_all (shares_in t body-count) (masses_at t MASSES body-count) body-count)
+      pub operator-scales-failed : {f : CollisionError}
+          → Does Shares t u (stop f) (scale_all (shares_in t body-count) (masses_at t MASSES body-count) body-count)
           → Does (Operating out) s u (stop f) Whole
       unfolding operator
       operator-scales-failed e = does-then _ (λ i x. x.0) (λ i x. x) (first d) (does-stop _ (λ i x. x.0) (second e))
@@ -326,11 +306,6 @@ module _ {s : List Float} {ia ib : List ℕ} (table : Table) (pre : Rows s ia ib
               }
 
 -- cross_mass
-pub through-is : (mass : MassResponse) (al aa bl ba : Vec3) {d e : Float} {w : Vec3} → d ≡ dot_of al bl → w ≡ apply_of mass.angular ba
-    → e ≡ dot_of aa w → mass.linear ⊗ d ⊕ e ≡ through mass al aa bl ba
-unfolding through
-through-is mass al aa bl ba a b c = cc
-
 module _ (s : List Float) (body-count ai bi : ℕ) (h : ai < body-count) (al aa bl ba : Vec3) (value : Float) where
   pub same_body : ai ≡ bi → {mass : MassResponse} {x : Float} → mass ≡ mass_at s MASSES ai → x ≡ through mass al aa bl ba
       → value ⊕ x ≡ add_through (masses_at s MASSES body-count) ai al aa bi bl ba value
@@ -339,25 +314,9 @@ module _ (s : List Float) (body-count ai bi : ℕ) (h : ai < body-count) (al aa 
       let m : mass ≡ mass_in (masses_at s MASSES body-count) ai = em ∙ sym (tab-at body-count (mass_at s MASSES) no_mass ai h) in
       cc
 
-  pub other-body : (ai ≡ bi → ⊥) → value ≡ add_through (masses_at s MASSES body-count) ai al aa bi bl ba value
-  other-body e = cond_no _ _ (ne_eqb ai bi e)
-
-pub end_is : (masses : List MassResponse) (ai : ℕ) (al aa : Vec3) (b : EqualityRow) (value : Float) {half x : Float}
-    → half ≡ add_through masses ai al aa b.a b.linear_a b.angular_a value
-    → x ≡ add_through masses ai al aa b.b b.linear_b b.angular_b half → x ≡ cross_end masses ai al aa b value
-unfolding cross_end
-end_is masses ai al aa b value e f = f ∙ ap (add_through masses ai al aa b.b b.linear_b b.angular_b) e
-
-module _ (masses : List MassResponse) (a b : EqualityRow) {zero half x : Float} {t : Bool} (ez : zero ≡ ratio 0 1)
-    (e : half ≡ cross_end masses a.a a.linear_a a.angular_a b zero)
-    (f : x ≡ cross_end masses a.b a.linear_b a.angular_b b half) (g : t ≡ is_finite x) where
-  both_ends : x ≡ cross_end masses a.b a.linear_b a.angular_b b (cross_end masses a.a a.linear_a a.angular_a b (ratio 0 1))
-  both_ends = f ∙ ap (cross_end masses a.b a.linear_b a.angular_b b) (e ∙ ap (cross_end masses a.a a.linear_a a.angular_a b) ez)
-
-  pub cross-there : t ≡ true → go x ≡ cross_mass a b masses
-  unfolding cross_mass
-  cross-there h = number-yes both_ends g h
-
-  pub cross-over : t ≡ false → stop arithmetic_overflow ≡ cross_mass a b masses
-  unfolding cross_mass
-  cross-over h = number-no both_ends g h
+pub cross-is : (masses : List MassResponse) (a b : EqualityRow) {zero half x : Float} {r : Result Float} → zero ≡ ratio 0 1
+    → half ≡ cross_end masses a.a a.linear_a a.angular_a b zero
+    → x ≡ cross_end masses a.b a.linear_b a.angular_b b half → r ≡ try_number x → r ≡ cross_mass a b masses
+unfolding cross_mass
+cross-is masses a b ez e f h =
+    h ∙ ap try_number (f ∙ ap (cross_end masses a.b a.linear_b a.angular_b b) (e ∙ ap (cross_end masses a.a a.linear_a a.angular_a b) ez))

@@ -7,20 +7,19 @@ use native.Mathlib.Omega.{arith}
 use lib.ListN.{length, replicate, length-replicate, get_or-replicate}
 use lib.Ieee.{Float}
 use Rattle.arith.specs.Real.{ratio}
-use Rattle.arith.specs.Flow.{Turn, go, stop, tab}
+use Rattle.arith.specs.Flow.{Turn, go, stop, leaving, tab}
 use Rattle.arith.specs.FlowLaws.{then-go, then-stop, cond_yes, cond_no}
 use Rattle.arith.specs.Run.{ran, after, fail, up_to}
-use Rattle.arith.specs.RunLaws.{ticks, try-go, try-stop, leave-yes, leave-no, over}
+use Rattle.arith.specs.RunLaws.{after_none, ticks, try-go, try-stop, leave-yes, leave-no}
 use Rattle.rows.specs.declared.geometry.EqualityRow.{EqualityRow}
-use Rattle.rows.specs.Fault.{Fault, non_convergent, Result}
+use Rattle.rows.specs.Fault.{CollisionError, NonConvergent, Result}
 use Rattle.rows.specs.View.{Kept}
 use Rattle.rows.specs.Region.{tab-length, is-tab, kept_then, kept_more}
 use Rattle.rows.specs.declared.End.{End}
-use Rattle.rows.specs.declared.End.TheVariants as Ends
-use Rattle.solves.specs.declared.Pass.{Pass}
-use Rattle.solves.specs.declared.Pass.TheVariants as Passes
+use Rattle.solves.specs.declared.Ended.{Ended}
 use Rattle.solves.specs.declared.Table.{Table}
-use Rattle.solves.specs.declared.path.PathOrder.{PathOrder}
+use Rattle.solves.specs.declared.order.NoPath.{NoPath}
+use Rattle.solves.specs.declared.joined.Rows.{Rows as Joins}
 use Rattle.solves.specs.System.{System, side_of, Counting}
 use Rattle.solves.specs.Region.{vec_at, Filled, Does}
 use Rattle.solves.specs.RegionLaws.{kept-vec, filled-vec}
@@ -28,13 +27,15 @@ use Rattle.solves.specs.Solver.{operator, difference, within, tolerance_for}
 use Rattle.solves.specs.Path.{Factor, forward, backward, Refined, refine, path_order, path_factored}
 use Rattle.solves.specs.Search.{least_squares, gradients, refinement, path_along, Choice, by_least_squares, by_path, by_gradients, ordered, choose}
 use Rattle.solves.specs.Search.{solve_by, linear_solve}
-use Rattle.solves.specs.Answer.{ran_as, test_as, order_as, ended_as, ended_with}
+use Rattle.rows.specs.Answer.{ran_as}
+use Rattle.solves.specs.Answer.{end_of, ended_with, ended_as, SolvesNumbered}
+use Rattle.solves.specs.DoesLaws.{ran-end, solves-numbered}
+use Rattle.solves.proofs.PlaceLaws.{lent-is}
 use Rattle.solves.specs.View.{row_on, rows_on, system_on, list_of_first, band_at, factor_at, refined_at, Rows, RowsAlong, Beside, Operating, Factoring}
-use Rattle.solves.specs.View.{Refining, Work}
+use Rattle.solves.specs.View.{Refining, Work, Lends, system_at, rhs_at, rhs_on, solution_at}
 use Rattle.solves.specs.View.{RHS, SOLUTION, RESIDUAL, PRODUCT, PATH_BAND, PATH_SCALE, PATH_RHS}
 use Rattle.solves.specs.ViewLaws.{system-kept, passing-vector, passing-moves}
 use Rattle.solves.proofs.SearchLaws.{work-system, Came, came-again, came-over, came-out}
-use Rattle.solves.proofs.GradientLaws.{test-is}
 use Rattle.solves.proofs.SweepLaws.{Backs}
 
 -- what stands for the whole solve while it refines
@@ -91,7 +92,7 @@ module _ {s : List Float} {ia ib order : List ℕ} (table : Table) (pre : RowsAl
       op-is : Op ≡ operator (system_on ia ib s table) (Solution n)
       op-is = λ j. operator (refining-system table pre.rows k₂ j) (solution-is j)
 
-      pub refine-failed : {s₃ : List Float} {f : Fault} → Does (Operating PRODUCT) s₂ s₃ (stop f) Op → Does Refining s s₃ (stop f) Fine
+      pub refine-failed : {s₃ : List Float} {f : CollisionError} → Does (Operating PRODUCT) s₂ s₃ (stop f) Op → Does Refining s s₃ (stop f) Fine
       unfolding refine
       refine-failed d = record {
         kept = kept_then k₂ d.kept (λ i x. passing-moves PRODUCT (omega arith) (omega arith) i x.0);
@@ -128,7 +129,7 @@ module _ {z : List Float} {ia ib order : List ℕ} (table : Table) (pre : RowsAl
   Refines = refinement (system_on ia ib s₀ table) (vec_at s₀ RHS m) (list_of_first order m) (factor_at s₀ m) tolerance
 
   abbrev All : Counting (List Float)
-  All = up_to 4 non_convergent Refines (refined_at s₀ m)
+  All = up_to 4 NonConvergent Refines (refined_at s₀ m)
 
   module _ {k : ℕ} {s : List Float} (inv : Came Refining 4 Refines s₀ (refined_at s₀ m) k s (refined_at s m)) (h : k < 4) where
     abbrev FineOf : Result Refined
@@ -140,28 +141,23 @@ module _ {z : List Float} {ia ib order : List ℕ} (table : Table) (pre : RowsAl
       fine-is d = d.is ∙ λ j. refine (refining-system table pre.rows inv.kept j) (refining-rhs table pre.rows inv.kept j) (list_of_first order m)
           (refining-factor table pre.rows inv.kept j) (refined_at s m)
 
-      pub refined-failed : {f : Fault} → Does Refining s t (stop f) FineOf → Does Refining s₀ t (ran (stop f) 0 k) All
+      pub refined-failed : {f : CollisionError} → Does Refining s t (stop f) FineOf → Does Refining s₀ t (ran (stop f) 0 k) All
       unfolding refinement
       refined-failed {f} d = came-out inv h d.kept (stop f) (try-stop _ (fine-is d))
 
-      module _ (d : Does Refining s t (go (refined_at t m)) FineOf) (r : Pass) (e : test_as r ≡ within (vec_at t RESIDUAL m) tolerance) where
-        over-is : (end : End) → ran_as end true ≡ within (vec_at t RESIDUAL m) tolerance
-            → ran (over (ran_as end (vec_at t SOLUTION m))) 0 1 ≡ Refines (refined_at s m)
+      module _ (d : Does Refining s t (go (refined_at t m)) FineOf) where
+        pub refined-over : go true ≡ within (vec_at t RESIDUAL m) tolerance → Does Refining s₀ t (ran (go (vec_at t SOLUTION m)) 0 (k + 1)) All
         unfolding refinement
-        over-is Ends.Done f = ap (after 0 1) (leave-yes _ _ refl ∙ try-go _ f) ∙ ticks _ ∙ try-go _ (fine-is d)
-        over-is Ends.NonConvergent f = ap (after 0 1) (try-stop _ f) ∙ ticks _ ∙ try-go _ (fine-is d)
-        over-is Ends.ArithmeticOverflow f = ap (after 0 1) (try-stop _ f) ∙ ticks _ ∙ try-go _ (fine-is d)
+        refined-over f =
+            came-over inv h d.kept (go (vec_at t SOLUTION m)) (ap (after 0 1) (leave-yes _ _ refl ∙ try-go _ f) ∙ ticks _ ∙ try-go _ (fine-is d))
 
-        pub refined-over : {end : End} → r ≡ Passes.Over end → Does Refining s₀ t (ended_as (ended_with end (k + 1)) (vec_at t SOLUTION m)) All
-        refined-over {end} q =
-            came-over inv h d.kept (ran_as end (vec_at t SOLUTION m)) (over-is end (test-is e q))
-
-        again-is : go false ≡ within (vec_at t RESIDUAL m) tolerance → ran (go (go (refined_at t m))) 0 1 ≡ Refines (refined_at s m)
+        pub refined-wild : {f : CollisionError} → stop f ≡ within (vec_at t RESIDUAL m) tolerance → Does Refining s₀ t (ran (stop f) 0 (k + 1)) All
         unfolding refinement
-        again-is f = ap (after 0 1) (leave-no _ _ refl ∙ try-go _ f) ∙ ticks _ ∙ try-go _ (fine-is d)
+        refined-wild {f} e = came-over inv h d.kept (stop f) (ap (after 0 1) (try-stop _ e) ∙ ticks _ ∙ try-go _ (fine-is d))
 
-        pub refined-more : r ≡ Passes.Again → Came Refining 4 Refines s₀ (refined_at s₀ m) (k + 1) t (refined_at t m)
-        refined-more q = came-again inv h d.kept (again-is (test-is e q))
+        pub refined-more : go false ≡ within (vec_at t RESIDUAL m) tolerance → Came Refining 4 Refines s₀ (refined_at s₀ m) (k + 1) t (refined_at t m)
+        unfolding refinement
+        refined-more f = came-again inv h d.kept (ap (after 0 1) (leave-no _ _ refl ∙ try-go _ f) ∙ ticks _ ∙ try-go _ (fine-is d))
 
 -- path_along
 module _ {s : List Float} {ia ib order : List ℕ} (table : Table) (pre : RowsAlong s ia ib order table.place table.rows table.bodies) where
@@ -180,7 +176,7 @@ module _ {s : List Float} {ia ib order : List ℕ} (table : Table) (pre : RowsAl
   factored-is : {d : Result Factor} → d ≡ Factored → d ≡ path_factored S.rows S.masses (list_of_first order n₁) (length S.rows)
   factored-is e = e ∙ ap (path_factored S.rows S.masses (list_of_first order n₁)) (sym (tab-length n₁ (row_on ia ib s table.place)))
 
-  pub along-refused : {t : List Float} {f : Fault} → Does Factoring s t (stop f) Factored → Does Work s t (fail f) Along
+  pub along-refused : {t : List Float} {f : CollisionError} → Does Factoring s t (stop f) Factored → Does Work s t (fail f) Along
   unfolding path_along
   along-refused d = record { kept = kept_more d.kept (λ i x. omega arith); is = try-stop _ (factored-is d.is) }
 
@@ -194,7 +190,7 @@ module _ {s : List Float} {ia ib order : List ℕ} (table : Table) (pre : RowsAl
     tolerance-is : {r : Result Float} → r ≡ tolerance_for (ratio 1 (10 ^ 12)) (vec_at t RHS n₁) → r ≡ tolerance_for (ratio 1 (10 ^ 12)) (vec_at s RHS n₁)
     tolerance-is e = e ∙ ap (tolerance_for (ratio 1 (10 ^ 12))) rhs₁
 
-    pub along-intolerant : {f : Fault} → stop f ≡ tolerance_for (ratio 1 (10 ^ 12)) (vec_at t RHS n₁) → Does Work s t (fail f) Along
+    pub along-intolerant : {f : CollisionError} → stop f ≡ tolerance_for (ratio 1 (10 ^ 12)) (vec_at t RHS n₁) → Does Work s t (fail f) Along
     unfolding path_along
     along-intolerant e = record { kept = kₐ; is = try-stop _ (tolerance-is e) ∙ try-go _ (factored-is d.is) }
 
@@ -222,14 +218,14 @@ module _ {s : List Float} {ia ib order : List ℕ} (table : Table) (pre : RowsAl
 
       pub along-whole : {v : List Float} {y : Counting (List Float)}
           → Does Work u v y
-          (up_to 4 non_convergent (refinement (system_on ia ib u table) (vec_at u RHS n₁) (list_of_first order n₁) (factor_at u n₁) tolerance)
+          (up_to 4 NonConvergent (refinement (system_on ia ib u table) (vec_at u RHS n₁) (list_of_first order n₁) (factor_at u n₁) tolerance)
           (refined_at u n₁))
           → Does Work s v y Along
       unfolding path_along
       along-whole f = record {
         kept = kept_then kᵦ f.kept (λ i x. x);
         is = f.is
-            ∙ (λ j. up_to 4 non_convergent (refinement (work-system table pre.rows kᵦ j) (rhs-is j) (list_of_first order n₁) (factor-is j) tolerance) (begun j))
+            ∙ (λ j. up_to 4 NonConvergent (refinement (work-system table pre.rows kᵦ j) (rhs-is j) (list_of_first order n₁) (factor-is j) tolerance) (begun j))
             ∙ try-go _ (tolerance-is e) ∙ try-go _ (factored-is d.is);
       }
 
@@ -301,18 +297,18 @@ module _ {s : List Float} {ia ib : List ℕ} (table : Table) (pre : Rows s ia ib
       (record { kept = e.kept; is = e.is ∙ ap (least_squares (system_on ia ib s₂ table) (vec_at s₂ RHS n₂) (vec_at s₂ SOLUTION n₂)) same_rhs })
 
   module _ (h : cyclic ≡ false) where
-    chosen : {x : Turn (List ℕ) (Unit {0})} → x ≡ path_order (list_of_first ia n₂) (list_of_first ib n₂) n₂ → ordered x ≡ Chosen
+    chosen : {x : Turn (List ℕ) NoPath} → x ≡ path_order (list_of_first ia n₂) (list_of_first ib n₂) n₂ → ordered x ≡ Chosen
     unfolding choose
     chosen e =
         ap ordered (e ∙ λ j. path_order (sym (side-tab (λ r. r.a) n₂ (row_on ia ib s table.place)) j)
         (sym (side-tab (λ r. r.b) n₂ (row_on ia ib s table.place)) j)
         (sym (tab-length n₂ (row_on ia ib s table.place)) j)) ∙ cond_no _ _ h
 
-    pub linear-gradients : stop tt ≡ path_order (list_of_first ia n₂) (list_of_first ib n₂) n₂ → {t : List Float} {y : Counting (List Float)}
+    pub linear-gradients : (e : NoPath) → stop e ≡ path_order (list_of_first ia n₂) (list_of_first ib n₂) n₂ → {t : List Float} {y : Counting (List Float)}
         → Does Work s₂ t y (gradients (system_on ia ib s₂ table) (vec_at s₂ RHS n₂) (vec_at s₂ SOLUTION n₂) (vec_at s₂ RESIDUAL n₂)) → Does Work s t y Linear
     unfolding solve_by
-    linear-gradients o e = chosen-from by_gradients (chosen o)
-        (record { kept = e.kept; is = e.is ∙ ap (gradients (system_on ia ib s₂ table) (vec_at s₂ RHS n₂) (vec_at s₂ SOLUTION n₂)) same_rhs })
+    linear-gradients e o d = chosen-from by_gradients (chosen o)
+        (record { kept = d.kept; is = d.is ∙ ap (gradients (system_on ia ib s₂ table) (vec_at s₂ RHS n₂) (vec_at s₂ SOLUTION n₂)) same_rhs })
 
     pub linear-path : (order : List ℕ) → go (list_of_first order n₂) ≡ path_order (list_of_first ia n₂) (list_of_first ib n₂) n₂
         → {t : List Float} {y : Counting (List Float)}
@@ -320,9 +316,16 @@ module _ {s : List Float} {ia ib : List ℕ} (table : Table) (pre : Rows s ia ib
     unfolding solve_by
     linear-path order o e = chosen-from (by_path (list_of_first order n₂)) (chosen o) e
 
--- what path_order answered
-pub order-no : (r : PathOrder) (n : ℕ) {d : Turn (List ℕ) (Unit {0})} → order_as r n ≡ d → r.found ≡ false → stop tt ≡ d
-order-no r n e h = cond_no _ _ h ∙ e
-
-pub order-yes : (r : PathOrder) (n : ℕ) {d : Turn (List ℕ) (Unit {0})} → order_as r n ≡ d → r.found ≡ true → go (list_of_first r.rows n) ≡ d
-order-yes r n e h = cond_yes _ _ h ∙ e
+-- what the step takes of the solve
+pub lent-solves : {s s' : List Float} {ia ib : List ℕ} {rows : Joins} (t : Table) (cyclic : Bool) → Lends ia ib t rows → (r : Result (Unit {0}))
+    (l : ℕ) {end : End} {ended : Ended} → end ≡ end_of r → ended ≡ ended_with end l
+    → Does Work s s' (ran (leaving r (solution_at s' rows)) 0 l) (after 0 0 (linear_solve cyclic (system_at s rows) (rhs_at s rows)))
+    → SolvesNumbered s s' ia ib t ended (λ system. linear_solve cyclic system (rhs_on s t))
+lent-solves {s} {s'} t cyclic e r l {end} {ended} ee en d =
+    let x : List Float = vec_at s' SOLUTION t.rows in
+    solves-numbered x ended (record {
+      kept = d.kept;
+      is = ap (λ (q : Ended). ended_as q x) en ∙ (λ i. ran (ran_as (ee i) x) 0 l) ∙ (λ i. ran (ran-end x r i) 0 l)
+          ∙ (λ i. ran (leaving r (vec_at s' SOLUTION (sym e.count i))) 0 l) ∙ d.is ∙ after_none _
+          ∙ λ i. linear_solve cyclic (lent-is s e.of t e.place e.bodies e.count i) (vec_at s RHS (e.count i));
+    })

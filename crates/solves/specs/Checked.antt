@@ -4,7 +4,7 @@ use Rattle.std.specs.Prelude.{Bool, cond, ◌&&◌, List, length, Float}
 use Rattle.arith.specs.Flow.{go, stop, ◌>>=◌, every}
 use Rattle.vectors.specs.declared.vector.Vec3.{Vec3}
 use Rattle.vectors.specs.Vector.{add_of, scale_of, finite_of}
-use Rattle.rows.specs.Fault.{arithmetic_overflow, Result}
+use Rattle.rows.specs.Fault.{ArithmeticOverflow, Result}
 use Rattle.solves.specs.declared.places.Generalized.{Generalized}
 use Rattle.solves.specs.Solver.{generalized_in}
 
@@ -22,7 +22,7 @@ abbrev pub all_finite : List Generalized → Bool
 all_finite out = every (length out) (λ k. finite_share (generalized_in out k))
 
 abbrev pub checked : List Generalized → Result (List Generalized)
-checked out = cond (all_finite out) (go out) (stop arithmetic_overflow)
+checked out = cond (all_finite out) (go out) (stop ArithmeticOverflow)
 
 -- a change of the shares, after that test
 abbrev pub checked_then : (List Generalized → Result (List Generalized)) → List Generalized → Result (List Generalized)

@@ -1,91 +1,137 @@
 -- solver.rs, fn path_solve up to its refinements. A path's Schur matrix is block tridiagonal once its rows are ordered along the path, and a
 -- Cholesky factor of band 12 solves it.
 use Rattle.std.specs.Prelude.{ℕ, ◌+◌, ◌*◌, ◌-◌, min, List, [], ◌∷◌, ◌++◌, Bool, true, false, cond, not, ◌&&◌, ◌||◌, length, get_or, set, replicate, eqb, Float}
+use Rattle.std.specs.Prelude.{Option, Some, None, is_none}
 use Rattle.solves.specs.Words.{binary64, le, ◌⊕◌, ◌⊖◌, ◌⊗◌, ◌⊘◌, ratio, is_finite, sqrt, go, stop, ◌>>=◌, turns, loop, tab, each, return_if, Turn}
-use Rattle.solves.specs.Words.{at, EqualityRow, non_convergent, Result, MassResponse}
+use Rattle.solves.specs.Words.{at, EqualityRow, NonConvergent, Result, MassResponse, RowBlock, Ends, NoPath}
 use Rattle.solves.specs.System.{System, rows_in}
 use Rattle.solves.specs.Solver.{row_in, operator, cross_mass, difference}
 
 abbrev pub index : List ℕ → ℕ → ℕ  -- l[i]
 index l i = get_or l i 0
 
-abbrev pub none : ℕ  -- no block: usize::MAX in the Rust. There are at most 96 blocks.
-none = 96
+abbrev pub declined : NoPath  -- Ok(false)
+declined = record {}
+
+abbrev pub no_block : RowBlock  -- what a list of blocks has past its end
+no_block = record { a = 0; b = 0; start = 0; end = 0 }
+
+abbrev pub block_at : List RowBlock → ℕ → RowBlock  -- self.path_blocks[k]
+block_at blocks k = get_or blocks k no_block
 
 -- self.path_blocks: runs of rows on one pair of bodies; a and b are the bodies of the rows
-unfoldable pub begins : List ℕ → List ℕ → ℕ → Bool  -- row i joins another pair than the row before it
-begins a b i = eqb i 0 || not (eqb (index a i) (index a (i - 1)) && eqb (index b i) (index b (i - 1)))
+abbrev pub on_pair : ℕ → ℕ → RowBlock → Bool  -- block.a == row.a && block.b == row.b
+on_pair x y block = eqb block.a x && eqb block.b y
 
-unfoldable pub path_starts : List ℕ → List ℕ → ℕ → List ℕ  -- the first row of each block
-path_starts a b n = turns (λ i starts. cond (begins a b i) (starts ++ (i ∷ [])) starts) n []
+abbrev pub to_row : ℕ → RowBlock → RowBlock  -- block.end = i + 1
+to_row i block = record { a = block.a; b = block.b; start = block.start; end = i + 1 }
 
-unfoldable pub add_edge : ℕ → ℕ → List ℕ → Turn (List ℕ) (Unit {0})  -- self.path_edges: two places a body; a third block on a body declines the path
-add_edge body block edges =
-    cond (eqb (index edges (2 * body)) none) (go (set edges (2 * body) block))
-    (cond (eqb (index edges (2 * body + 1)) none) (go (set edges (2 * body + 1) block))
-    (stop tt))
+unfoldable pub note_row : ℕ → ℕ → ℕ → List RowBlock → List RowBlock  -- row i, on x and y, ends the last block, or begins one
+note_row x y i blocks =
+    let last : RowBlock = block_at blocks (length blocks - 1) in
+    cond (not (eqb (length blocks) 0) && on_pair x y last)
+    (set blocks (length blocks - 1) (to_row i last))
+    (blocks ++ (record { a = x; b = y; start = i; end = i + 1 } ∷ []))
 
-unfoldable pub block_edges : List ℕ → List ℕ → List ℕ → ℕ → List ℕ → Turn (List ℕ) (Unit {0})
-block_edges a b starts block edges = add_edge (index a (index starts block)) block edges >>= add_edge (index b (index starts block)) block
+unfoldable pub path_blocks : List ℕ → List ℕ → ℕ → List RowBlock
+path_blocks a b n = turns (λ i. note_row (index a i) (index b i) i) n []
 
-unfoldable pub path_edges : List ℕ → List ℕ → List ℕ → Turn (List ℕ) (Unit {0})
-path_edges a b starts = loop (length starts) (block_edges a b starts) (replicate 32 none)
+-- self.path_edges: two places a body
+abbrev pub no_ends : Ends  -- None is usize::MAX in the Rust
+no_ends = record { first = None; second = None }
 
-unfoldable pub neighbor : List ℕ → ℕ → ℕ → ℕ  -- the other block on a body
-neighbor edges body block = cond (eqb (index edges (2 * body)) block) (index edges (2 * body + 1)) (index edges (2 * body))
+abbrev pub full_ends : Ends  -- what the edges have past the last body: no room
+full_ends = record { first = Some 0; second = Some 0 }
 
-unfoldable pub follows : ℕ → ℕ → Bool  -- *next != usize::MAX && *next != previous
-follows block previous = not (eqb block none) && not (eqb block previous)
+abbrev pub ends_at : List Ends → ℕ → Ends
+ends_at edges body = get_or edges body full_ends
 
-unfoldable pub next_block : ℕ → ℕ → ℕ → ℕ  -- .find(follows)
-next_block x y previous = cond (follows x previous) x (cond (follows y previous) y none)
+unfoldable pub with_block : Ends → ℕ → Turn Ends NoPath  -- a third block on a body declines the path
+with_block ends block = elim ends.first [
+  | None ↦ go (record { first = Some block; second = ends.second })
+  | Some x ↦ elim ends.second [ None ↦ go (record { first = ends.first; second = Some block }) | Some y ↦ stop declined ]
+]
+
+unfoldable pub add_edge : ℕ → ℕ → List Ends → Turn (List Ends) NoPath
+add_edge body block edges = with_block (ends_at edges body) block >>= λ ends. go (set edges body ends)
+
+unfoldable pub block_edges : List RowBlock → ℕ → List Ends → Turn (List Ends) NoPath
+block_edges blocks k edges = add_edge (block_at blocks k).a k edges >>= add_edge (block_at blocks k).b k
+
+unfoldable pub path_edges : List RowBlock → Turn (List Ends) NoPath
+path_edges blocks = loop (length blocks) (block_edges blocks) (replicate 16 no_ends)
+
+unfoldable pub other_block : Ends → ℕ → Option ℕ  -- the other block on a body
+other_block ends block = elim ends.first [ Some x ↦ cond (eqb x block) ends.second (Some x) | None ↦ None ]
+
+unfoldable pub neighbor : List Ends → ℕ → ℕ → Option ℕ
+neighbor edges body block = other_block (ends_at edges body) block
+
+unfoldable pub follows : Option ℕ → Option ℕ → Bool  -- *next != usize::MAX && *next != previous
+follows None previous = false
+follows (Some x) None = true
+follows (Some x) (Some y) = not (eqb x y)
+
+unfoldable pub next_block : Option ℕ → Option ℕ → Option ℕ → Option ℕ  -- .find(follows)
+next_block x y previous = cond (follows x previous) x (cond (follows y previous) y None)
 
 pub record Seen : Type 0 where  -- self.path_order, and self.path_visited
   pub order : List ℕ
   pub visited : List Bool
 
+abbrev pub none_seen : Seen
+none_seen = record { order = []; visited = replicate 96 false }
+
 pub record Walk : Type 0 where
   pub seen : Seen
   pub current : ℕ
-  pub previous : ℕ
+  pub previous : Option ℕ
 
 abbrev pub run : ℕ → ℕ → List ℕ  -- from..to
 run from to = tab (to - from) (λ k. from + k)
 
-abbrev pub walked : Turn Walk (Turn Seen (Unit {0})) → Turn Seen (Unit {0})  -- after as many turns as there are blocks the next one was visited
-walked turns = elim turns [ go w ↦ stop tt | stop seen ↦ seen ]
+unfoldable pub visit : ℕ → RowBlock → Seen → Seen
+visit k block seen = record { order = seen.order ++ run block.start block.end; visited = set seen.visited k true }
 
-module _ (a b : List ℕ) (n : ℕ) (starts edges : List ℕ) where
-  -- one turn of the loop along a path: a visited block declines, and where no block follows the walk is at its end
-  unfoldable pub walk_turn : ℕ → Walk → Turn Walk (Turn Seen (Unit {0}))
+abbrev pub walked : Turn Walk (Turn Seen NoPath) → Turn Seen NoPath  -- after as many turns as there are blocks the next one was visited
+walked turns = elim turns [ go w ↦ stop declined | stop seen ↦ seen ]
+
+abbrev pub turn_to : Seen → ℕ → Option ℕ → Turn Walk (Turn Seen NoPath)  -- on to the next block; where there is none the walk is at its end
+turn_to seen current None = stop (go seen)
+turn_to seen current (Some next) = go (record { seen = seen; current = next; previous = Some current })
+
+module _ (blocks : List RowBlock) (edges : List Ends) where
+  abbrev pub neighbors : ℕ → Option ℕ × Option ℕ
+  neighbors k = (neighbor edges (block_at blocks k).a k, neighbor edges (block_at blocks k).b k)
+
+  abbrev pub next_at : ℕ → Option ℕ → Option ℕ
+  next_at k previous = next_block (neighbors k).0 (neighbors k).1 previous
+
+  -- one turn of the loop along a path: a visited block declines
+  unfoldable pub walk_turn : ℕ → Walk → Turn Walk (Turn Seen NoPath)
   walk_turn k w = do
-    let row = index starts w.current
-    let seen : Seen = record { order = w.seen.order ++ run row (get_or starts (w.current + 1) n); visited = set w.seen.visited w.current true }
-    let next = next_block (neighbor edges (index a row) w.current) (neighbor edges (index b row) w.current) w.previous
-    _ ← return_if (get_or w.seen.visited w.current false) (stop tt)
-    _ ← return_if (eqb next none) (go seen)
-    go (record { seen = seen; current = next; previous = w.current })
+    let seen : Seen = visit w.current (block_at blocks w.current) w.seen
+    _ ← return_if (get_or w.seen.visited w.current false) (stop declined)
+    turn_to seen w.current (next_at w.current w.previous)
 
-  unfoldable pub walk : ℕ → Seen → Turn Seen (Unit {0})
-  walk first seen = walked (loop (length starts) walk_turn (record { seen = seen; current = first; previous = none }))
+  unfoldable pub walk : ℕ → Seen → Turn Seen NoPath
+  walk first seen = walked (loop (length blocks) walk_turn (record { seen = seen; current = first; previous = None }))
 
   unfoldable pub is_end : List Bool → ℕ → Bool  -- a block that was not visited and has no neighbor on one of its bodies
-  is_end visited block =
-      not (get_or visited block false)
-      && (eqb (neighbor edges (index a (index starts block)) block) none || eqb (neighbor edges (index b (index starts block)) block) none)
+  is_end visited k = not (get_or visited k false) && (is_none (neighbors k).0 || is_none (neighbors k).1)
 
-  unfoldable pub walk_from : ℕ → Seen → Turn Seen (Unit {0})
+  unfoldable pub walk_from : ℕ → Seen → Turn Seen NoPath
   walk_from first seen = cond (is_end seen.visited first) (walk first seen) (go seen)
 
-  unfoldable pub path_walks : Turn Seen (Unit {0})
-  path_walks = loop (length starts) walk_from (record { order = []; visited = replicate 96 false })
+  unfoldable pub path_walks : Turn Seen NoPath
+  path_walks = loop (length blocks) walk_from none_seen
 
-unfoldable pub path_order : List ℕ → List ℕ → ℕ → Turn (List ℕ) (Unit {0})  -- the rows along the paths, or declined
+unfoldable pub path_order : List ℕ → List ℕ → ℕ → Turn (List ℕ) NoPath  -- the rows along the paths, or declined
 path_order a b n = do
-  let starts = path_starts a b n
-  edges ← path_edges a b starts
-  seen ← path_walks a b n starts edges
-  _ ← return_if (not (eqb (length seen.order) n)) tt
+  let blocks = path_blocks a b n
+  edges ← path_edges blocks
+  seen ← path_walks blocks edges
+  _ ← return_if (not (eqb (length seen.order) n)) declined
   go seen.order
 
 abbrev pub band_cell : List Float → ℕ → ℕ → Float  -- path_band[i][d]: twelve doubles a row, one row after the other
@@ -112,7 +158,7 @@ module _ (rows : List EqualityRow) (masses : List MassResponse) (order : List �
   unfoldable pub scale_at : ℕ → Result Float
   scale_at i = do
     value ← cross_mass (row_of i) (row_of i) masses
-    _ ← return_if (le value (ratio 0 1)) non_convergent
+    _ ← return_if (le value (ratio 0 1)) NonConvergent
     go (sqrt binary64 value)
 
   abbrev pub path_scale : ℕ → Result (List Float)
@@ -123,7 +169,7 @@ module _ (rows : List EqualityRow) (masses : List MassResponse) (order : List �
     entry ← cross_mass (row_of i) (row_of j) masses
     let value : Float = reduced band i j (entry ⊘ (at scale i ⊗ at scale j)) in
         cond (eqb j i)
-        (cond (not (is_finite value) || le value (ratio 0 1)) (stop non_convergent) (go (set band (12 * i) (sqrt binary64 value))))
+        (cond (not (is_finite value) || le value (ratio 0 1)) (stop NonConvergent) (go (set band (12 * i) (sqrt binary64 value))))
         (go (set band (12 * i + (i - j)) (value ⊘ band_cell band j 0)))
 
   unfoldable pub path_row : List Float → ℕ → List Float → Result (List Float)  -- for j in band_start..=i

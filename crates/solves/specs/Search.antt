@@ -1,7 +1,7 @@
 -- least_squares, path_solve and linear_solve of solver.rs, pass by pass. In a `do` block `x ← e` is `let x = e?` with the passes that it counted;
 -- `try` marks what counts none, `tick` is `self.linear_iterations += 1`.
 use Rattle.std.specs.Prelude.{ℕ, ◌+◌, ◌*◌, ◌^◌, List, Bool, cond, replicate, Float}
-use Rattle.solves.specs.Words.{binary64, le, ◌⊘◌, ratio, sqrt, go, stop, Turn, non_convergent}
+use Rattle.solves.specs.Words.{binary64, le, ◌⊘◌, ratio, sqrt, go, stop, Turn, NonConvergent, NoPath}
 use Rattle.arith.specs.Run.{◌>>=◌, ◌>>◌, try, tick, fail_if, again, leave_if, up_to}
 use Rattle.solves.specs.System.{System, rows_in, side_of, Counting}
 use Rattle.solves.specs.Solver.{operator, dot, plus, minus, within, tolerance_for, Search, prepare, true_residual, scaled_square, next_direction, advance}
@@ -17,7 +17,7 @@ unfoldable pub least_pass : System → Float → Search → Counting (Turn Searc
 least_pass system tolerance s = leave_if (le (sqrt binary64 s.rho) tolerance) s.solution do
   product ← try (operator system s.direction)
   denominator ← try (dot product product)
-  fail_if (le denominator (ratio 0 1)) non_convergent
+  fail_if (le denominator (ratio 0 1)) NonConvergent
   let alpha = s.rho ⊘ denominator
   let residual = minus s.residual alpha product
   normal ← try (operator system residual)
@@ -30,7 +30,7 @@ least_squares system rhs solution residual = do
   normal ← try (operator system residual)
   norm ← try (dot normal normal)
   tolerance ← try (tolerance_for (ratio 1 (10 ^ 14)) rhs)
-  up_to (least_most (rows_in system)) non_convergent (least_pass system tolerance)
+  up_to (least_most (rows_in system)) NonConvergent (least_pass system tolerance)
       (record { solution = solution; residual = residual; direction = normal; rho = norm })
 
 -- fn linear_solve, the conjugate gradients: the second half of a pass, which is done or takes the next direction
@@ -51,7 +51,7 @@ unfoldable pub gradients : System → List Float → List Float → List Float �
 gradients system rhs solution residual = do
   p ← try (prepare system residual)
   tolerance ← try (tolerance_for (ratio 1 (10 ^ 12)) rhs)
-  up_to (gradient_most (rows_in system)) non_convergent (gradient_pass system rhs p.diagonal tolerance)
+  up_to (gradient_most (rows_in system)) NonConvergent (gradient_pass system rhs p.diagonal tolerance)
       (record { solution = solution; residual = residual; direction = p.direction; rho = p.rho })
 
 -- fn path_solve, along an order of the rows: a refinement is counted once its residual is known
@@ -66,13 +66,13 @@ unfoldable pub path_along : System → List Float → List Float → List ℕ �
 path_along system rhs solution order = do
   factor ← try (path_factored system.rows system.masses order (rows_in system))
   tolerance ← try (tolerance_for (ratio 1 (10 ^ 12)) rhs)
-  up_to 4 non_convergent (refinement system rhs order factor tolerance) (record { solution = solution; residual = rhs })
+  up_to 4 NonConvergent (refinement system rhs order factor tolerance) (record { solution = solution; residual = rhs })
 
 pub data Choice : Type 0 where  -- which solve is begun: from the bodies that the rows join alone
   by_least_squares by_gradients : Choice
   by_path : List ℕ → Choice
 
-abbrev pub ordered : Turn (List ℕ) (Unit {0}) → Choice  -- a third block on a body, or a ring of blocks, declines the path
+abbrev pub ordered : Turn (List ℕ) NoPath → Choice  -- a third block on a body, or a ring of blocks, declines the path
 ordered path = elim path [ go order ↦ by_path order | stop _ ↦ by_gradients ]
 
 unfoldable pub choose : Bool → List ℕ → List ℕ → ℕ → Choice

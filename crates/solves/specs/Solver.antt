@@ -3,7 +3,7 @@
 use Rattle.std.specs.Prelude.{ℕ, List, [], ◌∷◌, ◌++◌, Bool, false, cond, not, ◌||◌, length, get_or, set, replicate, eqb, Float}
 use Rattle.solves.specs.Words.{nan, binary64, le, ◌⊕◌}
 use Rattle.solves.specs.Words.{◌⊖◌, ◌⊗◌, ◌⊘◌, ratio, is_finite, sqrt, go, stop, ◌>>=◌, turns, loop, tab, each, return_if, Vec3, zero_vec, dot_of, add_of}
-use Rattle.solves.specs.Words.{scale_of, at, apply_of, EqualityRow, non_convergent, arithmetic_overflow, Result, try_finite, MassResponse, Generalized}
+use Rattle.solves.specs.Words.{scale_of, at, apply_of, EqualityRow, NonConvergent, ArithmeticOverflow, Result, try_finite, MassResponse, Generalized}
 use Rattle.solves.specs.System.{System, rows_in}
 
 -- rows[i], generalized[i], masses[i]; past the end, where no index below goes, nothing that is a number
@@ -21,7 +21,7 @@ abbrev pub mass_in : List MassResponse → ℕ → MassResponse
 mass_in masses i = get_or masses i (record { linear = nan; angular = record { columns = [] } })
 
 abbrev pub try_number : Float → Result Float  -- value.is_finite().then_some(value).ok_or(ArithmeticOverflow)
-try_number value = cond (is_finite value) (go value) (stop arithmetic_overflow)
+try_number value = cond (is_finite value) (go value) (stop ArithmeticOverflow)
 
 abbrev pub sum_products : List Float → List Float → ℕ → Float  -- fn dot: the first n products, summed
 sum_products a b n = turns (λ k sum. sum ⊕ at a k ⊗ at b k) n (ratio 0 1)
@@ -127,7 +127,7 @@ prepare_row system residual i p = do
   let row = row_in system.rows i
   let d = diagonal_of row (mass_in system.masses row.a) (mass_in system.masses row.b)
   let x = at residual i ⊘ d
-  _ ← return_if (not (is_finite d) || le d (ratio 0 1)) non_convergent
+  _ ← return_if (not (is_finite d) || le d (ratio 0 1)) NonConvergent
   go (record { diagonal = p.diagonal ++ (d ∷ []); direction = p.direction ++ (x ∷ []); rho = p.rho ⊕ at residual i ⊗ x })
 
 unfoldable pub prepare : System → List Float → Result Prepared
@@ -157,6 +157,6 @@ unfoldable pub advance : System → Search → Result Search  -- the first half 
 advance system s = do
   product ← operator system s.direction
   curvature ← dot s.direction product
-  _ ← return_if (le curvature (ratio 0 1) || not (is_finite s.rho)) non_convergent
+  _ ← return_if (le curvature (ratio 0 1) || not (is_finite s.rho)) NonConvergent
   let alpha = s.rho ⊘ curvature
   go (record { solution = plus s.solution alpha s.direction; residual = minus s.residual alpha product; direction = s.direction; rho = s.rho })

@@ -1,6 +1,6 @@
 -- What a linear solve is about: the rows, and the mass response of each body.
 use Rattle.std.specs.Prelude.{ℕ, List, [], ◌∷◌, length}
-use Rattle.solves.specs.Words.{EqualityRow, Fault, MassResponse}
+use Rattle.solves.specs.Words.{EqualityRow, CollisionError, MassResponse}
 use Rattle.arith.specs.Run.{Run}
 
 abbrev pub BODIES_MOST : ℕ  -- the most bodies of a solve
@@ -18,4 +18,4 @@ side_of side [] = []
 side_of side (row ∷ rows) = side row ∷ side_of side rows
 
 abbrev pub Counting : Type 0 → Type 0  -- a run that may fail as the Rust does
-Counting A = Run A Fault
+Counting A = Run A CollisionError

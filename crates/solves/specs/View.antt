@@ -1,5 +1,5 @@
 -- Reads of the scratch as plain values, and what a write leaves alone. The places are those of Layout.
-use Rattle.std.specs.Prelude.{ℕ, ◌+◌, ◌*◌, ◌-◌, ◌≤◌, ◌<◌, min, ◌≡◌, false, List, [], length, get_or, replicate, Float}
+use Rattle.std.specs.Prelude.{ℕ, ◌+◌, ◌*◌, ◌-◌, ◌≤◌, ◌<◌, min, ◌≡◌, List, [], length, get_or, Float}
 use Rattle.arith.specs.Flow.{tab}
 use Rattle.vectors.specs.declared.vector.Vec3.{Vec3}
 use Rattle.vectors.specs.Matrix.{from_cols}
@@ -7,11 +7,12 @@ use Rattle.rows.specs.declared.geometry.EqualityRow.{EqualityRow}
 use Rattle.rows.specs.View.{at, vec3_at, row_at, Out}
 use Rattle.solves.specs.declared.places.Generalized.{Generalized}
 use Rattle.solves.specs.declared.places.MassResponse.{MassResponse}
-use Rattle.solves.specs.declared.path.PathOrder.{PathOrder}
 use Rattle.solves.specs.declared.Table.{Table}
+use Rattle.solves.specs.declared.joined.Rows.{Rows as Joins}
+use Rattle.solves.specs.declared.joined.Path.{Path}
 pub use Rattle.solves.specs.Layout.{ROWS_MOST, BODIES_MOST, VECTOR, SHARES, BAND, START_ROWS, ROWS, MASSES, RHS, SOLUTION, RESIDUAL, DIRECTION}
 pub use Rattle.solves.specs.Layout.{PRODUCT, DIAGONAL, NORMAL, GENERALIZED, PATH_BAND, PATH_SCALE, PATH_RHS, END}
-use Rattle.solves.specs.Region.{vec_at}
+use Rattle.solves.specs.Region.{vec_at, Does}
 use Rattle.solves.specs.System.{System}
 use Rattle.solves.specs.Solver.{row_in, generalized_in, mass_in, Search, Prepared}
 use Rattle.solves.specs.Path.{Factor, Refined}
@@ -56,21 +57,41 @@ masses_at s place body-count = tab body-count (mass_at s place)
 abbrev pub system_on : List ℕ → List ℕ → List Float → Table → System
 system_on ia ib s t = record { rows = rows_on ia ib s t.place t.rows; masses = masses_at s MASSES t.bodies }
 
--- the same at entry, and the right side, the diagonal and the solution
+-- the number of rows that are lent with their bodies, their table, and the system that stands there
+abbrev pub count_of : Joins → ℕ
+count_of rows = length rows.a.now
+
+abbrev pub table_of : Joins → Table
+table_of rows = record { place = rows.place; rows = count_of rows; bodies = rows.bodies }
+
+abbrev pub system_at : List Float → Joins → System
+system_at s rows = system_on rows.a.now rows.b.now s (table_of rows)
+
+abbrev pub rhs_at : List Float → Joins → List Float
+rhs_at s rows = vec_at s RHS (count_of rows)
+
+abbrev pub diagonal_at : List Float → Joins → List Float
+diagonal_at s rows = vec_at s DIAGONAL (count_of rows)
+
+abbrev pub solution_at : List Float → Joins → List Float
+solution_at s rows = vec_at s SOLUTION (count_of rows)
+
+abbrev pub residual_at : List Float → Joins → List Float
+residual_at s rows = vec_at s RESIDUAL (count_of rows)
+
+-- the same of a table, for the step
 abbrev pub system_in : List Float → List ℕ → List ℕ → Table → System
 system_in s ia ib t = system_on ia ib s t
 
 abbrev pub rhs_on : List Float → Table → List Float
 rhs_on s t = vec_at s RHS t.rows
 
-abbrev pub diagonal_on : List Float → Table → List Float
-diagonal_on s t = vec_at s DIAGONAL t.rows
-
 abbrev pub solution_on : List Float → Table → List Float
 solution_on s t = vec_at s SOLUTION t.rows
 
-abbrev pub residual_on : List Float → Table → List Float
-residual_on s t = vec_at s RESIDUAL t.rows
+-- the most that a caller may have counted before a solve
+abbrev pub COUNT_MOST : ℕ
+COUNT_MOST = 65536
 
 abbrev pub search_at : List Float → ℕ → Float → Search
 search_at s n rho = record {
@@ -79,9 +100,6 @@ search_at s n rho = record {
   direction = vec_at s DIRECTION n;
   rho = rho;
 }
-
-abbrev pub search_on : List Float → Table → Float → Search
-search_on s t rho = search_at s t.rows rho
 
 abbrev pub prepared_at : List Float → ℕ → Float → Prepared
 prepared_at s n rho = record { diagonal = vec_at s DIAGONAL n; direction = vec_at s DIRECTION n; rho = rho }
@@ -143,6 +161,24 @@ pub record Rows (s : List Float) (ia ib : List ℕ) (place n body-count : ℕ) :
 abbrev pub Ready : List Float → List ℕ → List ℕ → Table → Type 0
 Ready s ia ib t = Rows s ia ib t.place t.rows t.bodies
 
+-- rows of a table that can be lent with their bodies, and what is lent of them
+pub record Fits (ia ib : List ℕ) (t : Table) : Type 0 where
+  pub table : t.place ≤ ROWS
+  pub most : t.rows ≤ ROWS_MOST
+  pub bodies : t.bodies ≤ BODIES_MOST
+  pub a-there : (k : ℕ) → k < t.rows → get_or ia k 0 < t.bodies
+  pub b_there : (k : ℕ) → k < t.rows → get_or ib k 0 < t.bodies
+
+pub record LentOf (ia ib : List ℕ) (rows : Joins) : Type 0 where
+  pub a : (k : ℕ) → k < count_of rows → get_or rows.a.now k 0 ≡ get_or ia k 0
+  pub b : (k : ℕ) → k < count_of rows → get_or rows.b.now k 0 ≡ get_or ib k 0
+
+pub record Lends (ia ib : List ℕ) (t : Table) (rows : Joins) : Type 0 where
+  pub place : rows.place ≡ t.place
+  pub bodies : rows.bodies ≡ t.bodies
+  pub count : count_of rows ≡ t.rows
+  pub of : LentOf ia ib rows
+
 -- a vector's place: behind rows and masses, and apart from the bodies' shares
 pub record VectorPlace (s : List Float) (place : ℕ) : Type 0 where
   pub low : RHS ≤ place
@@ -156,6 +192,10 @@ Ahead to from = min (to - from) (from + VECTOR - to) ≡ 0
 -- a loop over n doubles can write a vector from another
 abbrev pub Onto : List Float → ℕ → ℕ → ℕ → Type 0
 Onto s n to from = (n ≤ ROWS_MOST) × (to + VECTOR ≤ length s) × (from + VECTOR ≤ length s) × (Ahead to from)
+
+-- such a loop leaves g of two vectors
+abbrev pub Filling : (Float → Float → Float) → ℕ → ℕ → ℕ → ℕ → List Float → List Float → Type 0
+Filling g x a b n s t = Does (Beside x) s t (vec_at t x n) (tab (length (vec_at s a n)) (λ i. g (at (vec_at s a n) i) (at (vec_at s b n) i)))
 
 -- ---- the path's integers, in arrays beside the scratch
 -- the first n of an array
@@ -175,13 +215,6 @@ pub record RowsAlong (s : List Float) (ia ib order : List ℕ) (place n body-cou
   pub rows : Rows s ia ib place n body-count
   pub along : Along order n
 
-abbrev pub ReadyAlong : List Float → List ℕ → List ℕ → Table → List ℕ → Type 0
-ReadyAlong s ia ib t order = RowsAlong s ia ib order t.place t.rows t.bodies
-
--- no path
-abbrev pub no_path : PathOrder
-no_path = record { found = false; rows = replicate 96 0 }
-
 -- ---- the path's numbers
 abbrev pub band_at : List Float → ℕ → List Float
 band_at s n = vec_at s PATH_BAND (12 * n)
@@ -192,9 +225,9 @@ factor_at s n = record { scale = vec_at s PATH_SCALE n; band = band_at s n }
 abbrev pub refined_at : List Float → ℕ → Refined
 refined_at s n = record { solution = vec_at s SOLUTION n; residual = vec_at s RESIDUAL n }
 
--- an order of the rows, from an array
-abbrev pub order_on : List ℕ → Table → List ℕ
-order_on order t = list_of_first order t.rows
+-- the order of a path's rows
+abbrev pub order_in : Path → List ℕ
+order_in path = list_of_first path.order.now (count_of path.rows)
 
 -- outside of what the factor and a refinement write
 abbrev pub Factoring : ℕ → Type 0

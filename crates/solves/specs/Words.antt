@@ -7,6 +7,9 @@ pub use Rattle.vectors.specs.declared.vector.Vec3.{Vec3}
 pub use Rattle.vectors.specs.Vector.{zero_vec, dot_of, add_of, scale_of, at}
 pub use Rattle.vectors.specs.Matrix.{apply_of}
 pub use Rattle.rows.specs.declared.geometry.EqualityRow.{EqualityRow}
-pub use Rattle.rows.specs.Fault.{Fault, non_convergent, arithmetic_overflow, Result, try_finite}
+pub use Rattle.rows.specs.Fault.{CollisionError, NonConvergent, ArithmeticOverflow, Result, try_finite}
 pub use Rattle.solves.specs.declared.places.MassResponse.{MassResponse}
 pub use Rattle.solves.specs.declared.places.Generalized.{Generalized}
+pub use Rattle.solves.specs.declared.order.RowBlock.{RowBlock}
+pub use Rattle.solves.specs.declared.order.Ends.{Ends}
+pub use Rattle.solves.specs.declared.order.NoPath.{NoPath}

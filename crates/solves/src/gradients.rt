@@ -2,43 +2,34 @@
 ghost use Rattle.std.specs.Prelude.{◌≡◌, ◌+◌, ◌≤◌, length};
 ghost use Rattle.solves.specs.Solver.{within, diagonal_of, prepare as prepare_of, true_residual, scaled_square, next_direction, advance as advance_of};
 ghost use Rattle.solves.specs.Search.{settle as settle_of, gradient_pass, gradients as gradients_of};
-ghost use Rattle.solves.specs.Answer.{ran_as, test_as, prepared_as, true_as, search_as, Solves};
+ghost use Rattle.solves.specs.Answer.{prepared_as, tested_as, search_as, Counted};
+ghost use Rattle.arith.specs.Flow.{leaving};
 ghost use Rattle.solves.specs.Region.{vec_at, Does};
-ghost use Rattle.solves.specs.View.{search_at, system_in, rhs_on, diagonal_on, solution_on, residual_on, search_on, Ready, Passing, Preparing, Testing, Beside};
-ghost use Rattle.solves.specs.View.{ROWS_MOST, RESIDUAL, DIRECTION, DIAGONAL, END};
+ghost use Rattle.solves.specs.View.{search_at, count_of, system_at, rhs_at, diagonal_at, solution_at, residual_at};
+ghost use Rattle.solves.specs.View.{Passing, Preparing, Testing, Beside, COUNT_MOST, ROWS_MOST, RESIDUAL, DIRECTION, DIAGONAL, END};
 
+use crate::joined::Rows;
 use crate::layout::{DIAGONAL, DIRECTION, MASSES, PRODUCT, RESIDUAL, RHS, SOLUTION};
-use crate::operator::{dot, operator, tolerance_for};
-use crate::places::{MassResponse, load_mass, load_row};
-use crate::search::{Which, search};
+use crate::operator::{dot, tolerance_for};
+use crate::places::{MassResponse, load_mass};
+use crate::search::search;
 use crate::values::{add_scaled, difference};
-use crate::{End, Ended, Next, Pass, PerRow, Sum, Table, done};
+use arith::fault::CollisionError;
 use arith::number::is_finite;
 use arith::root::sqrt;
 use rows::geometry::EqualityRow;
 
-// rho, once every entry of the diagonal is above zero.
-#[derive(Drop)]
-pub(crate) enum Begun {
-    Rho(f64),
-    NonConvergent,
-}
-
-// Over where the residual is within the tolerance.
-pub(crate) fn residual_test(s: &[f64], n: usize, tolerance: f64) -> Pass
+// Whether the residual is within the tolerance.
+#[tactic(auto, unfolding(crate::specs::Solver::within, arith::specs::Flow::and_then))]
+pub(crate) fn within(s: &[f64], n: usize, tolerance: f64) -> Result<bool, CollisionError>
     requires { (END ≤ length s.now) × (n ≤ ROWS_MOST) }
-    ensures { test_as result ≡ within (vec_at s.now RESIDUAL n) tolerance }
+    ensures { result ≡ within (vec_at s.now RESIDUAL n) tolerance }
 {
-    let Sum::Value(square) = dot(s, RESIDUAL, RESIDUAL, n) else {
-        return Pass::Over(End::ArithmeticOverflow);
-    };
-    if sqrt(square) <= tolerance {
-        return Pass::Over(End::Done);
-    }
-    Pass::Again
+    Ok(sqrt(dot(s, RESIDUAL, RESIDUAL, n)?) <= tolerance)
 }
 
 // A row's own entry of the Schur matrix: a's half, then b's.
+#[tactic(auto, unfolding(crate::specs::Solver::diagonal_of))]
 fn diagonal_entry(row: EqualityRow, ma: MassResponse, mb: MassResponse) -> f64
     ensures { result ≡ diagonal_of row ma mb }
 {
@@ -49,22 +40,18 @@ fn diagonal_entry(row: EqualityRow, ma: MassResponse, mb: MassResponse) -> f64
 }
 
 // The diagonal, the first direction, and rho.
-fn prepare(s: &mut [f64], ia: &PerRow, ib: &PerRow, t: Table) -> Begun
-    requires { Ready s.old ia.now ib.now t }
-    ensures { Does Preparing s.old s.new (prepared_as result s.new t.rows) (prepare_of (system_in s.old ia.now ib.now t) (residual_on s.old t)) }
+fn prepare(s: &mut [f64], rows: &Rows) -> Result<f64, CollisionError>
+    requires { END ≤ length s.old }
+    ensures { Does Preparing s.old s.new (prepared_as result s.new (count_of rows.now)) (prepare_of (system_at s.old rows.now) (residual_at s.old rows.now)) }
 {
-    let n = t.rows;
     let mut rho = 0.0;
-    for k in 0..n {
-        let row = load_row(s, ia, ib, t.place, k);
+    for k in 0..rows.count() {
+        let row = rows.load(s, k);
         let ma = load_mass(s, MASSES, row.a);
         let mb = load_mass(s, MASSES, row.b);
         let d = diagonal_entry(row, ma, mb);
-        if !is_finite(d) {
-            return Begun::NonConvergent;
-        }
-        if d <= 0.0 {
-            return Begun::NonConvergent;
+        if !is_finite(d) || d <= 0.0 {
+            return Err(CollisionError::NonConvergent);
         }
         let r = s[RESIDUAL + k];
         let x = r / d;
@@ -72,7 +59,7 @@ fn prepare(s: &mut [f64], ia: &PerRow, ib: &PerRow, t: Table) -> Begun
         s[DIRECTION + k] = x;
         rho = rho + r * x;
     }
-    Begun::Rho(rho)
+    Ok(rho)
 }
 
 // The sum of r * r / d over the residual and the diagonal.
@@ -98,101 +85,92 @@ fn next_direction(s: &mut [f64], beta: f64, n: usize)
     }
 }
 
-// Recomputes the residual, to prevent a success of the recurrence only. Over where it is within the tolerance still.
-fn true_residual(s: &mut [f64], ia: &PerRow, ib: &PerRow, t: Table, tolerance: f64) -> Pass
-    requires { Ready s.old ia.now ib.now t }
-    ensures { Does Testing s.old s.new (true_as result (vec_at s.new RESIDUAL t.rows))
-        (true_residual (system_in s.old ia.now ib.now t) (rhs_on s.old t) tolerance (solution_on s.old t) (residual_on s.old t)) }
+// Recomputes the residual, to prevent a success of the recurrence only. Whether it is within the tolerance still.
+fn true_residual(s: &mut [f64], rows: &Rows, tolerance: f64) -> Result<bool, CollisionError>
+    requires { END ≤ length s.old }
+    ensures { Does Testing s.old s.new (tested_as result (residual_at s.new rows.now))
+        (true_residual (system_at s.old rows.now) (rhs_at s.old rows.now) tolerance (solution_at s.old rows.now) (residual_at s.old rows.now)) }
 {
-    let n = t.rows;
-    let Pass::Over(near) = residual_test(s, n, tolerance) else {
-        return Pass::Again;
-    };
-    if !done(near) {
-        return Pass::Over(near);
+    let n = rows.count();
+    if !within(s, n, tolerance)? {
+        return Ok(false);
     }
-    let end = operator(s, ia, ib, t, SOLUTION, PRODUCT);
-    if !done(end) {
-        return Pass::Over(end);
-    }
+    rows.operator(s, SOLUTION, PRODUCT)?;
     difference(s, RESIDUAL, RHS, PRODUCT, n);
-    residual_test(s, n, tolerance)
+    within(s, n, tolerance)
 }
 
 // The first half of a pass: along the direction as far as the curvature says.
-fn advance(s: &mut [f64], ia: &PerRow, ib: &PerRow, t: Table, rho: f64) -> End
-    requires { Ready s.old ia.now ib.now t }
-    ensures { Does Passing s.old s.new (ran_as result (search_at s.new t.rows rho)) (advance_of (system_in s.old ia.now ib.now t) (search_on s.old t rho)) }
+fn advance(s: &mut [f64], rows: &Rows, rho: f64) -> Result<(), CollisionError>
+    requires { END ≤ length s.old }
+    ensures { Does Passing s.old s.new (leaving result (search_at s.new (count_of rows.now) rho))
+        (advance_of (system_at s.old rows.now) (search_at s.old (count_of rows.now) rho)) }
 {
-    let n = t.rows;
-    let end = operator(s, ia, ib, t, DIRECTION, PRODUCT);
-    if !done(end) {
-        return end;
-    }
-    let Sum::Value(curvature) = dot(s, DIRECTION, PRODUCT, n) else {
-        return End::ArithmeticOverflow;
-    };
-    if curvature <= 0.0 {
-        return End::NonConvergent;
-    }
-    if !is_finite(rho) {
-        return End::NonConvergent;
+    let n = rows.count();
+    rows.operator(s, DIRECTION, PRODUCT)?;
+    let curvature = dot(s, DIRECTION, PRODUCT, n)?;
+    if curvature <= 0.0 || !is_finite(rho) {
+        return Err(CollisionError::NonConvergent);
     }
     let alpha = rho / curvature;
     add_scaled(s, SOLUTION, SOLUTION, alpha, DIRECTION, n);
     // a - alpha * b is a + (-alpha) * b, bit for bit
     add_scaled(s, RESIDUAL, RESIDUAL, -alpha, PRODUCT, n);
-    End::Done
+    Ok(())
 }
 
-// The second half: done, or the next direction.
-fn settle(s: &mut [f64], ia: &PerRow, ib: &PerRow, t: Table, tolerance: f64, rho: f64) -> Next
-    requires { Ready s.old ia.now ib.now t }
-    ensures { Does Passing s.old s.new (search_as result s.new t.rows)
-        (settle_of (system_in s.old ia.now ib.now t) (rhs_on s.old t) (diagonal_on s.old t) tolerance (search_on s.old t rho)) }
+// The second half: none where it is over, or the next direction with its rho.
+fn settle(
+    s: &mut [f64],
+    rows: &Rows,
+    tolerance: f64,
+    rho: f64,
+) -> Result<Option<f64>, CollisionError>
+    requires { END ≤ length s.old }
+    ensures { Does Passing s.old s.new (search_as result s.new (count_of rows.now))
+        (settle_of (system_at s.old rows.now) (rhs_at s.old rows.now) (diagonal_at s.old rows.now) tolerance (search_at s.old (count_of rows.now) rho)) }
 {
-    let n = t.rows;
-    if let Pass::Over(end) = true_residual(s, ia, ib, t, tolerance) {
-        return Next::Over(end);
+    if true_residual(s, rows, tolerance)? {
+        return Ok(None);
     }
+    let n = rows.count();
     let next = scaled_square(s, n);
     next_direction(s, next / rho, n);
-    Next::Rho(next)
+    Ok(Some(next))
 }
 
 // A pass, tested by the recurrence's residual first.
-pub(crate) fn gradient_pass(
+fn gradient_pass(
     s: &mut [f64],
-    ia: &PerRow,
-    ib: &PerRow,
-    t: Table,
+    rows: &Rows,
     tolerance: f64,
     rho: f64,
-) -> Next
-    requires { Ready s.old ia.now ib.now t }
-    ensures { Does Passing s.old s.new (search_as result s.new t.rows)
-        (gradient_pass (system_in s.old ia.now ib.now t) (rhs_on s.old t) (diagonal_on s.old t) tolerance (search_on s.old t rho)) }
+) -> Result<Option<f64>, CollisionError>
+    requires { END ≤ length s.old }
+    ensures { Does Passing s.old s.new (search_as result s.new (count_of rows.now))
+        (gradient_pass (system_at s.old rows.now) (rhs_at s.old rows.now) (diagonal_at s.old rows.now) tolerance (search_at s.old (count_of rows.now) rho)) }
 {
-    if let Pass::Over(end) = residual_test(s, t.rows, tolerance) {
-        return Next::Over(end);
+    if within(s, rows.count(), tolerance)? {
+        return Ok(None);
     }
-    let end = advance(s, ia, ib, t, rho);
-    if !done(end) {
-        return Next::Over(end);
-    }
-    settle(s, ia, ib, t, tolerance, rho)
+    advance(s, rows, rho)?;
+    settle(s, rows, tolerance, rho)
 }
 
 // The diagonal-scaled conjugate gradients.
-pub(crate) fn gradients(s: &mut [f64], ia: &PerRow, ib: &PerRow, t: Table) -> Ended
-    requires { Ready s.old ia.now ib.now t }
-    ensures { Solves s.old s.new ia.now ib.now t result (λ system. gradients_of system (rhs_on s.old t) (solution_on s.old t) (residual_on s.old t)) }
+pub(crate) fn gradients(
+    s: &mut [f64],
+    rows: &Rows,
+    linear: &mut usize,
+) -> Result<(), CollisionError>
+    requires { (END ≤ length s.old) × (linear.old ≤ COUNT_MOST) }
+    ensures { Counted s.old s.new rows.now linear.old linear.new result
+        (λ system. gradients_of system (rhs_at s.old rows.now) (solution_at s.old rows.now) (residual_at s.old rows.now)) }
 {
-    let Begun::Rho(rho) = prepare(s, ia, ib, t) else {
-        return Ended::new(End::NonConvergent, 0);
-    };
-    let Sum::Value(tolerance) = tolerance_for(s, 1.0e-12, t.rows) else {
-        return Ended::new(End::ArithmeticOverflow, 0);
-    };
-    search(s, ia, ib, t, Which::Gradients, tolerance, rho)
+    let n = rows.count();
+    let rho = prepare(s, rows)?;
+    let tolerance = tolerance_for(s, 1.0e-12, n)?;
+    search(s, 2 * n + 32, rho, linear, |s: &mut [f64], rho: f64| {
+        gradient_pass(s, rows, tolerance, rho)
+    })
 }

@@ -1,11 +1,14 @@
 // The linear solves of the constrained integrator: solver.rs below `solve`, over one lent scratch.
-// A table of rows is a place of the scratch with the bodies of each row beside it: `ia[k]` and `ib[k]` for row k.
+// A table of rows is a place of the scratch with the bodies of each row beside it: `ia[k]` and `ib[k]` for row k; below the
+// two calls that the step takes they are one `Rows`.
 #![tactic(auto)]
 
 mod gradients;
+mod joined;
 pub mod layout;
 mod least_squares;
 pub mod operator;
+mod order;
 mod path;
 pub mod places;
 mod search;
@@ -13,21 +16,15 @@ pub mod solver;
 mod values;
 
 ghost use Rattle.std.specs.Prelude.{◌≡◌};
-ghost use Rattle.solves.specs.Answer.{ended_with};
+ghost use Rattle.solves.specs.Answer.{ended_with, end_of};
 
+use arith::fault::CollisionError;
 pub use rows::{End, done};
 
 // How a pass of a loop ended: there is to be another, or the loop is over.
 #[derive(Drop)]
 pub enum Pass {
     Again,
-    Over(End),
-}
-
-// How a pass of a search ended: with the number that the next pass needs, or the search is over.
-#[derive(Drop)]
-pub(crate) enum Next {
-    Rho(f64),
     Over(End),
 }
 
@@ -61,5 +58,16 @@ impl Ended {
         ensures { result ≡ ended_with end linear }
     {
         Ended { end, linear }
+    }
+}
+
+// How a call ended, as the step takes it.
+pub(crate) fn end_of(answer: Result<(), CollisionError>) -> End
+    ensures { result ≡ end_of answer }
+{
+    match answer {
+        Ok(()) => End::Done,
+        Err(CollisionError::NonConvergent) => End::NonConvergent,
+        Err(CollisionError::ArithmeticOverflow) => End::ArithmeticOverflow,
     }
 }

@@ -1,29 +1,45 @@
 // `dot`, `transpose`, `operator` and `cross_mass` of solver.rs.
 ghost use Rattle.std.specs.Prelude.{◌≡◌, ◌+◌, ◌≤◌, ◌<◌, length};
-ghost use Rattle.solves.specs.Answer.{sum_as, share_as, ran_as, Pushes};
+ghost use Rattle.arith.specs.Flow.{leaving};
+ghost use Rattle.rows.specs.Fault.{try_finite};
+ghost use Rattle.solves.specs.Answer.{Pushes};
 ghost use Rattle.solves.specs.Region.{vec_at, Does};
-ghost use Rattle.solves.specs.Solver.{sum_products, dot as dot_of, tolerance_for, push_into, push_row, transpose as transpose_of};
+ghost use Rattle.solves.specs.Solver.{try_number, sum_products, dot as dot_of, tolerance_for, push_into, push_row, transpose as transpose_of};
 ghost use Rattle.solves.specs.Checked.{added, all_finite, checked, checked_then};
 ghost use Rattle.solves.specs.Solver.{scaled as scaled_of, scale_all, rate as rate_of, rates as rates_of, operator as operator_of};
 ghost use Rattle.solves.specs.Solver.{through as through_of, add_through, cross_end, cross_mass};
-ghost use Rattle.solves.specs.View.{shares_in, masses_at, system_in, Ready, VectorPlace, Shares, Beside, Operating};
+ghost use Rattle.solves.specs.View.{shares_in, masses_at, count_of, system_at, Ready, VectorPlace, Shares, Beside, Operating};
 ghost use Rattle.solves.specs.View.{ROWS_MOST, BODIES_MOST, MASSES, RHS, END};
 
+use crate::joined::Rows;
 use crate::layout::{GENERALIZED, MASSES, RHS, SHARE};
-use crate::places::{
-    Generalized, MassResponse, load_generalized, load_mass, load_row, store_generalized,
-};
-use crate::{End, PerRow, Sum, Table, done};
-use arith::number::is_finite;
+use crate::places::{Generalized, MassResponse, load_generalized, load_mass, store_generalized};
+use crate::{End, PerRow, Table, end_of};
+use arith::fault::CollisionError;
+use arith::number;
 use arith::root::sqrt;
 use rows::geometry::{EqualityRow, clear};
 use vectors::vector::Vec3;
 
-// A share, if it is finite.
-#[derive(Drop)]
-pub(crate) enum Share {
-    Value(Generalized),
-    ArithmeticOverflow,
+// A vector, if it is finite.
+#[tactic(auto, unfolding(rows::specs::Fault::try_finite))]
+fn finite(value: Vec3) -> Result<Vec3, CollisionError>
+    ensures { result ≡ try_finite value }
+{
+    if !value.is_finite() {
+        return Err(CollisionError::ArithmeticOverflow);
+    }
+    Ok(value)
+}
+
+// And a number.
+fn finite_number(value: f64) -> Result<f64, CollisionError>
+    ensures { result ≡ try_number value }
+{
+    if !number::is_finite(value) {
+        return Err(CollisionError::ArithmeticOverflow);
+    }
+    Ok(value)
 }
 
 fn products(s: &[f64], a: usize, b: usize, n: usize) -> f64
@@ -37,26 +53,20 @@ fn products(s: &[f64], a: usize, b: usize, n: usize) -> f64
     total
 }
 
-pub(crate) fn dot(s: &[f64], a: usize, b: usize, n: usize) -> Sum
+pub(crate) fn dot(s: &[f64], a: usize, b: usize, n: usize) -> Result<f64, CollisionError>
     requires { (a + n ≤ length s.now) × (b + n ≤ length s.now) }
-    ensures { sum_as result ≡ dot_of (vec_at s.now a n) (vec_at s.now b n) }
+    ensures { result ≡ dot_of (vec_at s.now a n) (vec_at s.now b n) }
 {
-    let total = products(s, a, b, n);
-    if is_finite(total) {
-        return Sum::Value(total);
-    }
-    Sum::ArithmeticOverflow
+    finite_number(products(s, a, b, n))
 }
 
 // The tolerance of a solve: `scale` times one more than the length of the right side.
-pub(crate) fn tolerance_for(s: &[f64], scale: f64, n: usize) -> Sum
+#[tactic(auto, using(arith::specs::Literals::literals), unfolding(crate::specs::Solver::tolerance_for, arith::specs::Flow::and_then))]
+pub(crate) fn tolerance_for(s: &[f64], scale: f64, n: usize) -> Result<f64, CollisionError>
     requires { (END ≤ length s.now) × (n ≤ ROWS_MOST) }
-    ensures { sum_as result ≡ tolerance_for scale (vec_at s.now RHS n) }
+    ensures { result ≡ tolerance_for scale (vec_at s.now RHS n) }
 {
-    let Sum::Value(square) = dot(s, RHS, RHS, n) else {
-        return Sum::ArithmeticOverflow;
-    };
-    Sum::Value(scale * (1.0 + sqrt(square)))
+    Ok(scale * (1.0 + sqrt(dot(s, RHS, RHS, n)?)))
 }
 
 // A body's share with that of one row more. It is tested when all rows are in: what is not finite stays so.
@@ -101,71 +111,40 @@ fn shares_finite(s: &[f64], body_count: usize) -> bool
     ensures { result ≡ all_finite (shares_in s.now body_count) }
 {
     for k in 0..body_count {
-        let share = load_generalized(s, GENERALIZED, k);
-        if !share.linear.is_finite() {
-            return false;
-        }
-        if !share.angular.is_finite() {
+        if !load_generalized(s, GENERALIZED, k).is_finite() {
             return false;
         }
     }
     true
 }
 
-// Each body's share of the rows times their values.
-pub fn transpose(s: &mut [f64], ia: &PerRow, ib: &PerRow, t: Table, values: usize) -> End
-    requires { (Ready s.old ia.now ib.now t) × (VectorPlace s.old values) }
-    ensures { Pushes s.old s.new ia.now ib.now t result (λ rows. transpose_of rows (vec_at s.old values t.rows) t.bodies) }
-{
-    let n = t.rows;
-    let body_count = t.bodies;
-    clear(s, GENERALIZED, SHARE * body_count);
-    for k in 0..n {
-        let row = load_row(s, ia, ib, t.place, k);
-        let value = s[values + k];
-        push_row(s, row, value, body_count);
-    }
-    if shares_finite(s, body_count) {
-        return End::Done;
-    }
-    End::ArithmeticOverflow
-}
-
 // A share through the mass response of its body.
-fn scaled(value: Generalized, mass: MassResponse) -> Share
-    ensures { share_as result ≡ scaled_of value mass }
+#[tactic(auto, unfolding(crate::specs::Solver::scaled, arith::specs::Flow::and_then))]
+fn scaled(value: Generalized, mass: MassResponse) -> Result<Generalized, CollisionError>
+    ensures { result ≡ scaled_of value mass }
 {
-    let l = value.linear.scale(mass.linear);
-    if l.is_finite() {
-        let a = mass.angular.apply(value.angular);
-        if a.is_finite() {
-            return Share::Value(Generalized {
-                linear: l,
-                angular: a,
-            });
-        }
-    }
-    Share::ArithmeticOverflow
+    Ok(Generalized {
+        linear: finite(value.linear.scale(mass.linear))?,
+        angular: finite(mass.angular.apply(value.angular))?,
+    })
 }
 
-fn scale_all(s: &mut [f64], body_count: usize) -> End
+fn scale_all(s: &mut [f64], body_count: usize) -> Result<(), CollisionError>
     requires { (END ≤ length s.old) × (body_count ≤ BODIES_MOST) }
-    ensures { Does Shares s.old s.new (ran_as result (shares_in s.new body_count))
+    ensures { Does Shares s.old s.new (leaving result (shares_in s.new body_count))
         (scale_all (shares_in s.old body_count) (masses_at s.old MASSES body_count) body_count) }
 {
     for k in 0..body_count {
         let value = load_generalized(s, GENERALIZED, k);
         let mass = load_mass(s, MASSES, k);
-        if let Share::Value(g) = scaled(value, mass) {
-            store_generalized(s, GENERALIZED, k, g);
-        } else {
-            return End::ArithmeticOverflow;
-        }
+        let through = scaled(value, mass)?;
+        store_generalized(s, GENERALIZED, k, through);
     }
-    End::Done
+    Ok(())
 }
 
 // A row along the motions of its two bodies.
+#[tactic(auto, unfolding(crate::specs::Solver::rate))]
 fn rate(row: EqualityRow, a: Generalized, b: Generalized) -> f64
     ensures { result ≡ rate_of row a b }
 {
@@ -175,50 +154,66 @@ fn rate(row: EqualityRow, a: Generalized, b: Generalized) -> f64
         + row.angular_b.dot(b.angular)
 }
 
-fn rates(s: &mut [f64], ia: &PerRow, ib: &PerRow, t: Table, out: usize) -> End
-    requires { (Ready s.old ia.now ib.now t) × (VectorPlace s.old out) }
-    ensures { Does (Beside out) s.old s.new (ran_as result (vec_at s.new out t.rows))
-        (rates_of (system_in s.old ia.now ib.now t).rows t.rows (shares_in s.old t.bodies)) }
-{
-    let n = t.rows;
-    for k in 0..n {
-        let row = load_row(s, ia, ib, t.place, k);
-        let a = load_generalized(s, GENERALIZED, row.a);
-        let b = load_generalized(s, GENERALIZED, row.b);
-        let value = rate(row, a, b);
-        s[out + k] = value;
-        if !is_finite(value) {
-            return End::ArithmeticOverflow;
+impl Rows<'_> {
+    // Each body's share of the rows times their values.
+    pub(crate) fn transpose(&self, s: &mut [f64], values: usize) -> Result<(), CollisionError>
+        requires { (END ≤ length s.old) × (VectorPlace s.old values) }
+        ensures { Does Shares s.old s.new (leaving result (shares_in s.new self.now.bodies))
+            (transpose_of (system_at s.old self.now).rows (vec_at s.old values (count_of self.now)) self.now.bodies) }
+    {
+        clear(s, GENERALIZED, SHARE * self.bodies);
+        for k in 0..self.count() {
+            let row = self.load(s, k);
+            let value = s[values + k];
+            push_row(s, row, value, self.bodies);
         }
+        if !shares_finite(s, self.bodies) {
+            return Err(CollisionError::ArithmeticOverflow);
+        }
+        Ok(())
     }
-    End::Done
+
+    fn rates(&self, s: &mut [f64], out: usize) -> Result<(), CollisionError>
+        requires { (END ≤ length s.old) × (VectorPlace s.old out) }
+        ensures { Does (Beside out) s.old s.new (leaving result (vec_at s.new out (count_of self.now)))
+            (rates_of (system_at s.old self.now).rows (count_of self.now) (shares_in s.old self.now.bodies)) }
+    {
+        for k in 0..self.count() {
+            let row = self.load(s, k);
+            let a = load_generalized(s, GENERALIZED, row.a);
+            let b = load_generalized(s, GENERALIZED, row.b);
+            s[out + k] = finite_number(rate(row, a, b))?;
+        }
+        Ok(())
+    }
+
+    // The rows' Schur operator on `input`: back to the bodies, through their masses, and along the rows again.
+    pub(crate) fn operator(
+        &self,
+        s: &mut [f64],
+        input: usize,
+        out: usize,
+    ) -> Result<(), CollisionError>
+        requires { (END ≤ length s.old) × (VectorPlace s.old input) × (VectorPlace s.old out) }
+        ensures { Does (Operating out) s.old s.new (leaving result (vec_at s.new out (count_of self.now)))
+            (operator_of (system_at s.old self.now) (vec_at s.old input (count_of self.now))) }
+    {
+        self.transpose(s, input)?;
+        scale_all(s, self.bodies)?;
+        self.rates(s, out)
+    }
 }
 
-// The rows' Schur operator on `input`: back to the bodies, through their masses, and along the rows again.
-pub(crate) fn operator(
-    s: &mut [f64],
-    ia: &PerRow,
-    ib: &PerRow,
-    t: Table,
-    input: usize,
-    out: usize,
-) -> End
-    requires { (Ready s.old ia.now ib.now t) × (VectorPlace s.old input) × (VectorPlace s.old out) }
-    ensures { Does (Operating out) s.old s.new (ran_as result (vec_at s.new out t.rows))
-        (operator_of (system_in s.old ia.now ib.now t) (vec_at s.old input t.rows)) }
+// The rows' `transpose`, as the step calls it.
+pub fn transpose(s: &mut [f64], ia: &PerRow, ib: &PerRow, t: Table, values: usize) -> End
+    requires { (Ready s.old ia.now ib.now t) × (VectorPlace s.old values) }
+    ensures { Pushes s.old s.new ia.now ib.now t result (λ rows. transpose_of rows (vec_at s.old values t.rows) t.bodies) }
 {
-    let pushed = transpose(s, ia, ib, t, input);
-    if !done(pushed) {
-        return pushed;
-    }
-    let moved = scale_all(s, t.bodies);
-    if !done(moved) {
-        return moved;
-    }
-    rates(s, ia, ib, t, out)
+    end_of(Rows::new(ia, ib, t).transpose(s, values))
 }
 
 // The share of one body in the entry of two rows that both touch it.
+#[tactic(auto, unfolding(crate::specs::Solver::through))]
 fn through(mass: MassResponse, al: Vec3, aa: Vec3, bl: Vec3, ba: Vec3) -> f64
     ensures { result ≡ through_of mass al aa bl ba }
 {
@@ -248,6 +243,7 @@ fn add_through(
 }
 
 // One end of row a against both ends of row b.
+#[tactic(auto, unfolding(crate::specs::Solver::cross_end))]
 fn cross_end(
     s: &[f64],
     body_count: usize,
@@ -285,14 +281,15 @@ fn cross_end(
 }
 
 // The entry of the rows' Schur matrix.
-pub(crate) fn cross_mass(s: &[f64], a: EqualityRow, b: EqualityRow, body_count: usize) -> Sum
+pub(crate) fn cross_mass(
+    s: &[f64],
+    a: EqualityRow,
+    b: EqualityRow,
+    body_count: usize,
+) -> Result<f64, CollisionError>
     requires { (END ≤ length s.now) × (a.a < body_count) × (a.b < body_count) × (body_count ≤ BODIES_MOST) }
-    ensures { sum_as result ≡ cross_mass a b (masses_at s.now MASSES body_count) }
+    ensures { result ≡ cross_mass a b (masses_at s.now MASSES body_count) }
 {
     let half = cross_end(s, body_count, 0.0, a.a, a.linear_a, a.angular_a, b);
-    let value = cross_end(s, body_count, half, a.b, a.linear_b, a.angular_b, b);
-    if is_finite(value) {
-        return Sum::Value(value);
-    }
-    Sum::ArithmeticOverflow
+    finite_number(cross_end(s, body_count, half, a.b, a.linear_b, a.angular_b, b))
 }

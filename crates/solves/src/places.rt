@@ -1,25 +1,62 @@
-// Loads and stores of the scratch: a body's share of the rows, and its mass response.
+// Loads and stores of the scratch: a row of a table, a body's share of the rows, and its mass response.
 ghost use Rattle.std.specs.Prelude.{◌≡◌, ◌+◌, ◌*◌, ◌≤◌, ◌<◌, length};
 ghost use Rattle.rows.specs.View.{Out, Kept};
-ghost use Rattle.solves.specs.View.{row_on, generalized_at, mass_at, mass_of};
+ghost use Rattle.solves.specs.Checked.{finite_share};
+ghost use Rattle.solves.specs.View.{row_on, generalized_at, mass_at, mass_of, Fits, Lends};
 
-use crate::PerRow;
+use crate::joined::Rows;
 use crate::layout::{MASS, SHARE};
+use crate::{PerRow, Table};
 use rows::geometry::{EqualityRow, ROW, load3, store3};
 use vectors::matrix::Mat3;
 use vectors::vector::Vec3;
 
 // A body's linear and angular share, as the rows push it: the Rust's `[Vec3; 2]`.
-#[derive(Drop)]
+#[derive(Clone, Copy)]
 pub struct Generalized {
     pub linear: Vec3,
     pub angular: Vec3,
 }
 
-#[derive(Drop)]
+impl Generalized {
+    pub(crate) fn is_finite(self) -> bool
+        ensures { result ≡ finite_share self }
+    {
+        self.linear.is_finite() && self.angular.is_finite()
+    }
+}
+
+#[derive(Clone, Copy)]
 pub struct MassResponse {
     pub linear: f64,
     pub angular: Mat3,
+}
+
+impl<'a> Rows<'a> {
+    pub(crate) fn new(ia: &'a PerRow, ib: &'a PerRow, t: Table) -> Rows<'a>
+        requires { Fits ia.now ib.now t }
+        ensures { Lends ia.now ib.now t result }
+    {
+        Rows {
+            place: t.place,
+            bodies: t.bodies,
+            a: &ia[..t.rows],
+            b: &ib[..t.rows],
+        }
+    }
+
+    pub(crate) fn count(&self) -> usize
+        ensures { result ≡ length self.now.a.now }
+    {
+        self.a.len()
+    }
+
+    pub(crate) fn load(&self, s: &[f64], k: usize) -> EqualityRow
+        requires { (self.now.place + 14 * k + 14 ≤ length s.now) × (k < length self.now.a.now) }
+        ensures { result ≡ row_on self.now.a.now self.now.b.now s.now self.now.place k }
+    {
+        EqualityRow::load(s, self.place + ROW * k, self.a[k], self.b[k])
+    }
 }
 
 pub fn load_row(s: &[f64], ia: &PerRow, ib: &PerRow, place: usize, k: usize) -> EqualityRow

@@ -1,76 +1,37 @@
-// The loop of both searches: passes of least squares, or of the conjugate gradients.
-ghost use Rattle.std.specs.Prelude.{◌≡◌, ◌≤◌};
-ghost use Rattle.arith.specs.Run.{up_to};
-ghost use Rattle.rows.specs.Fault.{non_convergent};
-ghost use Rattle.solves.specs.Answer.{search_as, pass_of, limit_of, Solves};
-ghost use Rattle.solves.specs.Region.{Does};
-ghost use Rattle.solves.specs.View.{system_in, rhs_on, diagonal_on, search_on, Ready, Passing, ROWS_MOST};
+// The loop of both searches: a pass goes on with the number that the last one left, until it leaves none.
+ghost use Rattle.std.specs.Prelude.{ℕ, ◌≡◌, ◌≤◌, length, List, Float};
+ghost use Rattle.arith.specs.Flow.{leaving};
+ghost use Rattle.arith.specs.Run.{ran, after, up_to};
+ghost use Rattle.rows.specs.Fault.{NonConvergent, Result};
+ghost use Rattle.rows.specs.View.{Kept};
+ghost use Rattle.solves.specs.Answer.{search_as};
+ghost use Rattle.solves.specs.Region.{vec_at, Does};
+ghost use Rattle.solves.specs.View.{search_at, Passing, COUNT_MOST, SOLUTION, END};
 
-use crate::gradients::gradient_pass;
-use crate::least_squares::least_pass;
-use crate::{End, Ended, Next, PerRow, Table};
-
-#[derive(Clone, Copy)]
-pub(crate) enum Which {
-    LeastSquares,
-    Gradients,
-}
-
-// The most passes of a search over n rows.
-fn limit(which: Which, n: usize) -> usize
-    requires { n ≤ ROWS_MOST }
-    ensures { result ≡ limit_of which n }
-{
-    match which {
-        Which::LeastSquares => 4 * n + 64,
-        Which::Gradients => 2 * n + 32,
-    }
-}
-
-fn search_pass(
-    s: &mut [f64],
-    ia: &PerRow,
-    ib: &PerRow,
-    t: Table,
-    which: Which,
-    tolerance: f64,
-    rho: f64,
-) -> Next
-    requires { Ready s.old ia.now ib.now t }
-    ensures { Does Passing s.old s.new (search_as result s.new t.rows)
-        (pass_of which (system_in s.old ia.now ib.now t) (rhs_on s.old t) (diagonal_on s.old t) tolerance (search_on s.old t rho)) }
-{
-    match which {
-        Which::LeastSquares => least_pass(s, ia, ib, t, tolerance, rho),
-        Which::Gradients => gradient_pass(s, ia, ib, t, tolerance, rho),
-    }
-}
+use arith::fault::CollisionError;
 
 // A pass is counted when it was gone through whole, and there is no test after the last.
-pub(crate) fn search(
+pub(crate) fn search<F: Fn(&mut [f64], f64) -> Result<Option<f64>, CollisionError>>(
     s: &mut [f64],
-    ia: &PerRow,
-    ib: &PerRow,
-    t: Table,
-    which: Which,
-    tolerance: f64,
+    most: usize,
     start: f64,
-) -> Ended
-    requires { Ready s.old ia.now ib.now t }
-    ensures { Solves s.old s.new ia.now ib.now t result (λ system.
-        up_to (limit_of which t.rows) non_convergent (pass_of which system (rhs_on s.old t) (diagonal_on s.old t) tolerance) (search_on s.old t start)) }
+    linear: &mut usize,
+    pass: F,
+) -> Result<(), CollisionError>
+    requires small { (END ≤ length s.old) × (linear.old ≤ COUNT_MOST) × (most ≤ COUNT_MOST) }
+    requires callable { (t : _) (rho : Float) → END ≤ length t.now → F.pre pass t rho }
+    ensures { (n : ℕ) (defined : _) → ((t : _) (rho : Float) (r : _) (u : _) → Kept Passing s.old t.now → F.post pass t rho r u
+        → Does Passing t.now u.now (search_as r u.now n) (defined (search_at t.now n rho)))
+        → Does Passing s.old s.new (ran (leaving result (vec_at s.new SOLUTION n)) 0 linear.new)
+        (after 0 linear.old (up_to most NonConvergent defined (search_at s.old n start))) }
 {
-    let most = limit(which, t.rows);
     let mut rho = start;
-    for k in 0..most {
-        match search_pass(s, ia, ib, t, which, tolerance, rho) {
-            Next::Rho(next) => {
-                rho = next;
-            }
-            Next::Over(end) => {
-                return Ended::new(end, k);
-            }
-        }
+    for _ in 0..most {
+        let Some(next) = pass(s, rho)? else {
+            return Ok(());
+        };
+        rho = next;
+        *linear += 1;
     }
-    Ended::new(End::NonConvergent, most)
+    Err(CollisionError::NonConvergent)
 }

@@ -12,7 +12,7 @@ use Rattle.rows.specs.declared.body.RigidBody.{RigidBody}
 use Rattle.rows.specs.declared.body.MomentumBody.{MomentumBody}
 use Rattle.rows.specs.declared.body.BodyState.{BodyState}
 use Rattle.rows.specs.declared.geometry.Joint.{Joint}
-use Rattle.rows.specs.Fault.{Fault, non_convergent}
+use Rattle.rows.specs.Fault.{CollisionError, NonConvergent}
 use Rattle.rows.specs.Region.{tab-length}
 use Rattle.solves.specs.declared.Table.{Table}
 use Rattle.solves.specs.Region.{Does}
@@ -68,7 +68,7 @@ module _ (ia ib : List ℕ) (s : List Float) (table : Table) (few : table.rows �
 
 -- of a pass
 pub pass-few : (stage : Stage) (job : Job) {S : List Float} {IA IB : List ℕ} {table : Table} → Ours S IA IB table → (s : List Float) (v : Given stage)
-    {x : Turn (Turn (Given stage) (Gained stage)) Fault} {m l : ℕ} → ran x m l ≡ pass_at stage job IA IB table s v → l ≤ LIMIT
+    {x : Turn (Turn (Given stage) (Gained stage)) CollisionError} {m l : ℕ} → ran x m l ≡ pass_at stage job IA IB table s v → l ≤ LIMIT
 pass-few Stages.Nonlinear job {IA = IA} {IB} {table} pre s v e =
     omega (arith, counted-most e (nonlinear-most job _ v), rows_few IA IB s table pre.ready.most table.place)
 pass-few Stages.Velocity job {IA = IA} {IB} {table} pre s v e =
@@ -77,11 +77,11 @@ pass-few Stages.Velocity job {IA = IA} {IB} {table} pre s v e =
 -- of the rows of a run
 module _ {joints : List Joint} {count : ℕ} {ia ib : List ℕ} (sides : Sides joints count ia ib) (table : Table) (few : table.rows ≤ ROWS_MOST)
     {P : ℕ → Type 0} {s t : List Float} {m l : ℕ} where
-  pub loop-few : (job : Job) (v : List Float) {x : Turn Found Fault}
-      → Does P s t (ran x m l) (up_to 32 non_convergent (nonlinear_pass job (started_at ia ib s table)) v) → l ≤ 32 * LIMIT
+  pub loop-few : (job : Job) (v : List Float) {x : Turn Found CollisionError}
+      → Does P s t (ran x m l) (up_to 32 NonConvergent (nonlinear_pass job (started_at ia ib s table)) v) → l ≤ 32 * LIMIT
   loop-few job v d =
       omega (arith, counted-most d.is (most-loop (nonlinear_pass job _) (nonlinear-most job _) 32 _ v), rows_few ia ib s table few table.place)
 
-  pub finish-few : (job : Job) (bodies : List RigidBody) {x : Turn (List BodyState) Fault}
+  pub finish-few : (job : Job) (bodies : List RigidBody) {x : Turn (List BodyState) CollisionError}
       → Does P s t (ran x m l) (finish_of job bodies (found_at ia ib s table)) → l ≤ 3 * LIMIT
   finish-few job bodies d = omega (arith, counted-most d.is (finish-most job bodies _), rows_few ia ib s table few ROWS)

@@ -8,7 +8,7 @@ use lib.ListN.{length, set}
 use lib.Ieee.{Float}
 use Rattle.arith.specs.Flow.{go, stop, tab, each}
 use Rattle.arith.specs.FlowLaws.{each_none, each_more, each-stop, each-end}
-use Rattle.rows.specs.Fault.{Fault, Result}
+use Rattle.rows.specs.Fault.{CollisionError, Result}
 use Rattle.rows.specs.View.{Out, Kept}
 use Rattle.rows.specs.Region.{tab-more, kept_refl, kept_set, kept_then, kept_more}
 use Rattle.solves.specs.Region.{vec_at, Does}
@@ -26,7 +26,7 @@ module _ {A : Type 0} (view : List Float → ℕ → A) (f : ℕ → Result A) (
         record { kept = kept_then (kept_more so.kept w) kept v; is = ap go (tab-more k same here) ∙ each_more f so.is e }
 
     -- f fails, and whatever was written meanwhile is outside of R
-    pub so-stop : {n m : ℕ} {Q : ℕ → Type 0} {t : List Float} {e : Fault} → n ≡ m → k < n → Kept Q s t → ((i : ℕ) → R i → Q i) → stop e ≡ f k
+    pub so-stop : {n m : ℕ} {Q : ℕ → Type 0} {t : List Float} {e : CollisionError} → n ≡ m → k < n → Kept Q s t → ((i : ℕ) → R i → Q i) → stop e ≡ f k
         → Does R s₀ t (stop e) (each m f)
     so-stop {n} {m} {Q} {t} {e} q h kept v g =
         record { kept = kept_then (kept_more so.kept w) kept v; is = each-stop f m (let l : k < m = omega arith in l) so.is g }

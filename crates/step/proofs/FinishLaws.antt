@@ -1,5 +1,5 @@
 -- The end of a run and the run as a whole, from the calls' contracts link by link; and what the run is to the caller.
-use Prim.Native.Nat.{ℕ, zero, suc, ◌+◌, ◌*◌, ◌-◌, ◌%◌, ◌≤◌, ◌<◌}
+use Prim.Native.Nat.{ℕ, ◌+◌, ◌*◌, ◌-◌, ◌%◌, ◌≤◌, ◌<◌}
 use mathlib.Core.Path.{◌≡◌, refl, sym, ◌∙◌, ap}
 use mathlib.Core.Bool.{Bool, true, false, cond}
 use mathlib.Core.List.{List, ◌++◌}
@@ -8,7 +8,7 @@ use lib.ListN.{length, drop, replicate, length-replicate, get_or-replicate}
 use lib.Seq.{ext_get_or}
 use lib.Ieee.{Float, nan}
 use Rattle.arith.specs.Real.{ratio}
-use Rattle.arith.specs.Flow.{go, stop, every}
+use Rattle.arith.specs.Flow.{Turn, go, stop, every}
 use Rattle.arith.specs.FlowLaws.{cond_yes, cond_no}
 use Rattle.arith.specs.Run.{ran, try, after, ◌>>=◌, up_to}
 use Rattle.arith.specs.RunLaws.{run_is, then-go, then-stop, try-go}
@@ -16,7 +16,7 @@ use Rattle.rows.specs.declared.body.RigidBody.{RigidBody}
 use Rattle.rows.specs.declared.body.BodyState.{BodyState}
 use Rattle.rows.specs.declared.body.MomentumBody.{MomentumBody}
 use Rattle.rows.specs.declared.geometry.Joint.{Joint}
-use Rattle.rows.specs.Fault.{Result, non_convergent}
+use Rattle.rows.specs.Fault.{Result, NonConvergent}
 use Rattle.rows.specs.View.{at, vec3_at, Out, Kept}
 use Rattle.rows.specs.Region.{tab-length, tab-at, kept_then, kept_more}
 use Rattle.rows.specs.declared.End.{End}
@@ -30,8 +30,8 @@ use Rattle.solves.specs.Answer.{ran_as, is_done, ended_as}
 use Rattle.solves.specs.DoesLaws.{ran-done, fails}
 use Rattle.solves.specs.View.{START_ROWS, ROWS, MASSES, rows_on, masses_at, system_on}
 use Rattle.solves.specs.ViewLaws.{kept-rows}
-use Rattle.step.specs.declared.Outcome.{Outcome}
-use Rattle.step.specs.declared.Outcome.TheVariants as Outcomes
+use Rattle.step.specs.declared.Refusal.{Refusal}
+use Rattle.step.specs.declared.Refusal.TheVariants as Refusals
 use Rattle.step.specs.declared.passes.Looped.{Looped}
 use Rattle.step.specs.declared.passes.Ran.{Ran}
 use Rattle.step.specs.Layout.{IMPULSES, CANDIDATE, STATES, SCRATCH, USED}
@@ -43,6 +43,7 @@ use Rattle.step.specs.BackLaws.{handed-back}
 use Rattle.step.specs.Bodies.{Job, Started, start_of, prepare_masses, states_of, state_in}
 use Rattle.step.specs.Step.{nonlinear_pass, nonlinear_loop, velocity_pass, velocity_loop, finish_of, run_of, Stepped, stepped, grounded, cleared, concluded}
 use Rattle.step.specs.RunView.{Ours, impulses_at, started_at, found_at, Sides, candidate_table, Trying, Correcting, left_as, looped_as}
+use Rattle.step.proofs.EveryLaws.{every-ext}
 use Rattle.step.proofs.PassLaws.{failed-as}
 use Rattle.step.proofs.NonlinearLaws.{from-none}
 
@@ -62,7 +63,7 @@ module _ (job : Job) (bodies : List RigidBody) {S : List Float} {IA IB : List �
 
   module _ (h : b ≡ true) {s₂ : List Float} (r₂ : Looped)
       (d₂ : Does Correcting s₁ s₂ (ran (ran_as r₂.end (candidates_at s₂ t.bodies)) 0 r₂.linear)
-      (up_to 3 non_convergent (velocity_pass job (system_on IA IB s₁ (candidate_table t))) (candidates_at s₁ t.bodies)))
+      (up_to 3 NonConvergent (velocity_pass job (system_on IA IB s₁ (candidate_table t))) (candidates_at s₁ t.bodies)))
       {c : Bool} (ec : c ≡ is_done r₂.end) where
     weighed : go (masses_at s₁ MASSES t.bodies) ≡ prepare_masses (candidates_at s t.bodies)
     weighed = sym (ran-done (masses_at s₁ MASSES t.bodies) r₁ (sym eb ∙ h)) ∙ d₁.is
@@ -131,7 +132,7 @@ module _ (job : Job) (bodies : List RigidBody) {joints : List Joint} {count : �
 
   module _ (h : b ≡ true) (apart : t.place + ROW_TABLE ≤ ROWS) (l : t.rows ≤ 96) (g : t.bodies ≤ 16) {s₂' s₂ : List Float}
       (f : Filled IMPULSES t.rows (λ _. ratio 0 1) s₁ s₂') (r₂ : Looped) (d₂' : Does Trying s₂' s₂ (looped_as r₂ (found_at ia ib s₂ t))
-      (up_to 32 non_convergent (nonlinear_pass job (started_at ia ib s₂' t)) (impulses_at s₂' t))) {c : Bool} (ec : c ≡ is_done r₂.end) where
+      (up_to 32 NonConvergent (nonlinear_pass job (started_at ia ib s₂' t)) (impulses_at s₂' t))) {c : Bool} (ec : c ≡ is_done r₂.end) where
     d₂ : Does Trying s₁ s₂ (looped_as r₂ (found_at ia ib s₂ t)) (nonlinear_loop job (started_at ia ib s₁ t))
     d₂ = from-none job ia ib t apart l g f d₂'
 
@@ -166,14 +167,6 @@ module _ (job : Job) (bodies : List RigidBody) {joints : List Joint} {count : �
     }
 
 -- ---- conclude
-every-ext : (n : ℕ) {f g : ℕ → Bool} → ((k : ℕ) → k < n → f k ≡ g k) → every n f ≡ every n g
-unfolding every
-every-ext zero h = refl
-every-ext (suc n) {f} {g} h =
-    let a : every n f ≡ every n g = every-ext n (λ k l. h k (omega arith)) in
-    let b : f n ≡ g n = h n (omega arith) in
-    cc
-
 module _ (body-count : ℕ) (s bodies : List Float) where
   abbrev states : List BodyState
   states = states_at s body-count
@@ -181,7 +174,7 @@ module _ (body-count : ℕ) (s bodies : List Float) where
   ground-is : every body-count (λ k. within_of (vec3_at s (CANDIDATE + 13 * k)) (ratio 8192 1)) ≡ grounded states
   unfolding grounded
   ground-is =
-      every-ext body-count
+      every-ext (λ k. within_of (vec3_at s (CANDIDATE + 13 * k)) (ratio 8192 1)) (λ k. within_of (state_in states k).origin (ratio 8192 1)) body-count
       (λ k h. ap (λ (x : BodyState). within_of x.origin (ratio 8192 1)) (sym (tab-at body-count (λ j. state_at s (CANDIDATE + 13 * j)) no_state k h)))
       ∙ ap (λ (m : ℕ). every m (λ k. within_of (state_in states k).origin (ratio 8192 1))) (sym (tab-length body-count (λ j. state_at s (CANDIDATE + 13 * j))))
 
@@ -192,19 +185,14 @@ module _ (body-count : ℕ) (s bodies : List Float) where
     done = ap (λ (x : End). concluded bodies scratch (ran (ran_as x states) nonlinear linear)) (sym q)
 
     pub conclude-accepts : b ≡ true → body-count ≡ count_of_bodies bodies → length bodies % 26 ≡ 0 → {after : List Float} → Handed body-count s bodies after
-        → stepped Outcomes.Accepted nonlinear linear after scratch ≡ concluded bodies scratch (ran (ran_as end states) nonlinear linear)
+        → stepped (go tt) nonlinear linear after scratch ≡ concluded bodies scratch (ran (ran_as end states) nonlinear linear)
     conclude-accepts t c w h =
-        ap (λ (a : List Float). stepped Outcomes.Accepted nonlinear linear a scratch) (handed-back body-count s c w h)
+        ap (λ (a : List Float). stepped (go tt) nonlinear linear a scratch) (handed-back body-count s c w h)
         ∙ cond_yes {b = grounded states} _ _ (sym (sym t ∙ e ∙ ground-is)) ∙ done
 
     pub conclude-grounds : b ≡ false
-        → stepped Outcomes.Ground nonlinear linear bodies scratch ≡ concluded bodies scratch (ran (ran_as end states) nonlinear linear)
+        → stepped (stop Refusals.Ground) nonlinear linear bodies scratch ≡ concluded bodies scratch (ran (ran_as end states) nonlinear linear)
     conclude-grounds t = cond_no {b = grounded states} _ _ (sym (sym t ∙ e ∙ ground-is)) ∙ done
-
--- in the case that it failed
-pub conclude-fails : (bodies scratch : List Float) (states : List BodyState) {end q : End} → end ≡ q → (nonlinear linear : ℕ)
-    → concluded bodies scratch (ran (ran_as q states) nonlinear linear) ≡ concluded bodies scratch (ran (ran_as end states) nonlinear linear)
-conclude-fails bodies scratch states e nonlinear linear = ap (λ (x : End). concluded bodies scratch (ran (ran_as x states) nonlinear linear)) (sym e)
 
 -- the scratch of a run, cleared
 pub all-zero : {s t : List Float} → length s ≡ SCRATCH → Filled 0 SCRATCH (λ _. ratio 0 1) s t → t ≡ replicate SCRATCH (ratio 0 1)
@@ -217,7 +205,7 @@ all-zero {s} {t} e f =
 
 -- ---- solve_in
 pub solved-in : (bodies : List Float) {run : Counting (List BodyState)} {P : ℕ → Type 0} {s t u : List Float} (r : Ran) (states : List BodyState)
-    → Does P s t (left_as r states) run → {outcome : Outcome} {after : List Float}
+    → Does P s t (left_as r states) run → {outcome : Turn (Unit {0}) Refusal} {after : List Float}
     →
     ((nonlinear linear : ℕ) (scratch : List Float) → stepped outcome nonlinear linear after scratch ≡ concluded bodies scratch
     (ran (ran_as r.end states) nonlinear linear))
@@ -228,7 +216,8 @@ solved-in bodies {run} r _ d {outcome} {after} e z =
     ∙ ap (concluded bodies (replicate SCRATCH (ratio 0 1))) d.is
 
 -- the step's scratch is the run's, with what stands behind it
-pub solved-scratch : (bodies scratch : List Float) (run : Counting (List BodyState)) {outcome : Outcome} {nonlinear linear : ℕ} {after work : List Float}
+pub solved-scratch : (bodies scratch : List Float) (run : Counting (List BodyState)) {outcome : Turn (Unit {0}) Refusal} {nonlinear linear : ℕ}
+    {after work : List Float}
     → stepped outcome nonlinear linear after work ≡ concluded bodies (replicate SCRATCH (ratio 0 1)) run
     → stepped outcome nonlinear linear after (work ++ drop SCRATCH scratch) ≡ concluded bodies (cleared scratch) run
 unfolding cleared

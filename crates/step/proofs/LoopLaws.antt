@@ -6,7 +6,7 @@ use mathlib.Core.List.{List}
 use native.Mathlib.Omega.{arith}
 use lib.ListN.{length}
 use lib.Ieee.{Float}
-use Rattle.arith.specs.Flow.{go, ◌>>=◌, tab}
+use Rattle.arith.specs.Flow.{go, and_then, ◌>>=◌, tab}
 use Rattle.rows.specs.declared.body.MomentumBody.{MomentumBody}
 use Rattle.rows.specs.declared.geometry.EqualityRow.{EqualityRow}
 use Rattle.rows.specs.Fault.{Result}
@@ -34,7 +34,7 @@ use Rattle.step.specs.RunView.{Ours, impulses_at, started_at, found_at, Trying}
 
 -- what a call left goes into a record, or its fault goes on
 ran_then : {A B : Type 0} (r : End) (x : A) (f : A → B) → ran_as r (f x) ≡ (ran_as r x >>= λ y. go (f y))
-unfolding ◌>>=◌
+unfolding and_then
 ran_then Ends.Done x f = refl
 ran_then Ends.NonConvergent x f = refl
 ran_then Ends.ArithmeticOverflow x f = refl

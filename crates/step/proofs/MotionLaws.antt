@@ -4,13 +4,14 @@ use lib.Ieee.{Float}
 use Rattle.arith.specs.Flow.{go}
 use Rattle.vectors.specs.declared.vector.Vec3.{Vec3}
 use Rattle.vectors.specs.declared.matrix.Mat3.{Mat3}
-use Rattle.vectors.specs.Matrix.{inverse_spd_of}
+use Rattle.vectors.specs.Matrix.{inverse_spd_of, zero_mat}
 use Rattle.rows.specs.declared.body.RigidBody.{RigidBody}
 use Rattle.rows.specs.declared.body.MomentumBody.{MomentumBody}
 use Rattle.rows.specs.Body.{new_of, kick_of, drift_of}
 use Rattle.rows.specs.Laws.Results.{step, go_same}
 use Rattle.solves.specs.declared.places.Generalized.{Generalized}
 use Rattle.step.specs.View.{cols_of, held_of, moved_to}
+use Rattle.std.specs.Result.{result_unwrap_or}
 use Rattle.step.specs.ViewLaws.{held-cols, inverse-cols, moved-is}
 use Rattle.step.specs.Bodies.{kick_and_drift}
 
@@ -52,12 +53,12 @@ drift-moved start kick dt {b} h =
     moved start r.0 b (kick-mass start kick.linear kick.angular r.0 r.1) (drift-mass r.0 dt b r.2)
 
 -- a body that begins holds its inverse by columns
-pub new-held : (body : RigidBody) (m : Mat3) {b : MomentumBody} → go b ≡ new_of body (inverse_spd_of m).inverse → held_of b ≡ b
+pub new-held : (body : RigidBody) (m : Mat3) {b : MomentumBody} → go b ≡ new_of body (result_unwrap_or (inverse_spd_of m) zero_mat) → held_of b ≡ b
 unfolding new_of
 new-held body m {b} h =
     let r₁ = step _ _ b (sym h) in
     let r₂ = step _ _ b r₁.2 in
     let r₃ = step _ _ b r₂.2 in
     let r₄ = step _ _ b r₃.2 in
-    let e : (inverse_spd_of m).inverse ≡ b.inverse_inertia = ap (λ (x : MomentumBody). x.inverse_inertia) (go_same _ b r₄.2) in
+    let e : result_unwrap_or (inverse_spd_of m) zero_mat ≡ b.inverse_inertia = ap (λ (x : MomentumBody). x.inverse_inertia) (go_same _ b r₄.2) in
     held-cols b (subst (λ (x : Mat3). cols_of x ≡ x) e (inverse-cols m))

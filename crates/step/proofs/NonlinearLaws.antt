@@ -10,7 +10,7 @@ use Rattle.arith.specs.Real.{ratio}
 use Rattle.arith.specs.Flow.{Turn, go, stop, tab}
 use Rattle.arith.specs.Run.{ran, up_to}
 use Rattle.arith.specs.RunLaws.{over}
-use Rattle.rows.specs.Fault.{non_convergent, Result}
+use Rattle.rows.specs.Fault.{NonConvergent, Result}
 use Rattle.rows.specs.View.{Kept}
 use Rattle.rows.specs.Region.{tab-length, is-tab, kept_then, kept_more}
 use Rattle.rows.specs.declared.End.{End}
@@ -75,12 +75,12 @@ zeros n x = sym (is-tab n (λ _. x) nan (replicate n x) (length-replicate n x) (
 
 pub from-none : (job : Job) (ia ib : List ℕ) (table : Table) → table.place + ROW_TABLE ≤ ROWS → table.rows ≤ 96 → table.bodies ≤ 16
     → {s s₁ u : List Float} {x : Counting Found} → Filled IMPULSES table.rows (λ _. ratio 0 1) s s₁
-    → Does Trying s₁ u x (up_to 32 non_convergent (nonlinear_pass job (started_at ia ib s₁ table)) (impulses_at s₁ table))
+    → Does Trying s₁ u x (up_to 32 NonConvergent (nonlinear_pass job (started_at ia ib s₁ table)) (impulses_at s₁ table))
     → Does Trying s u x (nonlinear_loop job (started_at ia ib s table))
 unfolding nonlinear_loop
 from-none job ia ib table apart l g {s} {s₁} f d = record {
   kept = kept_then filled d.kept (λ i x. x);
-  is = d.is ∙ λ j. up_to 32 non_convergent (nonlinear_pass job (kept-started filled ia ib table apart l g (λ i x. x) j)) (none j);
+  is = d.is ∙ λ j. up_to 32 NonConvergent (nonlinear_pass job (kept-started filled ia ib table apart l g (λ i x. x) j)) (none j);
 }
   where
     filled : Kept Trying s s₁

@@ -11,7 +11,7 @@ use Rattle.arith.specs.Run.{ran, after, try, begin, again, leave_if, ◌>>=◌}
 use Rattle.arith.specs.RunLaws.{run_is, then-go, then-stop, try-go, try-stop, leave-yes, leave-no, over}
 use Rattle.arith.specs.RunLaws.{Reached, reached-none, reached-again, reached-over, reached-spent}
 use Rattle.rows.specs.declared.geometry.Joint.{Joint}
-use Rattle.rows.specs.Fault.{non_convergent, Result}
+use Rattle.rows.specs.Fault.{NonConvergent, Result}
 use Rattle.rows.specs.View.{Kept}
 use Rattle.rows.specs.Region.{kept_refl, kept_then}
 use Rattle.rows.specs.declared.End.{End}
@@ -166,7 +166,7 @@ one_more Stages.Velocity k = refl
 -- ---- the loop of both stages: each turn takes one pass over what stands in the scratch, and leaves its frame
 module _ (stage : Stage) (job : Job) (ia ib : List ℕ) (table : Table) (most : ℕ) (s₀ : List Float) where
   abbrev Reaches : ℕ → List Float → ℕ → ℕ → Type 0
-  Reaches k s n l = Reached most non_convergent (pass_at stage job ia ib table s₀) (given_at stage s₀ table) k (given_at stage s table) n l
+  Reaches k s n l = Reached most NonConvergent (pass_at stage job ia ib table s₀) (given_at stage s₀ table) k (given_at stage s table) n l
 
   -- what stands before turn k, after l linear passes
   pub record Looping (s : List Float) (k l : ℕ) : Type 0 where
@@ -176,14 +176,14 @@ module _ (stage : Stage) (job : Job) (ia ib : List ℕ) (table : Table) (most : 
   pub loop-none : Looping s₀ 0 0
   loop-none = record {
     kept = kept_refl (Outside stage) s₀;
-    reached = subst (λ (n : ℕ). Reaches 0 s₀ n 0) (none-begun stage) (reached-none most non_convergent (pass_at stage job ia ib table s₀) _);
+    reached = subst (λ (n : ℕ). Reaches 0 s₀ n 0) (none-begun stage) (reached-none most NonConvergent (pass_at stage job ia ib table s₀) _);
   }
 
   pub loop-spent : {s : List Float} {k l : ℕ} → Looping s k l → most ≡ k → {r : Looped} → r ≡ record { end = Ends.NonConvergent; passes = most; linear = l }
       → Loops stage ia ib table s₀ s job most r
   loop-spent {s} inv e f = subst (Loops stage ia ib table s₀ s job most) (sym f) (record {
     kept = inv.kept;
-    is = run_is (ap (nonlinear_of stage) e) refl ∙ reached-spent most non_convergent _ _ inv.reached (omega arith);
+    is = run_is (ap (nonlinear_of stage) e) refl ∙ reached-spent most NonConvergent _ _ inv.reached (omega arith);
   })
 
 module _ (stage : Stage) (job : Job) (joints : List Joint) (count : ℕ) {S : List Float} {IA IB : List ℕ} {table : Table} (pre : Ours S IA IB table)
@@ -203,12 +203,12 @@ module _ (stage : Stage) (job : Job) (joints : List Joint) (count : ℕ) {S : Li
   loop-again e = record {
     kept = keeps;
     reached = subst (λ (n : ℕ). Reaches stage job IA IB table most s₀ (k + 1) t n (l + r.linear)) (one_more stage k)
-        (reached-again most non_convergent _ _ inv.reached h (case e));
+        (reached-again most NonConvergent _ _ inv.reached h (case e));
   }
 
   pub loop-over : {end : End} → r.pass ≡ Pass.Over end → {a : Looped} → a ≡ record { end = end; passes = k + 1; linear = l + r.linear }
       → Loops stage IA IB table s₀ t job most a
   loop-over {end} e f = subst (Loops stage IA IB table s₀ t job most) (sym f) (record {
     kept = keeps;
-    is = run_is (sym (one_more stage k)) refl ∙ reached-over most non_convergent _ _ inv.reached h (ran_as end _) (case e);
+    is = run_is (sym (one_more stage k)) refl ∙ reached-over most NonConvergent _ _ inv.reached h (ran_as end _) (case e);
   })

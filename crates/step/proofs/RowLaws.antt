@@ -7,13 +7,13 @@ use native.Mathlib.Omega.{arith}
 use native.Mathlib.Decide.{ℕ_discrete}
 use lib.ListN.{get_or}
 use lib.Ieee.{Float}
+use Rattle.std.specs.Prelude.{Ok, Err}
 use Rattle.arith.specs.Flow.{go, stop, ◌>>=◌, turns, loop, tab}
 use Rattle.arith.specs.FlowLaws.{turns-none, turns_more, then-go, then-stop, loop-none, loop-more, loop-stop, loop-end}
 use Rattle.rows.specs.declared.body.MomentumBody.{MomentumBody}
 use Rattle.rows.specs.declared.geometry.Joint.{Joint}
 use Rattle.rows.specs.declared.geometry.EqualityRow.{EqualityRow}
-use Rattle.rows.specs.declared.geometry.Written.{Written}
-use Rattle.rows.specs.Fault.{Fault, non_convergent, arithmetic_overflow, Result}
+use Rattle.rows.specs.Fault.{CollisionError, Result}
 use Rattle.rows.specs.Geometry.{write_equality_rows}
 use Rattle.rows.specs.Count.{row_count}
 use Rattle.rows.specs.View.{row_at, Out, Kept}
@@ -97,8 +97,8 @@ tab-append n (suc m) f =
     assoc (x ∷ xs) ys zs = ap (λ us. x ∷ us) (assoc xs ys zs)
 
 -- ---- write_rows
-pub wrote-rows : (joints : List Joint) (k n : ℕ) → n ≡ rows_before joints k → {a b : MomentumBody} {i : ℕ} {s t : List Float} {r : Written}
-    → Writes (joint_in joints k) a b i s t r → (m : ℕ) → r ≡ Written.Rows m → n + m ≡ rows_before joints (k + 1)
+pub wrote-rows : (joints : List Joint) (k n : ℕ) → n ≡ rows_before joints k → {a b : MomentumBody} {i : ℕ} {s t : List Float} {r : Result ℕ}
+    → Writes (joint_in joints k) a b i s t r → (m : ℕ) → r ≡ Ok m → n + m ≡ rows_before joints (k + 1)
 wrote-rows joints k n p w m q = before_more joints k n p (w.count m q)
 
 module _ (joints : List Joint) (count : ℕ) (moved : Bool) (place : ℕ) (s₀ : List Float) (body-count : ℕ) (J : Joined joints count body-count) (ia ib : List ℕ)
@@ -116,7 +116,7 @@ module _ (joints : List Joint) (count : ℕ) (moved : Bool) (place : ℕ) (s₀ 
   module _ (k n : ℕ) (s : List Float) (so : Wrote k n s) (h : k < count) (g : n ≤ 90) (l : place ≤ ROWS) (p : n ≡ rows_before joints k) {a b : MomentumBody}
       (ea : a ≡ cond moved (candidate_at s (joint_in joints k).body_a) (start_body_at s (joint_in joints k).body_a))
       (eb : b ≡ cond moved (candidate_at s (joint_in joints k).body_b) (start_body_at s (joint_in joints k).body_b))
-      {t : List Float} (r : Written) (w : Writes (joint_in joints k) a b (place + 14 * n) s t r) where
+      {t : List Float} (r : Result ℕ) (w : Writes (joint_in joints k) a b (place + 14 * n) s t r) where
     rows_are : written_as r t (place + 14 * n) (joint_in joints k).body_a (joint_in joints k).body_b ≡ joint_rows joints (bodies_at moved s₀ body-count) k
     rows_are =
         w.is
@@ -125,14 +125,14 @@ module _ (joints : List Joint) (count : ℕ) (moved : Bool) (place : ℕ) (s₀ 
         ∙ ap (write_equality_rows (joint_in joints k) _)
         (body-in so.kept (λ i x y. omega arith) (λ i x y. omega arith) moved body-count _ (J.b_there k h) J.small eb)
 
-    case : {x : Written} → r ≡ x
+    case : {x : Result ℕ} → r ≡ x
         → written_as x t (place + 14 * n) (joint_in joints k).body_a (joint_in joints k).body_b ≡ joint_rows joints (bodies_at moved s₀ body-count) k
-    case q = sym (ap (λ (y : Written). written_as y t (place + 14 * n) (joint_in joints k).body_a (joint_in joints k).body_b) q) ∙ rows_are
+    case q = sym (ap (λ (y : Result ℕ). written_as y t (place + 14 * n) (joint_in joints k).body_a (joint_in joints k).body_b) q) ∙ rows_are
 
     kept : Kept (Out place ROW_TABLE) s₀ t
     kept = kept_then so.kept w.kept (λ i x. omega arith)
 
-    pub wrote-again : {m : ℕ} → r ≡ Written.Rows m → Wrote (k + 1) (n + m) t
+    pub wrote-again : {m : ℕ} → r ≡ Ok m → Wrote (k + 1) (n + m) t
     wrote-again {m} q = record {
       kept = kept;
       is =
@@ -156,18 +156,14 @@ module _ (joints : List Joint) (count : ℕ) (moved : Bool) (place : ℕ) (s₀ 
             let y : get_or ib (n + i) 0 ≡ (joint_in joints k).body_b = ap (λ (z : ℕ). get_or ib (z + i) 0) p ∙ S.b-is k i h (omega arith) in
             λ j. row_at t (there i j) (x j) (y j)
 
-    stops : {f : Fault} → stop f ≡ joint_rows joints (bodies_at moved s₀ body-count) k
+    stops : {f : CollisionError} → stop f ≡ joint_rows joints (bodies_at moved s₀ body-count) k
         → Does (Out place ROW_TABLE) s₀ t (stop f) (write_rows joints count (bodies_at moved s₀ body-count))
     unfolding write_rows
     stops e = record { kept = kept; is = loop-stop writing [] count h so.is (then-stop (λ local. go (rows_on ia ib s place n ++ local)) e) }
 
-    pub wrote-nonconvergent : r ≡ Written.NonConvergent
-        → Does (Out place ROW_TABLE) s₀ t (stop non_convergent) (write_rows joints count (bodies_at moved s₀ body-count))
-    wrote-nonconvergent q = stops (case q)
-
-    pub wrote-overflow : r ≡ Written.ArithmeticOverflow
-        → Does (Out place ROW_TABLE) s₀ t (stop arithmetic_overflow) (write_rows joints count (bodies_at moved s₀ body-count))
-    wrote-overflow q = stops (case q)
+    pub wrote-stops : {f : CollisionError} → r ≡ Err f
+        → Does (Out place ROW_TABLE) s₀ t (stop f) (write_rows joints count (bodies_at moved s₀ body-count))
+    wrote-stops q = stops (case q)
 
   pub wrote-ends : (k n : ℕ) (s : List Float) → Wrote k n s → n ≡ rows_before joints k → k ≤ count → count ≤ k
       → Does (Out place ROW_TABLE) s₀ s (go (rows_on ia ib s place (rows_before joints count))) (write_rows joints count (bodies_at moved s₀ body-count))

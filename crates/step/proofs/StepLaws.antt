@@ -1,16 +1,16 @@
 -- What the loops of a run keep: lengths, the bodies of rows, how many rows a joint has.
-use Prim.Native.Nat.{ℕ, ◌+◌, ◌-◌, ◌≤◌, ◌<◌}
-use mathlib.Core.Path.{◌≡◌, sym, ◌∙◌, subst}
+use Prim.Native.Nat.{ℕ, ◌+◌, ◌≤◌, ◌<◌}
+use mathlib.Core.Path.{◌≡◌, sym, subst}
 use mathlib.Core.List.{List}
 use native.Mathlib.Omega.{arith}
-use native.Mathlib.Decide.{ℕ_discrete, dec_le}
-use lib.ListN.{length, get_or, set, take, length-take}
-use lib.Seq.{get_or-set_same, get_or-set_other}
+use native.Mathlib.Decide.{dec_le}
+use lib.ListN.{length, get_or, take, length-take}
 use lib.Ieee.{Float}
 use Rattle.rows.specs.declared.body.MomentumBody.{MomentumBody}
 use Rattle.rows.specs.declared.geometry.Joint.{Joint}
 use Rattle.rows.specs.declared.geometry.Kind.{Kind}
-use Rattle.rows.specs.declared.geometry.Written.{Written}
+use Rattle.std.specs.Prelude.{Ok}
+use Rattle.rows.specs.Fault.{Result}
 use Rattle.rows.specs.Answer.{Writes}
 use Rattle.rows.specs.Region.{count_most}
 use Rattle.rows.specs.Count.{row_count}
@@ -22,31 +22,9 @@ use Rattle.step.specs.Joined.{Joined, RowBodies, Spread}
 pub kind-most : (kind : Kind) {m : ℕ} → m ≡ row_count kind → m ≤ 6
 kind-most kind e = omega (arith, count_most kind)
 
-pub written-most : {joint : Joint} {a b : MomentumBody} {i : ℕ} {s t : List Float} {r : Written} → Writes joint a b i s t r → (n : ℕ)
-    → r ≡ Written.Rows n → n ≤ 6
+pub written-most : {joint : Joint} {a b : MomentumBody} {i : ℕ} {s t : List Float} {r : Result ℕ} → Writes joint a b i s t r → (n : ℕ)
+    → r ≡ Ok n → n ≤ 6
 written-most {joint} w n e = omega (arith, w.count n e, count_most joint.kind)
-
-pub joined-sixteen : {joints : List Joint} {count body-count : ℕ} → Joined joints count body-count → Joined joints count 16
-joined-sixteen {joints} {count} {body-count} pre =
-    record { few = pre.few; small = omega arith; a-there = λ k h. low (pre.a-there k h); b_there = λ k h. low (pre.b_there k h) }
-  where
-    low : {x : ℕ} → x < body-count → x < 16
-    low h = omega (arith, pre.small)
-
-pub spread-more : {from k body : ℕ} {s t : List ℕ} → from ≤ k → k < length t → Spread from (k - from) body s t
-    → Spread from (k + 1 - from) body s (set t k body)
-spread-more {from} {k} {body} {s} {t} f h p = record {
-  before = λ j l. get_or-set_other t k j body 0 (λ e. omega arith) ∙ p.before j l;
-  here = λ j l g. case j l g (ℕ_discrete j k);
-}
-  where
-    case : (j : ℕ) → from ≤ j → j < from + (k + 1 - from) → Dec (j ≡ k) → get_or (set t k body) j 0 ≡ body
-    case j l g (yes e) = subst (λ (x : ℕ). get_or (set t k body) x 0 ≡ body) (sym e) (get_or-set_same t k body 0 h)
-    case j l g (no q) = get_or-set_other t k j body 0 q ∙ p.here j l (omega arith)
-
-pub spread_end : {from n k body : ℕ} {s t : List ℕ} → from ≤ k → k ≤ from + n → from + n ≤ k → Spread from (k - from) body s t
-    → Spread from n body s t
-spread_end {from} {n} {k} {body} {s} {t} f a b p = record { before = p.before; here = λ j l g. p.here j l (omega arith) }
 
 -- all bodies of the rows so far are below body-count
 pub spread-less : {from n body body-count : ℕ} {s t : List ℕ} → Spread from n body s t → ((j : ℕ) → j < from → get_or s j 0 < body-count) → body < body-count

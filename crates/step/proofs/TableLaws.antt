@@ -1,33 +1,28 @@
 -- The functions of integrator.rt that fill one table of the scratch each: bodies, masses, rows, impulses, states.
 use Prim.Native.Nat.{ℕ, ◌+◌, ◌*◌, ◌≤◌, ◌<◌}
 use mathlib.Core.Path.{◌≡◌, refl, sym, ◌∙◌, ap, subst}
-use mathlib.Core.Bool.{Bool, true, false, cond, not, ◌&&◌}
+use mathlib.Core.Bool.{Bool, true, false, cond}
 use mathlib.Core.List.{List}
 use native.Mathlib.Omega.{arith}
 use lib.ListN.{length, set}
 use lib.Ieee as Ieee
 use lib.Ieee.{Float}
-use Rattle.arith.specs.Real.{◌⊕◌, ◌⊘◌, ratio, is_finite, abs_of}
-use Rattle.arith.specs.Flow.{Turn, go, stop, tab, each, every}
-use Rattle.arith.specs.FlowLaws.{each_more, then-go, then-stop, cond_yes, cond_no, every-fail, every-end, not_yes, not-no}
+use Rattle.arith.specs.Real.{◌⊕◌, ◌⊘◌, is_finite, abs_of}
+use Rattle.arith.specs.Flow.{go, stop, tab, each, every}
+use Rattle.arith.specs.FlowLaws.{each_more}
 use Rattle.vectors.specs.declared.vector.Vec3.{Vec3}
 use Rattle.vectors.specs.declared.matrix.Mat3.{Mat3}
-use Rattle.vectors.specs.declared.matrix.Inverted.{Inverted}
-use Rattle.vectors.specs.declared.quaternion.OptionMat3.{OptionMat3}
-use Rattle.vectors.specs.Quaternion.{to_mat3_of}
-use Rattle.vectors.specs.Matrix.{column_of, finite_mat, mat_product_of, transpose_of, inverse_spd_of}
+use Rattle.std.specs.Result.{result_unwrap_or}
+use Rattle.vectors.specs.Matrix.{column_of, mat_product_of, inverse_spd_of, zero_mat}
 use Rattle.rows.specs.declared.body.RigidBody.{RigidBody}
 use Rattle.rows.specs.declared.body.BodyState.{BodyState}
-use Rattle.rows.specs.declared.body.BodyAnswer.{BodyAnswer}
 use Rattle.rows.specs.declared.body.MomentumBody.{MomentumBody}
 use Rattle.rows.specs.declared.geometry.EqualityRow.{EqualityRow}
-use Rattle.rows.specs.Fault.{Fault, arithmetic_overflow, Result}
-use Rattle.rows.specs.Body.{new_of, kick_of, drift_of, state_with, state_of}
-use Rattle.rows.specs.AnswerLaws.{answered, fails, end_goes, end-stops}
+use Rattle.rows.specs.Fault.{CollisionError, ArithmeticOverflow, Result}
+use Rattle.rows.specs.Body.{new_of, state_with, state_of}
 use Rattle.rows.specs.View.{at, Out, Kept}
-use Rattle.rows.specs.Answer.{is_done, body_as, BodyAnswered}
 use Rattle.rows.specs.Region.{tab-length, tab-ext, tab-at, kept_refl, kept_set, kept_then, kept_more}
-use Rattle.rows.specs.Laws.Results.{go_same}
+use Rattle.rows.specs.Laws.Results.{go_same, step}
 use Rattle.solves.specs.declared.places.Generalized.{Generalized}
 use Rattle.solves.specs.declared.places.MassResponse.{MassResponse}
 use Rattle.solves.specs.Region.{vec_at, Filled, Does}
@@ -37,23 +32,27 @@ use Rattle.solves.specs.DoesLaws.{number-yes, number-no}
 use Rattle.solves.specs.Layout.{MASS_TABLE}
 use Rattle.solves.specs.View.{ROWS, MASSES, RHS, SOLUTION, GENERALIZED, row_on, rows_on, generalized_at, generalizeds_at, mass_of, mass_at, masses_at, Beside}
 use Rattle.solves.specs.View.{no_row}
+use Rattle.step.proofs.EveryLaws.{every-ext}
 use Rattle.step.specs.Layout.{IMPULSES, START, CANDIDATE, BODIES, STATES}
 use Rattle.solves.specs.ViewLaws.{share_in, masses-more}
-use Rattle.step.specs.declared.integrator.MassAnswer.{MassAnswer}
 use Rattle.step.specs.Records.{record_at, records_of, count_of_bodies}
 use Rattle.step.specs.View.{cols_of, start_body_at, candidate_at, start_bodies_at, candidates_at, states_at, held_of, moved_to, state_at, no_record}
 use Rattle.step.specs.ViewLaws.{kept-start, kept-candidate, kept-state}
 use Rattle.step.specs.Bodies.{body_in, record_in, start_bodies, mass_response, prepare_masses, kick_and_drift, move_bodies, rows_met, rhs_of, add_impulses}
 use Rattle.step.specs.Bodies.{states_of}
-use Rattle.step.specs.RunView.{bodies_at, mass_as}
+use Rattle.step.specs.RunView.{bodies_at}
 use Rattle.step.proofs.FrameLaws.{candidate-in, start-in, body-in}
 use Rattle.step.proofs.EachLaws.{so-none, so-more, so-put, so-stop, so-end}
 use Rattle.step.proofs.MotionLaws.{drift-moved, new-held}
 
 -- ---- start_bodies
+-- a record's inverse inertia, and zeros where there is none
+abbrev inverse_of : RigidBody → Mat3
+inverse_of b = result_unwrap_or (inverse_spd_of b.inertia) zero_mat
+
 module _ (bodies : List Float) (body-count : ℕ) (s₀ : List Float) where
   abbrev begin : ℕ → Result MomentumBody
-  begin k = new_of (record_in (tab body-count (record_at bodies)) k) (inverse_spd_of (record_in (tab body-count (record_at bodies)) k).inertia).inverse
+  begin k = new_of (record_in (tab body-count (record_at bodies)) k) (inverse_of (record_in (tab body-count (record_at bodies)) k))
 
   abbrev pub Begun : ℕ → List Float → Type 0
   Begun k s = Does (λ i. Out START (26 * k) i) s₀ s (go (start_bodies_at s k)) (each k begin)
@@ -61,12 +60,12 @@ module _ (bodies : List Float) (body-count : ℕ) (s₀ : List Float) where
   pub begin-none : Begun 0 s₀
   begin-none = so-none start_body_at begin s₀
 
-  module _ {k : ℕ} {s : List Float} (so : Begun k s) (h : k < body-count) (l : body-count ≤ 16) {body : RigidBody} {inverted : Inverted}
-      {d : Result MomentumBody} (eb : body ≡ record_at bodies k) (ei : inverted ≡ inverse_spd_of body.inertia) (e : d ≡ new_of body inverted.inverse) where
+  module _ {k : ℕ} {s : List Float} (so : Begun k s) (h : k < body-count) (l : body-count ≤ 16) {body : RigidBody} {inverse : Mat3}
+      {d : Result MomentumBody} (eb : body ≡ record_at bodies k) (ei : inverse ≡ inverse_of body) (e : d ≡ new_of body inverse) where
     begin-turn : d ≡ begin k
     begin-turn =
         let r : body ≡ record_in (tab body-count (record_at bodies)) k = eb ∙ sym (tab-at body-count (record_at bodies) no_record k h) in
-        e ∙ ap (λ (i : Inverted). new_of body i.inverse) ei ∙ ap (λ (b : RigidBody). new_of b (inverse_spd_of b.inertia).inverse) r
+        e ∙ ap (new_of body) ei ∙ ap (λ (b : RigidBody). new_of b (inverse_of b)) r
 
     pub begin-again : {t : List Float} {b : MomentumBody} → go b ≡ d → (Kept (λ j. Out (START + 26 * k) 26 j) s t) × (start_body_at t k ≡ held_of b)
         → Begun (k + 1) t
@@ -74,7 +73,7 @@ module _ (bodies : List Float) (body-count : ℕ) (s₀ : List Float) where
         so-more start_body_at begin s₀ k s so (λ i. Out START (26 * (k + 1)) i) (λ i x. omega arith) st.0 (λ i x. omega arith)
         (λ i g. kept-start st.0 i (λ j a c. omega arith)) (st.1 ∙ new-held _ _ (q ∙ begin-turn)) (q ∙ begin-turn)
 
-    pub begin-stops : {f : Fault} → stop f ≡ d → Does (Out START BODIES) s₀ s (stop f) (start_bodies (tab body-count (record_at bodies)))
+    pub begin-stops : {f : CollisionError} → stop f ≡ d → Does (Out START BODIES) s₀ s (stop f) (start_bodies (tab body-count (record_at bodies)))
     unfolding start_bodies
     begin-stops q =
         so-stop start_body_at begin s₀ k s so (Out START BODIES) (λ i x. omega arith) (sym (tab-length body-count (record_at bodies))) h
@@ -91,47 +90,28 @@ bodies-length true s body-count = sym (tab-length body-count (candidate_at s))
 bodies-length false s body-count = sym (tab-length body-count (start_body_at s))
 
 -- ---- prepare_mass
-no-go : {A E : Type 0} {a : A} {e : E} → ◌≡◌ {A = Turn A E} (go a) (stop e) → ⊥
-no-go h = let z : ◌≡◌ {A = ℕ} 0 1 = ap (λ r. came r) h in omega arith
-  where
-    came : {A E : Type 0} → Turn A E → ℕ
-    came (go a) = 0
-    came (stop e) = 1
-
 mass-cols : (body : MomentumBody) (m : MassResponse) → go m ≡ mass_response body → cols_of m.angular ≡ m.angular
 unfolding mass_response mat_product_of
 mass-cols body m h =
-    let rotation : OptionMat3 = to_mat3_of body.rotation in
-    let angular : Mat3 = mat_product_of (mat_product_of rotation.matrix body.inverse_inertia) (transpose_of rotation.matrix) in
-    walk (rotation.some && finite_mat angular && is_finite (ratio 1 1 ⊘ body.mass)) (record {
-      linear =
-          ratio 1 1 ⊘ body.mass;
-      angular = angular;
-    }) refl h
-  where
-    walk : (b : Bool) (r : MassResponse) → cols_of r.angular ≡ r.angular → go m ≡ cond b (go r) (stop arithmetic_overflow)
-        → cols_of m.angular ≡ m.angular
-    walk true r e q = subst (λ (x : MassResponse). cols_of x.angular ≡ x.angular) (sym (go_same _ _ q)) e
-    walk false r e q = absurd (no-go q)
+    let rotation = step _ _ m (sym h) in
+    let finite = step _ _ m rotation.2 in
+    subst (λ (x : MassResponse). cols_of x.angular ≡ x.angular) (go_same _ _ finite.2) refl
 
-module _ (body : MomentumBody) (k : ℕ) {s : List Float} (r : MassAnswer) (e : mass_as r ≡ mass_response body) where
-  pub weigh-over : not r.some ≡ true → (P : ℕ → Type 0) → Does P s s (stop arithmetic_overflow) (mass_response body)
-  weigh-over h P = record { kept = kept_refl P s; is = cond_no {b = r.some} (go r.mass) (stop arithmetic_overflow) (not_yes r.some h) ∙ e }
+module _ (body : MomentumBody) (k : ℕ) {s : List Float} where
+  pub weigh-over : {f : CollisionError} → stop f ≡ mass_response body → (P : ℕ → Type 0) → Does P s s (stop f) (mass_response body)
+  weigh-over h P = record { kept = kept_refl P s; is = h }
 
-  pub weigh-there : not r.some ≡ false → {t : List Float} {x y z : Vec3} → x ≡ column_of r.mass.angular 0 → y ≡ column_of r.mass.angular 1
-      → z ≡ column_of r.mass.angular 2
-      → (Kept (λ j. Out (MASSES + 10 * k) 10 j) s t) × (mass_at t MASSES k ≡ mass_of r.mass.linear x y z)
+  pub weigh-there : {m : MassResponse} → go m ≡ mass_response body → {t : List Float} {x y z : Vec3} → x ≡ column_of m.angular 0
+      → y ≡ column_of m.angular 1 → z ≡ column_of m.angular 2
+      → (Kept (λ j. Out (MASSES + 10 * k) 10 j) s t) × (mass_at t MASSES k ≡ mass_of m.linear x y z)
       → Does (λ j. Out (MASSES + 10 * k) 10 j) s t (go (mass_at t MASSES k)) (mass_response body)
-  weigh-there h {t} {x} {y} {z} ex ey ez st = record { kept = st.0; is = ap go (st.1 ∙ whole) ∙ there }
+  weigh-there {m} there {t} {x} {y} {z} ex ey ez st = record { kept = st.0; is = ap go (st.1 ∙ whole) ∙ there }
     where
-      there : go r.mass ≡ mass_response body
-      there = cond_yes {b = r.some} (go r.mass) (stop arithmetic_overflow) (not-no r.some h) ∙ e
-
-      whole : mass_of r.mass.linear x y z ≡ r.mass
+      whole : mass_of m.linear x y z ≡ m
       whole =
-          let held : MassResponse = record { linear = r.mass.linear; angular = cols_of r.mass.angular } in
-          let a : mass_of r.mass.linear x y z ≡ held = λ j. mass_of r.mass.linear (ex j) (ey j) (ez j) in
-          let b : held ≡ r.mass = λ j. record { linear = r.mass.linear; angular = mass-cols body r.mass there j } in
+          let held : MassResponse = record { linear = m.linear; angular = cols_of m.angular } in
+          let a : mass_of m.linear x y z ≡ held = λ j. mass_of m.linear (ex j) (ey j) (ez j) in
+          let b : held ≡ m = λ j. record { linear = m.linear; angular = mass-cols body m there j } in
           a ∙ b
 
 -- ---- prepare_masses
@@ -156,7 +136,7 @@ module _ (moved : Bool) (body-count : ℕ) (s₀ : List Float) where
       is = ap go (masses-more MASSES k (d.kept, refl)) ∙ each_more weigh so.is (d.is ∙ weigh-turn);
     }
 
-    pub weigh-stops : {t : List Float} {f : Fault} → Does (λ j. Out (MASSES + 10 * k) 10 j) s t (stop f) (mass_response body)
+    pub weigh-stops : {t : List Float} {f : CollisionError} → Does (λ j. Out (MASSES + 10 * k) 10 j) s t (stop f) (mass_response body)
         → Does (Out MASSES MASS_TABLE) s₀ t (stop f) (prepare_masses (bodies_at moved s₀ body-count))
     unfolding prepare_masses
     weigh-stops {t} d =
@@ -168,36 +148,6 @@ module _ (moved : Bool) (body-count : ℕ) (s₀ : List Float) where
   unfolding prepare_masses
   weigh-ends k s so a b l =
       so-end (λ s k. mass_at s MASSES k) weigh s₀ k s so (Out MASSES MASS_TABLE) (λ i x. omega arith) body-count (bodies-length moved s₀ body-count) a b
-
--- ---- mass_response
-pub mass-is : (body : MomentumBody) {turned : OptionMat3} {a b : Mat3} {f g h : Bool} → turned ≡ to_mat3_of body.rotation
-    → a ≡ mat_product_of turned.matrix body.inverse_inertia → b ≡ mat_product_of a (transpose_of turned.matrix)
-    → f ≡ finite_mat b → g ≡ is_finite (ratio 1 1 ⊘ body.mass) → h ≡ (turned.some && f && g)
-    → mass_as (record { some = h; mass = record { linear = ratio 1 1 ⊘ body.mass; angular = b } }) ≡ mass_response body
-unfolding mass_response
-mass-is body {turned} {a} {b} {f} {g} {h} et ea eb ef eg eh =
-    ap (λ (t : Bool). cond t (go (record { linear = ratio 1 1 ⊘ body.mass; angular = b })) (stop arithmetic_overflow))
-    (eh ∙ ap (λ (x : Bool). turned.some && x && g) ef ∙ ap (λ (x : Bool). turned.some && finite_mat b && x) eg)
-    ∙ ap (answer turned) (eb ∙ ap (λ (m : Mat3). mat_product_of m (transpose_of turned.matrix)) ea)
-    ∙ ap (λ (t : OptionMat3). answer t (mat_product_of (mat_product_of t.matrix body.inverse_inertia) (transpose_of t.matrix))) et
-  where
-    answer : OptionMat3 → Mat3 → Result MassResponse
-    answer t angular =
-        cond (t.some && finite_mat angular && is_finite (ratio 1 1 ⊘ body.mass)) (go (record { linear = ratio 1 1 ⊘ body.mass; angular = angular }))
-        (stop arithmetic_overflow)
-
--- ---- kick_and_drift
-module _ (dt : Float) (body : MomentumBody) (kick : Generalized) {kicked : BodyAnswer}
-    (e : BodyAnswered body (kick_of body kick.linear kick.angular) kicked) {b : Bool} (eb : b ≡ is_done kicked.outcome) where
-  abbrev drifting : MomentumBody → Result MomentumBody
-  drifting b = drift_of b dt
-
-  pub kick-drifts : {r : BodyAnswer} → b ≡ true → BodyAnswered kicked.body (drift_of kicked.body dt) r
-      → body_as r ≡ kick_and_drift dt body kick
-  kick-drifts h q = answered q ∙ then-go drifting (end_goes kicked.body kicked.outcome eb (answered e) h)
-
-  pub kick-fails : b ≡ false → body_as kicked ≡ kick_and_drift dt body kick
-  kick-fails h = fails kicked.body kicked.outcome eb h ∙ then-stop drifting (end-stops kicked.body kicked.outcome eb (answered e) h)
 
 -- ---- move_bodies
 module _ (dt : Float) (body-count : ℕ) (s₀ : List Float) where
@@ -225,7 +175,7 @@ module _ (dt : Float) (body-count : ℕ) (s₀ : List Float) where
         (λ i g. kept-candidate st.0 i (λ j a c. omega arith) (λ j a c. omega arith))
         (st.1 ∙ drift-moved (start_body_at s k) share dt (q ∙ e ∙ ap (λ (x : MomentumBody). kick_and_drift dt x share) eb)) (q ∙ move-turn)
 
-    pub move-stops : {f : Fault} → stop f ≡ d
+    pub move-stops : {f : CollisionError} → stop f ≡ d
         → Does (Out CANDIDATE STATES) s₀ s (stop f) (move_bodies dt (start_bodies_at s₀ body-count) (generalizeds_at s₀ GENERALIZED body-count))
     unfolding move_bodies
     move-stops q =
@@ -250,21 +200,18 @@ module _ (s : List Float) (n : ℕ) (ia ib : List ℕ) where
   row_is : (k : ℕ) → k < n → row_in (rows_on ia ib s ROWS n) k ≡ row_on ia ib s ROWS k
   row_is k h = tab-at n (row_on ia ib s ROWS) no_row k h
 
-  abbrev pub row_test : ℕ → Bool
+  abbrev row_test : ℕ → Bool
   row_test k = Ieee.le (abs_of (row_in (rows_on ia ib s ROWS n) k).value) (row_in (rows_on ia ib s ROWS n) k).tolerance
 
-  pub row-test : {k : ℕ} {b : Bool} {x : Float} → k < n → x ≡ abs_of (at s (ROWS + 14 * k + 12)) → Ieee.le x (at s (ROWS + 14 * k + 13)) ≡ b → row_test k ≡ b
-  row-test {k} h q e =
-      ap (λ (r : EqualityRow). Ieee.le (abs_of r.value) r.tolerance) (row_is k h)
-      ∙ ap (λ (y : Float). Ieee.le y (at s (ROWS + 14 * k + 13))) (sym q) ∙ e
+  -- the same, of the numbers where they stand
+  abbrev pub met_at : ℕ → Bool
+  met_at k = Ieee.le (abs_of (at s (ROWS + 14 * k + 12))) (at s (ROWS + 14 * k + 13))
 
-  pub met-fails : (k : ℕ) → k < n → row_test k ≡ false → false ≡ rows_met (rows_on ia ib s ROWS n)
+  pub met-is : every n met_at ≡ rows_met (rows_on ia ib s ROWS n)
   unfolding rows_met
-  met-fails k h e = every-fail row_test n h e ∙ ap (λ (m : ℕ). every m row_test) (sym (tab-length n (row_on ia ib s ROWS)))
-
-  pub met-ends : (k : ℕ) → true ≡ every k row_test → k ≤ n → n ≤ k → true ≡ rows_met (rows_on ia ib s ROWS n)
-  unfolding rows_met
-  met-ends k e a b = every-end row_test a b e ∙ ap (λ (m : ℕ). every m row_test) (sym (tab-length n (row_on ia ib s ROWS)))
+  met-is =
+      every-ext met_at row_test n (λ k h. ap (λ (r : EqualityRow). Ieee.le (abs_of r.value) r.tolerance) (sym (row_is k h)))
+      ∙ ap (λ (m : ℕ). every m row_test) (sym (tab-length n (row_on ia ib s ROWS)))
 
   pub rhs-is : (dt : Float) {t : List Float} → Filled RHS n (λ k. Ieee.neg (at s (ROWS + 14 * k + 12)) ⊘ dt) s t → n ≤ 96
       → Does (Beside RHS) s t (vec_at t RHS n) (rhs_of dt (rows_on ia ib s ROWS n))
@@ -298,7 +245,7 @@ module _ (n : ℕ) (s₀ : List Float) where
     sum-again q = so-put IMPULSES sum s₀ k s so (λ i. Out IMPULSES (k + 1) i) (λ i x. omega arith) _ (λ i x. omega arith) g (number-yes sum_is e q)
 
     pub sum-stops : b ≡ false
-        → Does (Beside IMPULSES) s₀ (set s (IMPULSES + k) (at s (IMPULSES + k) ⊕ at s (SOLUTION + k))) (stop arithmetic_overflow)
+        → Does (Beside IMPULSES) s₀ (set s (IMPULSES + k) (at s (IMPULSES + k) ⊕ at s (SOLUTION + k))) (stop ArithmeticOverflow)
         (add_impulses (vec_at s₀ IMPULSES n) (vec_at s₀ SOLUTION n))
     unfolding add_impulses
     sum-stops q =
@@ -343,7 +290,8 @@ module _ (bodies : List Float) (body-count : ℕ) (s₀ : List Float) where
         (λ i x. omega arith)
         (λ i g. kept-state st.0 (CANDIDATE + 13 * i) (λ j a c. omega arith)) st.1 (q ∙ state-turn)
 
-    pub state-stops : {f : Fault} → stop f ≡ d → Does (Out CANDIDATE STATES) s₀ s (stop f) (states_of (records_of bodies) (candidates_at s₀ body-count))
+    pub state-stops : {f : CollisionError} → stop f ≡ d
+        → Does (Out CANDIDATE STATES) s₀ s (stop f) (states_of (records_of bodies) (candidates_at s₀ body-count))
     unfolding states_of
     state-stops q =
         so-stop (λ s k. state_at s (CANDIDATE + 13 * k)) stating s₀ k s so (Out CANDIDATE STATES) (λ i x. omega arith)

@@ -9,20 +9,18 @@ use lib.Ieee as Ieee
 use lib.Ieee.{Float}
 use Rattle.arith.specs.Real.{ratio, is_finite, abs_of, ◌⊕◌}
 use Rattle.arith.specs.Flow.{Turn, go, stop, ◌>>=◌, each, every}
-use Rattle.arith.specs.FlowLaws.{then-go, then-stop, every-fail, every-end}
+use Rattle.arith.specs.FlowLaws.{then-go, then-stop}
+use Rattle.step.proofs.EveryLaws.{every-ext}
 use Rattle.arith.specs.Run.{ran, leave}
 use Rattle.arith.specs.RunLaws.{over}
 use Rattle.vectors.specs.declared.vector.Vec3.{Vec3}
-use Rattle.vectors.specs.declared.vector.OptionVec3.{OptionVec3}
-use Rattle.vectors.specs.declared.vector.OptionVec3.TheVariants.{Some, None}
 use Rattle.vectors.specs.Vector.{dot_of, div_of}
 use Rattle.rows.specs.declared.body.MomentumBody.{MomentumBody}
 use Rattle.rows.specs.declared.geometry.EqualityRow.{EqualityRow}
-use Rattle.rows.specs.Fault.{Fault, arithmetic_overflow, Result, vector_or}
+use Rattle.rows.specs.Fault.{CollisionError, ArithmeticOverflow, Result}
 use Rattle.rows.specs.Body.{omega_of, kick_of}
 use Rattle.rows.specs.View.{at, Out, Kept}
 use Rattle.rows.specs.Region.{tab-length, kept_refl, kept_set}
-use Rattle.rows.specs.AnswerLaws.{vector-go, vector-stop}
 use Rattle.solves.specs.declared.places.Generalized.{Generalized}
 use Rattle.solves.specs.Solver.{row_in, generalized_in, transpose}
 use Rattle.rows.specs.declared.End.{End}
@@ -50,16 +48,16 @@ use Rattle.step.proofs.PassLaws.{pass-fails, pass-met, pass-corrects}
 
 -- velocity: the rate of a row from the motions of its bodies
 module _ (row : EqualityRow) (x y : MomentumBody) {a b : Motion} (ma : MotionOf x a) (mb : MotionOf y b) where
-  pub rate-without-a : a.angular ≡ None → stop arithmetic_overflow ≡ velocity_of row x y
+  pub rate-without-a : {f : CollisionError} → stop f ≡ a.angular → stop f ≡ velocity_of row x y
   unfolding velocity_of
-  rate-without-a h = then-stop _ (vector-stop ma.angular-is h)
+  rate-without-a h = then-stop _ (h ∙ ma.angular-is)
 
-  module _ {wa : Vec3} (ha : a.angular ≡ Some wa) where
-    pub rate-without-b : b.angular ≡ None → stop arithmetic_overflow ≡ velocity_of row x y
+  module _ {wa : Vec3} (ha : go wa ≡ a.angular) where
+    pub rate-without-b : {f : CollisionError} → stop f ≡ b.angular → stop f ≡ velocity_of row x y
     unfolding velocity_of
-    rate-without-b h = then-stop _ (vector-stop mb.angular-is h) ∙ then-go _ (vector-go ma.angular-is ha)
+    rate-without-b h = then-stop _ (h ∙ mb.angular-is) ∙ then-go _ (ha ∙ ma.angular-is)
 
-    module _ {wb : Vec3} (hb : b.angular ≡ Some wb) {p q r s : Float} {t : Bool}
+    module _ {wb : Vec3} (hb : go wb ≡ b.angular) {p q r s : Float} {t : Bool}
         (ep : p ≡ dot_of row.linear_a a.linear) (eq : q ≡ dot_of row.angular_a wa)
         (er : r ≡ dot_of row.linear_b b.linear) (es : s ≡ dot_of row.angular_b wb) (et : t ≡ is_finite (p ⊕ q ⊕ r ⊕ s)) where
       total : p ⊕ q ⊕ r ⊕ s ≡ dot_of row.linear_a (div_of x.momentum x.mass) ⊕ dot_of row.angular_a wa
@@ -71,16 +69,16 @@ module _ (row : EqualityRow) (x y : MomentumBody) {a b : Motion} (ma : MotionOf 
 
       pub rate-finite : t ≡ true → go (p ⊕ q ⊕ r ⊕ s) ≡ velocity_of row x y
       unfolding velocity_of
-      rate-finite h = number-yes total et h ∙ then-go _ (vector-go mb.angular-is hb) ∙ then-go _ (vector-go ma.angular-is ha)
+      rate-finite h = number-yes total et h ∙ then-go _ (hb ∙ mb.angular-is) ∙ then-go _ (ha ∙ ma.angular-is)
 
-      pub rate-not-finite : t ≡ false → stop arithmetic_overflow ≡ velocity_of row x y
+      pub rate-not-finite : t ≡ false → stop ArithmeticOverflow ≡ velocity_of row x y
       unfolding velocity_of
-      rate-not-finite h = number-no total et h ∙ then-go _ (vector-go mb.angular-is hb) ∙ then-go _ (vector-go ma.angular-is ha)
+      rate-not-finite h = number-no total et h ∙ then-go _ (hb ∙ mb.angular-is) ∙ then-go _ (ha ∙ ma.angular-is)
 
 -- motion_of
-pub motion-made : {s : List Float} {k : ℕ} {body : MomentumBody} {linear : Vec3} {angular : OptionVec3} → body ≡ candidate_at s k
+pub motion-made : {s : List Float} {k : ℕ} {body : MomentumBody} {linear : Vec3} {angular : Result Vec3} → body ≡ candidate_at s k
     → linear ≡ div_of body.momentum body.mass
-    → vector_or arithmetic_overflow angular ≡ omega_of body → MotionAt s k (record { body = k; linear = linear; angular = angular })
+    → angular ≡ omega_of body → MotionAt s k (record { body = k; linear = linear; angular = angular })
 motion-made {s} {k} e l w =
     record {
       body_is =
@@ -153,8 +151,8 @@ module _ {s₀ : List Float} {ia ib : List ℕ} {place n body-count : ℕ} (pre 
         so-put RHS (oppose ia ib place n body-count s₀) s₀ k s so (Beside RHS) (λ i x. x) (Ieee.neg v) (λ i x. omega (arith, pre.most))
         (omega (arith, pre.most, pre.whole, so.kept.size)) (then-go _ (e ∙ rhs-turn))
 
-    pub rhs-stops : stop arithmetic_overflow ≡ velocity_of row (candidate_at s row.a) (candidate_at s row.b)
-        → Does (Beside RHS) s₀ s (stop arithmetic_overflow) (velocity_rhs R C)
+    pub rhs-stops : {f : CollisionError} → stop f ≡ velocity_of row (candidate_at s row.a) (candidate_at s row.b)
+        → Does (Beside RHS) s₀ s (stop f) (velocity_rhs R C)
     unfolding velocity_rhs
     rhs-stops e =
         so-stop (λ s k. at s (RHS + k)) (oppose ia ib place n body-count s₀) s₀ k s so (Beside RHS) (λ i x. x) (sym (tab-length n (row_on ia ib s₀ place)))
@@ -170,21 +168,18 @@ module _ {s₀ : List Float} {ia ib : List ℕ} {place n body-count : ℕ} (pre 
 
 -- compatible
 module _ (s : List Float) (n : ℕ) where
-  abbrev pub small : ℕ → Bool
+  abbrev small : ℕ → Bool
   small k = Ieee.le (abs_of (at (vec_at s RHS n) k)) (ratio 1 (10 ^ 12))
 
-  pub small_is : {k : ℕ} {x y : Float} {t : Bool} → k < n → x ≡ abs_of (at s (RHS + k)) → y ≡ ratio 1 (10 ^ 12) → Ieee.le x y ≡ t → small k ≡ t
-  small_is {k} h ex ey et =
-      let v : at s (RHS + k) ≡ at (vec_at s RHS n) k = vec-at s RHS n k h in
-      cc
+  -- the same, of the numbers where they stand
+  abbrev pub small_at : ℕ → Bool
+  small_at k = Ieee.le (abs_of (at s (RHS + k))) (ratio 1 (10 ^ 12))
 
-  pub compatible-fails : {k : ℕ} → k < n → small k ≡ false → false ≡ compatible_of (vec_at s RHS n)
+  pub compatible-is : every n small_at ≡ compatible_of (vec_at s RHS n)
   unfolding compatible_of
-  compatible-fails h e = every-fail small n h e ∙ ap (λ (m : ℕ). every m small) (sym (tab-length n (λ j. at s (RHS + j))))
-
-  pub compatible-ends : {k : ℕ} → k ≤ n → n ≤ k → true ≡ every k small → true ≡ compatible_of (vec_at s RHS n)
-  unfolding compatible_of
-  compatible-ends a b e = every-end small a b e ∙ ap (λ (m : ℕ). every m small) (sym (tab-length n (λ j. at s (RHS + j))))
+  compatible-is =
+      every-ext small_at small n (λ k h. ap (λ (x : Float). Ieee.le (abs_of x) (ratio 1 (10 ^ 12))) (vec-at s RHS n k h))
+      ∙ ap (λ (m : ℕ). every m small) (sym (tab-length n (λ j. at s (RHS + j))))
 
 -- kick_candidates
 module _ (s₀ : List Float) (body-count : ℕ) where
@@ -220,7 +215,7 @@ module _ (s₀ : List Float) (body-count : ℕ) where
         (st.1 ∙ kick-moved (start_body_at s k) (candidate_at s k) share.linear share.angular refl refl refl
         (q ∙ e ∙ ap (λ (x : MomentumBody). kick_of x share.linear share.angular) eo)) (q ∙ kick-turn)
 
-    pub kick-stops : {f : Fault} → stop f ≡ d → Does (Out CANDIDATE STATES) s₀ s (stop f) (kick_bodies B G)
+    pub kick-stops : {f : CollisionError} → stop f ≡ d → Does (Out CANDIDATE STATES) s₀ s (stop f) (kick_bodies B G)
     unfolding kick_bodies
     kick-stops q =
         so-stop candidate_at kick s₀ k s so (Out CANDIDATE STATES) (λ i x. omega arith) (sym (tab-length body-count (candidate_at s₀))) h
@@ -249,7 +244,7 @@ module _ {s : List Float} {ia ib : List ℕ} (table : Table) (pre : Rows s ia ib
         (sym (tab-length table.bodies (candidate_at s)));
   }
 
-  pub apply-stops : {f : Fault} → x ≡ stop f → {z : Result (List MomentumBody)} → z ≡ stop f → Does Correcting s t z reaction
+  pub apply-stops : {f : CollisionError} → x ≡ stop f → {z : Result (List MomentumBody)} → z ≡ stop f → Does Correcting s t z reaction
   unfolding reaction_of
   apply-stops q w = does-eq w (does-stop _ (λ i x. omega (arith, x.0)) (does-eq (sym q) pushed))
 

@@ -1,10 +1,13 @@
 -- The parts of `solve` in solver.rs that count no pass: what stands before the first pass, candidates, their rows and rates, states.
 -- `Result A` is the Rust's Result, and in a `do` block `x ← e` is `let x = e?`. Bodies and rows are in rows/specs, the linear solves in solves/specs.
-use Rattle.std.specs.Prelude.{ℕ, ◌^◌, List, [], ◌++◌, Bool, cond, ◌&&◌, length, get_or, Float}
-use Rattle.step.specs.Words.{nan, neg, le, tab, every, go, stop, ◌>>=◌, loop, each, ratio}
+use Rattle.std.specs.Prelude.{ℕ, ◌^◌, List, [], ◌++◌, Bool, not, ◌&&◌, length, get_or, Float, ok_or}
+use Rattle.std.specs.Result.{result_unwrap_or}
+use Rattle.arith.specs.Flow.{return_if}
+use Rattle.vectors.specs.Matrix.{zero_mat}
+use Rattle.step.specs.Words.{nan, neg, le, tab, every, go, ◌>>=◌, loop, each, ratio}
 use Rattle.step.specs.Words.{is_finite, abs_of, ◌⊕◌, ◌⊘◌, quat, to_mat3_of, inverse_spd_of, finite_mat, mat_product_of, transpose_of, at, dot_of, div_of}
 use Rattle.step.specs.Words.{RigidBody}
-use Rattle.step.specs.Words.{BodyState, MomentumBody, Joint, EqualityRow, arithmetic_overflow, Result, body_with, new_of, omega_of, kick_of, drift_of}
+use Rattle.step.specs.Words.{BodyState, MomentumBody, Joint, EqualityRow, ArithmeticOverflow, Result, body_with, new_of, omega_of, kick_of, drift_of}
 use Rattle.step.specs.Words.{state_with, state_of, write_equality_rows, System, Generalized, MassResponse, no_vec, row_in, generalized_in, try_number}
 use Rattle.step.specs.Words.{transpose}
 use Rattle.step.specs.Records.{record_with}
@@ -27,7 +30,7 @@ abbrev pub state_in : List BodyState → ℕ → BodyState
 state_in states k = get_or states k (state_with no_vec (quat nan nan nan nan) no_vec no_vec)
 
 unfoldable pub start_bodies : List RigidBody → Result (List MomentumBody)  -- before the first pass: scratch.start.push(MomentumBody::new(body.body())?)
-start_bodies bodies = each (length bodies) (λ k. new_of (record_in bodies k) (inverse_spd_of (record_in bodies k).inertia).inverse)
+start_bodies bodies = each (length bodies) (λ k. new_of (record_in bodies k) (result_unwrap_or (inverse_spd_of (record_in bodies k).inertia) zero_mat))
 
 abbrev pub joint_rows : List Joint → List MomentumBody → ℕ → Result (List EqualityRow)
 joint_rows joints bodies k = write_equality_rows (joint_in joints k) (body_in bodies (joint_in joints k).body_a) (body_in bodies (joint_in joints k).body_b)
@@ -36,11 +39,12 @@ unfoldable pub write_rows : List Joint → ℕ → List MomentumBody → Result 
 write_rows joints count bodies = loop count (λ k rows. joint_rows joints bodies k >>= λ local. go (rows ++ local)) []
 
 unfoldable pub mass_response : MomentumBody → Result MassResponse
-mass_response body =
-    let rotation = to_mat3_of body.rotation in
-    let angular = mat_product_of (mat_product_of rotation.matrix body.inverse_inertia) (transpose_of rotation.matrix) in
-    let linear = ratio 1 1 ⊘ body.mass in
-    cond (rotation.some && finite_mat angular && is_finite linear) (go (record { linear = linear; angular = angular })) (stop arithmetic_overflow)
+mass_response body = do
+  rotation ← ok_or (to_mat3_of body.rotation) ArithmeticOverflow
+  let angular = mat_product_of (mat_product_of rotation body.inverse_inertia) (transpose_of rotation)
+  let linear = ratio 1 1 ⊘ body.mass
+  _ ← return_if (not (finite_mat angular && is_finite linear)) ArithmeticOverflow
+  go (record { linear = linear; angular = angular })
 
 unfoldable pub prepare_masses : List MomentumBody → Result (List MassResponse)  -- fn prepare_masses
 prepare_masses bodies = each (length bodies) (λ k. mass_response (body_in bodies k))

@@ -1,10 +1,9 @@
 -- Whatever answers as the definition does is `Answered`: each way that `solve_of` goes, and for the accepted one demand 3, joint by joint.
 use Rattle.std.specs.Prelude.{ℕ, ◌*◌, ◌/◌, ◌≤◌, ◌<◌, ◌≡◌, Bool, true, false, cond, ◌&&◌, List, T, length, Float}
 use Rattle.std.proofs.Math.Path.{refl, ap, subst}
-use Rattle.std.proofs.Common.{sym, ◌∙◌, subst₂, arith, eqb-true}
-use Rattle.std.proofs.lemmas.Bool.{eqb-false}
+use Rattle.std.proofs.Common.{sym, ◌∙◌, subst₂, arith}
 use Rattle.arith.specs.Real.{ratio}
-use Rattle.arith.specs.Flow.{go, stop}
+use Rattle.arith.specs.Flow.{Turn, go, stop}
 use Rattle.arith.specs.FlowLaws.{every-at}
 use Rattle.vectors.specs.declared.vector.Vec3.{Vec3}
 use Rattle.vectors.specs.Quaternion.{is_normalized_of}
@@ -15,7 +14,7 @@ use Rattle.rows.specs.declared.geometry.Joint.{Joint}
 use Rattle.rows.specs.declared.geometry.Motions.{Motions}
 use Rattle.rows.specs.declared.geometry.Motions.TheVariants.{Rod, Frame}
 use Rattle.rows.specs.Motions.{motions_of}
-use Rattle.rows.specs.Fault.{Fault, non_convergent, arithmetic_overflow, number, Result}
+use Rattle.rows.specs.Fault.{CollisionError, NonConvergent, ArithmeticOverflow, number, Result}
 use Rattle.rows.specs.Body.{state_with, state_of}
 use Rattle.rows.specs.Region.{tab-length, tab-at}
 use Rattle.rows.specs.ExactGeometry.{Met, Stands, Proper}
@@ -24,14 +23,14 @@ use Rattle.rows.specs.Laws.RowsIn.{Each, rows-met, rows-each}
 use Rattle.rows.specs.Laws.Met.{MotionsIn, stands, met}
 use Rattle.rows.specs.Laws.Frames.{proper}
 use Rattle.solves.specs.View.{no_row}
-use Rattle.step.specs.declared.Outcome.{Outcome}
-use Rattle.step.specs.declared.Outcome.TheVariants.{Accepted, Ground}
+use Rattle.step.specs.declared.Refusal.{Refusal}
+use Rattle.step.specs.declared.Refusal.TheVariants.{Ground}
 use Rattle.step.specs.declared.Report.{Report}
 use Rattle.step.specs.Layout.{RECORD}
 use Rattle.step.specs.Records.{record_at, count_of_bodies, records_of}
 use Rattle.step.specs.View.{state_at, no_state, no_record}
-use Rattle.step.specs.Checks.{number_of, within_of, mass_in_range, body_in_range, frame_ok, motions_ok, joint_in, refusal_of, is_accepted}
-use Rattle.step.specs.CheckLaws.{Unrefused, number-zero, refused-number, accepted}
+use Rattle.step.specs.Checks.{number_of, within_of, mass_in_range, body_in_range, frame_ok, motions_ok, joint_in, refusal_of}
+use Rattle.step.specs.CheckLaws.{Unrefused, refused-number, accepted}
 use Rattle.step.specs.NumberLaws.{motions-finite, within-table}
 use Rattle.step.specs.Bodies.{body_in, record_in, state_in, joint_rows, write_rows, rows_met, states_of}
 use Rattle.step.specs.Step.{Stepped, stepped, fault_outcome, grounded, hand_back, cleared, concluded, job_of, run_for, solve_of}
@@ -141,16 +140,16 @@ module _ (bodies : List Float) (joints : List Joint) (count : ℕ) (dt : Float) 
         proper joint _ _ numbers.0 numbers.1 (motions-finite (motions_of joint.kind) numbers.2) at_a.N-above at_b.N-above
 
 -- ---- the ways of a step
-no-refusal : {o : Outcome} → 1 ≤ number_of o → o ≡ Accepted → ⊥
+no-refusal : {o : Turn (Unit {0}) Refusal} → 1 ≤ number_of o → o ≡ go tt → ⊥
 no-refusal l e = omega (arith, ap number_of e)
 
-pub fault-number : (fault : Fault) → number_of (fault_outcome fault) ≡ number fault
-fault-number non_convergent = refl
-fault-number arithmetic_overflow = refl
+pub fault-number : (fault : CollisionError) → number_of (fault_outcome fault) ≡ number fault
+fault-number NonConvergent = refl
+fault-number ArithmeticOverflow = refl
 
-fault-late : (fault : Fault) → 10 ≤ number fault
-fault-late non_convergent = omega arith
-fault-late arithmetic_overflow = omega arith
+fault-late : (fault : CollisionError) → 10 ≤ number fault
+fault-late NonConvergent = omega arith
+fault-late ArithmeticOverflow = omega arith
 
 module _ (bodies : List Float) (joints : List Joint) (count : ℕ) (dt : Float) (scratch : List Float) where
   abbrev Solved : Stepped → Type 0
@@ -160,12 +159,16 @@ module _ (bodies : List Float) (joints : List Joint) (count : ℕ) (dt : Float) 
   Says s = Answered bodies s.bodies joints count dt scratch s.scratch (record { outcome = s.outcome; nonlinear = s.nonlinear; linear = s.linear })
 
   -- 1 to 9
-  abbrev checked : Outcome → Stepped
-  checked o = record { outcome = o; nonlinear = 0; linear = 0; bodies = bodies; scratch = scratch }
+  abbrev checked : Refusal → Stepped
+  checked refusal = record { outcome = stop refusal; nonlinear = 0; linear = 0; bodies = bodies; scratch = scratch }
+
+  -- the step's answer, by what the refusals answered
+  abbrev answer : Turn (Unit {0}) Refusal → Stepped
+  answer tested = elim tested [ stop refusal ↦ checked refusal | go _ ↦ concluded bodies (cleared scratch) (run_for bodies joints count dt) ]
 
   -- the field `faulted` of a step's answer
   abbrev Faulted : Stepped → Type 0
-  Faulted t = refusal_of bodies joints count dt (length scratch) ≡ Accepted → (fault : Fault)
+  Faulted t = refusal_of bodies joints count dt (length scratch) ≡ go tt → (fault : CollisionError)
       → (run_for bodies joints count dt).ends ≡ stop fault → number_of t.outcome ≡ number fault
 
   fault-answered : Faulted (solve_of bodies joints count dt scratch)
@@ -174,15 +177,15 @@ module _ (bodies : List Float) (joints : List Joint) (count : ℕ) (dt : Float) 
       let left = cleared scratch in
       let run = run_for bodies joints count dt in
       let ended : Result (List BodyState) → Stepped = λ t. concluded bodies left (record { ends = t; nonlinear = run.nonlinear; linear = run.linear }) in
-      ap (λ (o : Outcome). number_of (cond (is_accepted o) (concluded bodies left run) (checked o)).outcome) p
+      ap (λ (o : Turn (Unit {0}) Refusal). number_of (answer o).outcome) p
       ∙ ap (λ (t : Result (List BodyState)). number_of (ended t).outcome) q
       ∙ fault-number fault
 
   as-faulted : {t : Stepped} → Solved t → Faulted t
   as-faulted is = subst Faulted (sym is) fault-answered
 
-  says-checked : (o : Outcome) → 1 ≤ number_of o → number_of o ≤ 9 → Solved (checked o) → Says (checked o)
-  says-checked o low high is = record {
+  says-checked : (refusal : Refusal) → 1 ≤ number_of (stop refusal) → number_of (stop refusal) ≤ 9 → Solved (checked refusal) → Says (checked refusal)
+  says-checked refusal low high is = record {
     is = is;
     few = λ h. absurd (no-refusal (omega arith) h);
     stands = λ h. absurd (no-refusal (omega arith) h);
@@ -198,10 +201,10 @@ module _ (bodies : List Float) (joints : List Joint) (count : ℕ) (dt : Float) 
 
   module _ (ready : Unrefused bodies joints count dt (length scratch)) where
     -- 10 to 12
-    abbrev failed : Outcome → ℕ → ℕ → Stepped
+    abbrev failed : Turn (Unit {0}) Refusal → ℕ → ℕ → Stepped
     failed o n l = record { outcome = o; nonlinear = n; linear = l; bodies = bodies; scratch = cleared scratch }
 
-    says-failed : (o : Outcome) (n l : ℕ) → 10 ≤ number_of o → Solved (failed o n l) → Says (failed o n l)
+    says-failed : (o : Turn (Unit {0}) Refusal) (n l : ℕ) → 10 ≤ number_of o → Solved (failed o n l) → Says (failed o n l)
     says-failed o n l low is = record {
       is = is;
       few = λ h. absurd (no-refusal (omega arith) h);
@@ -218,7 +221,7 @@ module _ (bodies : List Float) (joints : List Joint) (count : ℕ) (dt : Float) 
 
     -- accepted
     abbrev moved : ℕ → ℕ → List BodyState → Stepped
-    moved n l states = stepped Accepted n l (hand_back bodies states) (cleared scratch)
+    moved n l states = stepped (go tt) n l (hand_back bodies states) (cleared scratch)
 
     says-moved : (n l : ℕ) (states : List BodyState) → (run_for bodies joints count dt).ends ≡ go states → grounded states ≡ true
         → Solved (moved n l states) → Says (moved n l states)
@@ -253,30 +256,26 @@ module _ (bodies : List Float) (joints : List Joint) (count : ℕ) (dt : Float) 
     says-run n l (go states) e is = by-ground (grounded states) refl is
       where
         ended : Bool → Stepped
-        ended g = cond g (moved n l states) (failed Ground n l)
+        ended g = cond g (moved n l states) (failed (stop Ground) n l)
 
         by-ground : (g : Bool) → grounded states ≡ g → Solved (ended g) → Says (ended g)
         by-ground true g is = says-moved n l states e g is
-        by-ground false g is = says-failed Ground n l (omega arith) is
+        by-ground false g is = says-failed (stop Ground) n l (omega arith) is
 
-  abbrev tested : Outcome
-  tested = refusal_of bodies joints count dt (length scratch)
-
-  abbrev answer : Bool → Stepped
-  answer b = cond b (concluded bodies (cleared scratch) (run_for bodies joints count dt)) (checked tested)
-
-  says : (b : Bool) → is_accepted tested ≡ b → Solved (answer b) → Says (answer b)
-  says true e is =
+  says : (t : Turn (Unit {0}) Refusal) → refusal_of bodies joints count dt (length scratch) ≡ t → Solved (answer t) → Says (answer t)
+  says (go u) e is =
       let run = run_for bodies joints count dt in
-      let ready = accepted bodies joints count dt (length scratch) (number-zero _ (eqb-true _ _ e)) in
-      says-run ready run.nonlinear run.linear run.ends refl is
-  says false e is =
-      let n = refused-number bodies joints count dt (length scratch) (λ q. eqb-false _ _ e (ap number_of q)) in
-      says-checked tested n.0 n.1 is
+      says-run (accepted bodies joints count dt (length scratch) e) run.nonlinear run.linear run.ends refl is
+  says (stop refusal) e is =
+      let n = refused-number bodies joints count dt (length scratch) (λ q. not-both (sym e ∙ q)) in
+      says-checked refusal (omega (arith, ap number_of e, n.0)) (omega (arith, ap number_of e, n.1)) is
+    where
+      not-both : {refusal : Refusal} → ◌≡◌ {A = Turn (Unit {0}) Refusal} (stop refusal) (go tt) → ⊥
+      not-both q = let z : ◌≡◌ {A = ℕ} 0 1 = cc in omega arith
 
   solve-says : Says (solve_of bodies joints count dt scratch)
   unfolding solve_of
-  solve-says = says (is_accepted tested) refl refl
+  solve-says = says (refusal_of bodies joints count dt (length scratch)) refl refl
 
 -- the step's contract, from its first line
 pub answered : (bodies after : List Float) (joints : List Joint) (count : ℕ) (dt : Float) (scratch left : List Float) (r : Report)

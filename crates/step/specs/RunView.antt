@@ -1,24 +1,22 @@
 -- What of the scratch a run's values are, what its functions ask for and leave alone, by the stage too, and how the code's answers are read.
 use Rattle.std.specs.Prelude.{ℕ, ◌+◌, ◌-◌, ◌≤◌, ◌<◌, ◌≡◌, Bool, cond, List, length, get_or, Float}
-use Rattle.arith.specs.Flow.{Turn, go, stop, turns}
+use Rattle.arith.specs.Flow.{Turn, turns}
 use Rattle.arith.specs.Run.{ran}
 use Rattle.vectors.specs.Vector.{div_of}
 use Rattle.rows.specs.declared.body.MomentumBody.{MomentumBody}
 use Rattle.rows.specs.declared.geometry.Joint.{Joint}
-use Rattle.rows.specs.Fault.{arithmetic_overflow, Result, vector_or}
+use Rattle.rows.specs.Fault.{Result}
 use Rattle.rows.specs.Body.{omega_of}
 use Rattle.rows.specs.Count.{row_count}
 use Rattle.rows.specs.View.{Out}
 use Rattle.rows.specs.declared.End.{End}
 use Rattle.solves.specs.declared.Pass.TheVariants as Passes
 use Rattle.solves.specs.declared.Table.{Table}
-use Rattle.solves.specs.declared.places.MassResponse.{MassResponse}
 use Rattle.solves.specs.Layout.{ROW_TABLE}
 use Rattle.solves.specs.Region.{vec_at}
 use Rattle.solves.specs.System.{Counting}
 use Rattle.solves.specs.Answer.{ran_as, pass_as, is_done}
 use Rattle.solves.specs.View.{ROWS, RHS, rows_on, system_on, Ready}
-use Rattle.step.specs.declared.integrator.MassAnswer.{MassAnswer}
 use Rattle.step.specs.declared.passes.Task.{Task}
 use Rattle.step.specs.declared.velocity.Motion.{Motion}
 use Rattle.step.specs.declared.passes.Passed.{Passed}
@@ -56,7 +54,7 @@ abbrev pub candidate_table : Table → Table
 candidate_table t = record { place = ROWS; rows = t.rows; bodies = t.bodies }
 
 abbrev pub job_for : List Joint → Task → Job
-job_for joints task = record { joints = joints; count = task.count; dt = task.dt; cyclic = task.cyclic }
+job_for joints task = record { joints = joints; count = length joints; dt = task.dt; cyclic = task.cyclic }
 
 -- how many rows the joints before k have
 abbrev pub rows_before : List Joint → ℕ → ℕ
@@ -70,7 +68,7 @@ pub record Sides (joints : List Joint) (count : ℕ) (ia ib : List ℕ) : Type 0
 -- the motion is the body's: its velocity, and its angular velocity where that is finite
 pub record MotionOf (body : MomentumBody) (motion : Motion) : Type 0 where
   pub linear-is : motion.linear ≡ div_of body.momentum body.mass
-  pub angular-is : vector_or arithmetic_overflow motion.angular ≡ omega_of body
+  pub angular-is : motion.angular ≡ omega_of body
 
 -- of candidate k
 pub record MotionAt (s : List Float) (k : ℕ) (motion : Motion) : Type 0 where
@@ -150,9 +148,6 @@ Besides Stages.Nonlinear joints count ia ib t = Joins joints count ia ib t
 Besides Stages.Velocity joints count ia ib t = Unit {0}
 
 -- ---- answers
-abbrev pub mass_as : MassAnswer → Result MassResponse
-mass_as r = cond r.some (go r.mass) (stop arithmetic_overflow)
-
 -- a pass that counted n nonlinear ones, and left a for the next, or b
 abbrev pub passed_as : {A B : Type 0} → ℕ → Passed → A → B → Counting (Turn A B)
 passed_as n r a b = ran (pass_as r.pass a b) n r.linear

@@ -1,9 +1,9 @@
 -- What the functions of the two loops say: what they leave alone, and that their answer with what they leave is the definition's at entry.
-use Rattle.std.specs.Prelude.{ℕ, ◌-◌, Bool, List, Float}
+use Rattle.std.specs.Prelude.{ℕ, ◌-◌, Bool, List, length, Float}
 use Rattle.arith.specs.Run.{ran, up_to}
 use Rattle.rows.specs.declared.body.BodyState.{BodyState}
 use Rattle.rows.specs.declared.geometry.Joint.{Joint}
-use Rattle.rows.specs.Fault.{Result, non_convergent}
+use Rattle.rows.specs.Fault.{Result, NonConvergent}
 use Rattle.rows.specs.View.{Out}
 use Rattle.rows.specs.declared.End.{End}
 use Rattle.solves.specs.declared.Ended.{Ended}
@@ -36,11 +36,11 @@ abbrev pub WritesRows : List Float → List Float → List Joint → ℕ → ℕ
 WritesRows s s' joints count place moved r = (body-count : ℕ) → Joined joints count body-count → (ia ib : List ℕ) → Sides joints count ia ib
     → Leaves (Out place ROW_TABLE) s s' r (λ u. rows_on ia ib u place (rows_before joints count)) (write_rows joints count (bodies_at moved s body-count))
 
--- `start`, of the rows of the joints, on whatever bodies two lists say that they are
-abbrev pub Starts : List Float → List Float → List Float → List Joint → Task → End → Type 0
-Starts s s' bodies joints task r = (ia ib : List ℕ) → Sides joints task.count ia ib
+-- `start`, for whatever time step, of the rows of the joints, on whatever bodies two lists say that they are
+abbrev pub Starts : List Float → List Float → List Float → List Joint → End → Type 0
+Starts s s' bodies joints r = (task : Task) (ia ib : List ℕ) → Sides joints (length joints) ia ib
     → Does (Out 0 USED) s s'
-    (ran_as r (started_at ia ib s' (record { place = START_ROWS; rows = rows_before joints task.count; bodies = count_of_bodies bodies })))
+    (ran_as r (started_at ia ib s' (record { place = START_ROWS; rows = rows_before joints (length joints); bodies = count_of_bodies bodies })))
     (start_of (job_for joints task) (records_of bodies))
 
 -- both stages, from s to u: `correct`; `stage_pass`, `nonlinear_pass` and `velocity_pass`; `stage_loop`
@@ -55,7 +55,7 @@ module _ (stage : Stage) (ia ib : List ℕ) (t : Table) (s u : List Float) where
 
   abbrev pub Loops : Job → ℕ → Looped → Type 0
   Loops job most r = Does (Outside stage) s u (ran (ran_as r.end (gained_at stage ia ib u t)) (nonlinear_of stage r.passes) r.linear)
-      (up_to most non_convergent (pass_at stage job ia ib t s) (given_at stage s t))
+      (up_to most NonConvergent (pass_at stage job ia ib t s) (given_at stage s t))
 
 module _ (s s' : List Float) (ia ib : List ℕ) (t : Table) where
   abbrev start : Started

@@ -3,11 +3,11 @@
 -- Bodies.antt has the parts that count nothing, solves/specs/Search.antt the linear solves.
 use Rattle.std.specs.Prelude.{ℕ, ◌/◌, ◌%◌, List, [], ◌++◌, ◌∷◌, Bool, cond, length, drop, replicate, Float, ltb, leb}
 use Rattle.step.specs.Words.{tab, every, go, stop, Turn, ratio}
-use Rattle.step.specs.Words.{at, RigidBody, BodyState, MomentumBody, Joint, arithmetic_overflow, Fault, non_convergent, System, rows_in, Counting}
-use Rattle.step.specs.Words.{linear_solve, Outcome}
+use Rattle.step.specs.Words.{at, RigidBody, BodyState, MomentumBody, Joint, ArithmeticOverflow, CollisionError, NonConvergent, System, rows_in, Counting}
+use Rattle.step.specs.Words.{linear_solve, Refusal}
 use Rattle.arith.specs.Run.{◌>>=◌, ◌>>◌, try, begin, again, leave_if, up_to}
 use Rattle.step.specs.Records.{RECORD, MOVING, SCRATCH, count_of_bodies, records_of}
-use Rattle.step.specs.Checks.{within_of, refusal_of, is_accepted}
+use Rattle.step.specs.Checks.{within_of, refusal_of}
 use Rattle.step.specs.Bodies.{Job, Started, start_of, Found, rows_met, rhs_of, add_impulses, candidate_of, velocity_rhs, compatible_of, reaction_of}
 use Rattle.step.specs.Bodies.{prepare_masses, states_of, state_in}
 
@@ -20,7 +20,7 @@ nonlinear_pass job start impulses = begin >> do
     try (add_impulses impulses solution) >>= again
 
 unfoldable pub nonlinear_loop : Job → Started → Counting Found
-nonlinear_loop job start = up_to 32 non_convergent (nonlinear_pass job start) (replicate (rows_in start.system) (ratio 0 1))
+nonlinear_loop job start = up_to 32 NonConvergent (nonlinear_pass job start) (replicate (rows_in start.system) (ratio 0 1))
 
 -- for _ in 0..3: tested before it is corrected, so that a third correction is never accepted
 unfoldable pub velocity_pass : Job → System → List MomentumBody → Counting (Turn (List MomentumBody) (List MomentumBody))
@@ -31,7 +31,7 @@ velocity_pass job system candidate = do
     try (reaction_of system.rows candidate solution) >>= again
 
 unfoldable pub velocity_loop : Job → System → List MomentumBody → Counting (List MomentumBody)
-velocity_loop job system candidate = up_to 3 non_convergent (velocity_pass job system) candidate
+velocity_loop job system candidate = up_to 3 NonConvergent (velocity_pass job system) candidate
 
 unfoldable pub finish_of : Job → List RigidBody → Found → Counting (List BodyState)  -- after the rows were met
 finish_of job bodies found = do
@@ -53,17 +53,17 @@ run_for bodies joints count dt = run_of (job_of bodies joints count dt) (records
 
 -- ---- the step. What it leaves: its answer, both counts, the bodies and the scratch
 pub record Stepped : Type 0 where
-  pub outcome : Outcome
+  pub outcome : Turn (Unit {0}) Refusal
   pub nonlinear : ℕ
   pub linear : ℕ
   pub bodies : List Float
   pub scratch : List Float
 
-abbrev pub stepped : Outcome → ℕ → ℕ → List Float → List Float → Stepped
+abbrev pub stepped : Turn (Unit {0}) Refusal → ℕ → ℕ → List Float → List Float → Stepped
 stepped outcome nonlinear linear bodies scratch = record { outcome = outcome; nonlinear = nonlinear; linear = linear; bodies = bodies; scratch = scratch }
 
-abbrev pub fault_outcome : Fault → Outcome  -- refusals 10 and 11
-fault_outcome fault = elim fault [ non_convergent ↦ Outcome.NonConvergent | arithmetic_overflow ↦ Outcome.ArithmeticOverflow ]
+abbrev pub fault_outcome : CollisionError → Turn (Unit {0}) Refusal  -- refusals 10 and 11
+fault_outcome fault = stop (elim fault [ NonConvergent ↦ Refusal.NonConvergent | ArithmeticOverflow ↦ Refusal.ArithmeticOverflow ])
 
 unfoldable pub grounded : List BodyState → Bool  -- refusal 12: no coordinate of an origin above 8192 in magnitude
 grounded states = every (length states) (λ k. within_of (state_in states k).origin (ratio 8192 1))
@@ -83,13 +83,15 @@ cleared scratch = replicate SCRATCH (ratio 0 1) ++ drop SCRATCH scratch
 
 abbrev pub concluded : List Float → List Float → Counting (List BodyState) → Stepped  -- of a run: bodies move only where the step is accepted
 concluded bodies left run =
-    let answer : Outcome → List Float → Stepped = λ outcome after. stepped outcome run.nonlinear run.linear after left in
+    let answer : Turn (Unit {0}) Refusal → List Float → Stepped = λ outcome after. stepped outcome run.nonlinear run.linear after left in
     elim run.ends [
       | stop fault ↦ answer (fault_outcome fault) bodies
-      | go states ↦ cond (grounded states) (answer Outcome.Accepted (hand_back bodies states)) (answer Outcome.Ground bodies)
+      | go states ↦ cond (grounded states) (answer (go tt) (hand_back bodies states)) (answer (stop Refusal.Ground) bodies)
     ]
 
 unfoldable pub solve_of : List Float → List Joint → ℕ → Float → List Float → Stepped  -- SPECIFICATION's step: refusals 1 to 9 touch nothing
 solve_of bodies joints count dt scratch =
-    let refusal : Outcome = refusal_of bodies joints count dt (length scratch) in
-    cond (is_accepted refusal) (concluded bodies (cleared scratch) (run_for bodies joints count dt)) (stepped refusal 0 0 bodies scratch)
+    elim (refusal_of bodies joints count dt (length scratch)) [
+      | stop refusal ↦ stepped (stop refusal) 0 0 bodies scratch
+      | go _ ↦ concluded bodies (cleared scratch) (run_for bodies joints count dt)
+    ]

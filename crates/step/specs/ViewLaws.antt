@@ -1,13 +1,14 @@
 -- Laws of `View` and `Records`: the bodies that a write keeps, and the records that a step hands back.
-use Rattle.std.specs.Prelude.{ℕ, zero, suc, ◌+◌, ◌*◌, ◌≤◌, ◌<◌, ◌≡◌, refl, Bool, true, false, cond, not, List, Float}
-use Rattle.std.proofs.Common.{sym, ◌∙◌, ap, arith}
+use Rattle.std.specs.Prelude.{ℕ, zero, suc, ◌+◌, ◌*◌, ◌≤◌, ◌<◌, ◌≡◌, refl, List, Float}
+use Rattle.std.proofs.Common.{sym, ◌∙◌, ap, subst, arith}
 use Rattle.vectors.specs.declared.vector.Vec3.{Vec3}
 use Rattle.vectors.specs.declared.quaternion.Quat.{Quat}
 use Rattle.vectors.specs.declared.matrix.Mat3.{Mat3}
-use Rattle.vectors.specs.declared.matrix.CholeskyOutcome.TheVariants.{Done, ResultOutOfRange}
-use Rattle.vectors.specs.declared.matrix.Inverted.{Inverted}
-use Rattle.vectors.specs.Vector.{axis_x, axis_y, axis_z}
-use Rattle.vectors.specs.Matrix.{from_cols, finite_mat, done, uninverted, solve_spd_of, inverse_spd_of}
+use Rattle.vectors.specs.declared.matrix.CholeskyError.{CholeskyError}
+use Rattle.std.specs.Result.{result_unwrap_or}
+use Rattle.arith.specs.Flow.{Turn, go, stop}
+use Rattle.vectors.specs.Matrix.{from_cols, zero_mat, inverse_by, inverse_spd_of}
+use Rattle.rows.specs.Laws.Results.{go_same, step}
 use Rattle.rows.specs.declared.body.BodyState.{BodyState}
 use Rattle.rows.specs.declared.body.MomentumBody.{MomentumBody}
 use Rattle.rows.specs.View.{at, Out, Kept}
@@ -29,24 +30,18 @@ held-cols b e = λ j. record {
 }
 
 -- every inverse is made of three columns
-abbrev Tidy : Inverted → Type 0
-Tidy r = cols_of r.inverse ≡ r.inverse
-
-one_of : (a : Bool) (r t : Inverted) → Tidy r → Tidy t → Tidy (cond a r t)
-one_of true r t h g = h
-one_of false r t h g = g
-
-pub inverse-cols : (m : Mat3) → cols_of (inverse_spd_of m).inverse ≡ (inverse_spd_of m).inverse
-unfolding inverse_spd_of
-inverse-cols m =
-    let x = solve_spd_of m axis_x in
-    let y = solve_spd_of m axis_y in
-    let z = solve_spd_of m axis_z in
-    let inverse = from_cols x.solution y.solution z.solution in
-    one_of (not (done x.outcome)) (uninverted x.outcome) _ refl
-    (one_of (not (done y.outcome)) (uninverted y.outcome) _ refl
-    (one_of (not (done z.outcome)) (uninverted z.outcome) _ refl
-    (one_of (not (finite_mat inverse)) (uninverted ResultOutOfRange) (record { outcome = Done; inverse = inverse }) refl refl)))
+pub inverse-cols : (m : Mat3) → cols_of (result_unwrap_or (inverse_spd_of m) zero_mat) ≡ result_unwrap_or (inverse_spd_of m) zero_mat
+unfolding inverse_spd_of inverse_by
+inverse-cols m = tidy (inverse_spd_of m) refl
+  where
+    tidy : (r : Turn Mat3 CholeskyError) → inverse_spd_of m ≡ r → cols_of (result_unwrap_or r zero_mat) ≡ result_unwrap_or r zero_mat
+    tidy (stop e) h = refl
+    tidy (go inverse) h =
+        let x = step _ _ inverse h in
+        let y = step _ _ inverse x.2 in
+        let z = step _ _ inverse y.2 in
+        let finite = step _ _ inverse z.2 in
+        subst (λ (m : Mat3). cols_of m ≡ m) (go_same _ _ finite.2) refl
 
 -- a body with the start's mass, local centre and inverse inertia is the candidate that a store makes of it
 pub moved-is : (b start : MomentumBody) → b.mass ≡ start.mass → b.center_of_mass ≡ start.center_of_mass

@@ -173,12 +173,7 @@ pub(crate) fn in_ground(s: &[f64], body_count: usize) -> bool
     requires { (USED ≤ length s.now) × (body_count ≤ BODIES_MOST) }
     ensures { result ≡ every body_count (λ k. within_of (vec3_at s.now (CANDIDATE + MOVING * k)) (ratio 8192 1)) }
 {
-    for k in 0..body_count {
-        if !within(load3(s, CANDIDATE + MOVING * k), 8192.0) {
-            return false;
-        }
-    }
-    true
+    (0..body_count).all(|k| within(load3(s, CANDIDATE + MOVING * k), 8192.0))
 }
 
 // Hands the states back: the first 13 numbers of each record.

@@ -1,8 +1,7 @@
 // The nonlinear passes of `solve` in solver.rs, and the run as a whole.
-ghost use Rattle.std.specs.Prelude.{◌≡◌, ℕ, ◌+◌, ◌*◌, ◌≤◌, ◌<◌, length, cond, ◌&&◌, List};
+ghost use Rattle.std.specs.Prelude.{◌≡◌, ℕ, ◌+◌, ◌*◌, ◌≤◌, ◌<◌, length, cond, List};
 ghost use Rattle.arith.specs.Flow.{tab};
 ghost use Rattle.rows.specs.View.{Out};
-ghost use Rattle.rows.specs.Answer.{body_as};
 ghost use Rattle.solves.specs.Region.{vec_at, Does};
 ghost use Rattle.solves.specs.View.{ROWS, MASSES, RHS, SOLUTION, GENERALIZED, rows_on, mass_at, masses_at, Beside, shares_in};
 ghost use Rattle.solves.specs.Layout.{ROWS_MOST, BODIES_MOST, MASS_TABLE};
@@ -14,7 +13,7 @@ ghost use Rattle.step.specs.Bodies.{add_impulses, candidate_of, states_of};
 ghost use Rattle.step.specs.Step.{finish_of, run_for};
 ghost use Rattle.step.specs.View.{start_body_at, candidate_at, start_bodies_at, candidates_at, states_at};
 ghost use Rattle.step.specs.RunView.{bodies_at, impulses_at, candidate_table, job_for, rows_before, Sides, Ours};
-ghost use Rattle.step.specs.RunView.{Joins, mass_as, left_as};
+ghost use Rattle.step.specs.RunView.{Joins, left_as};
 ghost use Rattle.step.specs.Says.{Leaves, WritesRows, Finds, Passes, Finishes, Starts};
 ghost use Rattle.step.specs.Joined.{Joined, RowBodies, Spread};
 
@@ -23,24 +22,17 @@ use crate::bodies::{
 };
 use crate::layout::{CANDIDATE, IMPULSES, MOVING, RECORD};
 use crate::passes::{Passed, Ran, Stage, Task, correct, pass_ended, run_ended, stage_loop};
+use arith::fault::CollisionError;
 use arith::number::{abs, is_finite};
-use rows::body::{BodyAnswer, MomentumBody, StateAnswer};
-use rows::geometry::{
-    Joint, ROW, TOLERANCE, VALUE, Written, clear, row_count, write_equality_rows,
-};
+use rows::body::MomentumBody;
+use rows::ended_by;
+use rows::geometry::{Joint, ROW, TOLERANCE, VALUE, clear, row_count, write_equality_rows};
 use solves::layout::{GENERALIZED, MASSES, RHS, ROWS, SOLUTION, START_ROWS};
 use solves::operator::transpose;
 use solves::places::{MassResponse, load_generalized, store_mass};
 use solves::{End, Ended, Pass, PerRow, Table, done};
-use vectors::matrix::inverse_spd;
+use vectors::matrix::{Mat3, inverse_spd};
 use vectors::vector::Vec3;
-
-// A mass response, if it is finite.
-#[derive(Drop)]
-pub(crate) struct MassAnswer {
-    pub some: bool,
-    pub mass: MassResponse,
-}
 
 fn start_bodies(s: &mut [f64], bodies: &[f64], body_count: usize) -> End
     requires { (USED ≤ length s.old) × (RECORD * body_count ≤ length bodies.now) × (body_count ≤ BODIES_MOST) }
@@ -48,14 +40,11 @@ fn start_bodies(s: &mut [f64], bodies: &[f64], body_count: usize) -> End
 {
     for k in 0..body_count {
         let record = load_record(bodies, k);
-        let inertia = record.inertia;
-        let inverted = inverse_spd(inertia);
-        let made = MomentumBody::new(record, inverted.inverse);
-        let outcome = made.outcome;
-        if !done(outcome) {
-            return outcome;
+        let inverse = inverse_spd(record.inertia).unwrap_or(Mat3::ZERO);
+        match MomentumBody::new(record, inverse) {
+            Ok(body) => store_start(s, k, body),
+            Err(error) => return ended_by(error),
         }
-        store_start(s, k, made.body);
     }
     End::Done
 }
@@ -64,21 +53,18 @@ fn fill(index: &mut [usize], from: usize, n: usize, body: usize)
     requires { from + n ≤ length index.old }
     ensures { Spread from n body index.old index.new }
 {
-    for k in from..from + n {
-        index[k] = body;
-    }
+    index[from..from + n].fill(body);
 }
 
 // The bodies of every row, and how many rows there are.
-fn row_bodies(ia: &mut [usize], ib: &mut [usize], joints: [Joint; 16], count: usize) -> usize
-    requires { (count ≤ 16) × (length ia.old ≡ ROWS_MOST) × (length ib.old ≡ ROWS_MOST) }
-    ensures { (RowBodies joints count result ia.new ib.new) × (Sides joints count ia.new ib.new) × (result ≡ rows_before joints count) }
+fn row_bodies(ia: &mut [usize], ib: &mut [usize], joints: &[Joint]) -> usize
+    requires { (length joints.now ≤ 16) × (length ia.old ≡ ROWS_MOST) × (length ib.old ≡ ROWS_MOST) }
+    ensures { (RowBodies joints.now (length joints.now) result ia.new ib.new) × (Sides joints.now (length joints.now) ia.new ib.new)
+        × (result ≡ rows_before joints.now (length joints.now)) }
 {
     let mut n = 0;
-    for k in 0..count {
-        let joint = joints[k];
-        let kind = joint.kind;
-        let m = row_count(kind);
+    for joint in joints {
+        let m = row_count(joint.kind);
         fill(ia, n, m, joint.body_a);
         fill(ib, n, m, joint.body_b);
         n += m;
@@ -97,65 +83,49 @@ fn load_moved(s: &[f64], k: usize, moved: bool) -> MomentumBody
 }
 
 // The rows of all joints, of the bodies at the start or of the candidates.
-fn write_rows(s: &mut [f64], joints: [Joint; 16], count: usize, place: usize, moved: bool) -> End
-    requires { (USED ≤ length s.old) × (place ≤ ROWS) × (Joined joints count BODIES_MOST) }
-    ensures { WritesRows s.old s.new joints count place moved result }
+fn write_rows(s: &mut [f64], joints: &[Joint], place: usize, moved: bool) -> End
+    requires { (USED ≤ length s.old) × (place ≤ ROWS) × (Joined joints.now (length joints.now) BODIES_MOST) }
+    ensures { WritesRows s.old s.new joints.now (length joints.now) place moved result }
 {
     let mut n = 0;
-    for k in 0..count {
-        let joint = joints[k];
+    for joint in joints {
         let a = load_moved(s, joint.body_a, moved);
         let b = load_moved(s, joint.body_b, moved);
-        match write_equality_rows(s, place + ROW * n, joint, a, b) {
-            Written::Rows(m) => {
-                n += m;
-            }
-            Written::NonConvergent => {
-                return End::NonConvergent;
-            }
-            Written::ArithmeticOverflow => {
-                return End::ArithmeticOverflow;
-            }
+        match write_equality_rows(s, place + ROW * n, *joint, a, b) {
+            Ok(m) => n += m,
+            Err(error) => return ended_by(error),
         }
     }
     End::Done
 }
 
-// The mass response of a body at its rotation.
-fn mass_response(body: MomentumBody) -> MassAnswer
-    ensures { mass_as result ≡ mass_response body }
+// The mass response of a body at its rotation, if it is finite.
+#[tactic(auto, using(arith::specs::Literals::literals), unfolding(crate::specs::Bodies::mass_response, arith::specs::Flow::and_then))]
+fn mass_response(body: MomentumBody) -> Result<MassResponse, CollisionError>
+    ensures { result ≡ mass_response body }
 {
-    let turned = body.rotation.to_mat3();
-    let rotation = turned.matrix;
-    let inverse = body.inverse_inertia;
-    let angular = rotation.product(inverse).product(rotation.transpose());
+    let rotation = body
+        .rotation
+        .to_mat3()
+        .ok_or(CollisionError::ArithmeticOverflow)?;
+    let angular = rotation
+        .product(body.inverse_inertia)
+        .product(rotation.transpose());
     let linear = 1.0 / body.mass;
-    MassAnswer {
-        some: all_three(turned.some, angular.is_finite(), is_finite(linear)),
-        mass: MassResponse { linear, angular },
+    if !angular.is_finite() || !is_finite(linear) {
+        return Err(CollisionError::ArithmeticOverflow);
     }
-}
-
-fn all_three(a: bool, b: bool, c: bool) -> bool
-    ensures { result ≡ (a && b && c) }
-{
-    if a {
-        if b {
-            return c;
-        }
-    }
-    false
+    Ok(MassResponse { linear, angular })
 }
 
 fn prepare_mass(s: &mut [f64], k: usize, body: MomentumBody) -> End
     requires { (USED ≤ length s.old) × (k < BODIES_MOST) }
     ensures { Leaves (Out (MASSES + 10 * k) 10) s.old s.new result (λ u. mass_at u MASSES k) (mass_response body) }
 {
-    let answer = mass_response(body);
-    if !answer.some {
-        return End::ArithmeticOverflow;
-    }
-    let mass = answer.mass;
+    let mass = match mass_response(body) {
+        Ok(mass) => mass,
+        Err(error) => return ended_by(error),
+    };
     let angular = mass.angular;
     let x = angular.column(0);
     let y = angular.column(1);
@@ -179,15 +149,17 @@ fn prepare_masses(s: &mut [f64], body_count: usize, moved: bool) -> End
 }
 
 // A body kicked by its share, and drifted.
-fn kick_and_drift(body: MomentumBody, linear: Vec3, angular: Vec3, dt: f64) -> BodyAnswer
-    ensures { body_as result ≡ kick_and_drift dt body (record { linear = linear; angular = angular }) }
+#[tactic(auto, unfolding(arith::specs::Flow::and_then))]
+fn kick_and_drift(
+    body: MomentumBody,
+    linear: Vec3,
+    angular: Vec3,
+    dt: f64,
+) -> Result<MomentumBody, CollisionError>
+    ensures { result ≡ kick_and_drift dt body (record { linear = linear; angular = angular }) }
 {
-    let kicked = body.kick(linear, angular);
-    let outcome = kicked.outcome;
-    if !done(outcome) {
-        return kicked;
-    }
-    kicked.body.drift(dt)
+    let kicked = body.kick(linear, angular)?;
+    kicked.drift(dt)
 }
 
 // The candidates: each pass restarts from the starting bodies with the summed impulses.
@@ -198,12 +170,10 @@ fn move_bodies(s: &mut [f64], body_count: usize, dt: f64) -> End
 {
     for k in 0..body_count {
         let share = load_generalized(s, GENERALIZED, k);
-        let moved = kick_and_drift(load_start(s, k), share.linear, share.angular, dt);
-        let outcome = moved.outcome;
-        if !done(outcome) {
-            return outcome;
+        match kick_and_drift(load_start(s, k), share.linear, share.angular, dt) {
+            Ok(body) => store_candidate(s, k, body),
+            Err(error) => return ended_by(error),
         }
-        store_candidate(s, k, moved.body);
     }
     End::Done
 }
@@ -212,13 +182,7 @@ fn rows_met(s: &[f64], n: usize) -> bool
     requires { (USED ≤ length s.now) × (n ≤ ROWS_MOST) }
     ensures { (ia ib : List ℕ) → result ≡ rows_met (rows_on ia ib s.now ROWS n) }
 {
-    for k in 0..n {
-        let value = s[ROWS + ROW * k + VALUE];
-        if abs(value) <= s[ROWS + ROW * k + TOLERANCE] {} else {
-            return false;
-        }
-    }
-    true
+    (0..n).all(|k| abs(s[ROWS + ROW * k + VALUE]) <= s[ROWS + ROW * k + TOLERANCE])
 }
 
 fn fill_rhs(s: &mut [f64], dt: f64, n: usize)
@@ -245,16 +209,9 @@ pub(crate) fn add_impulses(s: &mut [f64], n: usize) -> End
 }
 
 // The first half: the candidates and their rows.
-fn candidate(
-    s: &mut [f64],
-    ia: &PerRow,
-    ib: &PerRow,
-    t: Table,
-    joints: [Joint; 16],
-    task: Task,
-) -> End
-    requires { (Ours s.old ia.now ib.now t) × (Joins joints task.count ia.now ib.now t) }
-    ensures { Finds s.old s.new ia.now ib.now t result (candidate_of (job_for joints task)) × (impulses_at s.new t ≡ impulses_at s.old t) }
+fn candidate(s: &mut [f64], ia: &PerRow, ib: &PerRow, t: Table, joints: &[Joint], task: Task) -> End
+    requires { (Ours s.old ia.now ib.now t) × (Joins joints.now (length joints.now) ia.now ib.now t) }
+    ensures { Finds s.old s.new ia.now ib.now t result (candidate_of (job_for joints.now task)) × (impulses_at s.new t ≡ impulses_at s.old t) }
 {
     let pushed = transpose(s, ia, ib, t, IMPULSES);
     if !done(pushed) {
@@ -264,7 +221,7 @@ fn candidate(
     if !done(moved) {
         return moved;
     }
-    write_rows(s, joints, task.count, ROWS, true)
+    write_rows(s, joints, ROWS, true)
 }
 
 // The candidates, and where their rows are not met the impulses for the next pass.
@@ -273,11 +230,11 @@ pub(crate) fn nonlinear_pass(
     ia: &PerRow,
     ib: &PerRow,
     t: Table,
-    joints: [Joint; 16],
+    joints: &[Joint],
     task: Task,
 ) -> Passed
-    requires { (Ours s.old ia.now ib.now t) × (Joins joints task.count ia.now ib.now t) }
-    ensures { Passes Nonlinear ia.now ib.now t s.old s.new (job_for joints task) result }
+    requires { (Ours s.old ia.now ib.now t) × (Joins joints.now (length joints.now) ia.now ib.now t) }
+    ensures { Passes Nonlinear ia.now ib.now t s.old s.new (job_for joints.now task) result }
 {
     let found = candidate(s, ia, ib, t, joints, task);
     if !done(found) {
@@ -299,10 +256,8 @@ fn make_states(s: &mut [f64], bodies: &[f64], body_count: usize) -> End
     for k in 0..body_count {
         let body = load_candidate(s, k);
         match body.state(load_state(bodies, RECORD * k)) {
-            StateAnswer::Value(state) => store_state(s, CANDIDATE + MOVING * k, state),
-            StateAnswer::ArithmeticOverflow => {
-                return End::ArithmeticOverflow;
-            }
+            Ok(state) => store_state(s, CANDIDATE + MOVING * k, state),
+            Err(error) => return ended_by(error),
         }
     }
     End::Done
@@ -315,11 +270,11 @@ fn finish_run(
     ib: &PerRow,
     t: Table,
     bodies: &[f64],
-    joints: [Joint; 16],
+    joints: &[Joint],
     task: Task,
 ) -> Ended
     requires { (Ours s.old ia.now ib.now (candidate_table t)) × (t.bodies ≤ count_of_bodies bodies.now) }
-    ensures { Finishes s.old s.new ia.now ib.now t result (finish_of (job_for joints task) (records_of bodies.now)) }
+    ensures { Finishes s.old s.new ia.now ib.now t result (finish_of (job_for joints.now task) (records_of bodies.now)) }
 {
     let weighed = prepare_masses(s, t.bodies, true);
     if !done(weighed) {
@@ -341,16 +296,16 @@ fn finish_run(
 }
 
 // What stands before the first pass: starting bodies, rows and masses.
-fn start(s: &mut [f64], bodies: &[f64], joints: [Joint; 16], task: Task) -> End
-    requires { (USED ≤ length s.old) × (Joined joints task.count (count_of_bodies bodies.now)) }
-    ensures { Starts s.old s.new bodies.now joints task result }
+fn start(s: &mut [f64], bodies: &[f64], joints: &[Joint]) -> End
+    requires { (USED ≤ length s.old) × (Joined joints.now (length joints.now) (count_of_bodies bodies.now)) }
+    ensures { Starts s.old s.new bodies.now joints.now result }
 {
     let body_count = bodies.len() / RECORD;
     let made = start_bodies(s, bodies, body_count);
     if !done(made) {
         return made;
     }
-    let written = write_rows(s, joints, task.count, START_ROWS, false);
+    let written = write_rows(s, joints, START_ROWS, false);
     if !done(written) {
         return written;
     }
@@ -358,20 +313,20 @@ fn start(s: &mut [f64], bodies: &[f64], joints: [Joint; 16], task: Task) -> End
 }
 
 // From the starting bodies to the states.
-pub(crate) fn run(bodies: &[f64], joints: [Joint; 16], count: usize, dt: f64, s: &mut [f64]) -> Ran
-    requires { (USED ≤ length s.old) × (Joined joints count (count_of_bodies bodies.now)) }
-    ensures { Does (Out 0 USED) s.old s.new (left_as result (states_at s.new (count_of_bodies bodies.now))) (run_for bodies.now joints count dt) }
+pub(crate) fn run(bodies: &[f64], joints: &[Joint], dt: f64, s: &mut [f64]) -> Ran
+    requires { (USED ≤ length s.old) × (Joined joints.now (length joints.now) (count_of_bodies bodies.now)) }
+    ensures { Does (Out 0 USED) s.old s.new (left_as result (states_at s.new (count_of_bodies bodies.now)))
+        (run_for bodies.now joints.now (length joints.now) dt) }
 {
     let body_count = bodies.len() / RECORD;
     let task = Task {
-        count,
         dt,
-        cyclic: body_count <= count,
+        cyclic: body_count <= joints.len(),
     };
     let mut ia = [0usize; 96];
     let mut ib = [0usize; 96];
-    let n = row_bodies(&mut ia, &mut ib, joints, count);
-    let started = start(s, bodies, joints, task);
+    let n = row_bodies(&mut ia, &mut ib, joints);
+    let started = start(s, bodies, joints);
     if !done(started) {
         return run_ended(started, 0, 0);
     }

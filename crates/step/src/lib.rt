@@ -8,7 +8,7 @@ pub mod layout;
 mod passes;
 mod velocity;
 
-ghost use Rattle.std.specs.Prelude.{◌≡◌, ◌%◌, ◌≤◌, length, replicate};
+ghost use Rattle.std.specs.Prelude.{◌≡◌, ◌%◌, ◌≤◌, length, replicate, Err};
 ghost use Rattle.arith.specs.Real.{ratio};
 ghost use Rattle.solves.specs.Answer.{ran_as};
 ghost use Rattle.solves.specs.Layout.{BODIES_MOST};
@@ -22,16 +22,15 @@ ghost use Rattle.step.specs.ConcludeView.{Concludes, Reports};
 ghost use Rattle.step.specs.Answered.{Answered};
 
 use crate::bodies::{in_ground, write_states};
-use crate::checks::{accepted, refusal};
+use crate::checks::refusal;
 use crate::integrator::run;
 use crate::layout::{RECORD, SCRATCH};
 use rows::geometry::{Joint, clear};
 use solves::End;
 
-// Accepted, or the refusal of SPECIFICATION §7, in its order.
-#[derive(Clone, Copy)]
-pub enum Outcome {
-    Accepted,
+// The refusals of SPECIFICATION §7, in its order.
+#[derive(Clone, Copy, Debug, PartialEq, Eq)]
+pub enum Refusal {
     TimeStep,
     Bodies,
     Joints,
@@ -46,37 +45,50 @@ pub enum Outcome {
     Ground,
 }
 
+impl Refusal {
+    // SPECIFICATION's number.
+    pub fn number(self) -> usize
+        ensures { result ≡ number_of (Err self) }
+    {
+        match self {
+            Refusal::TimeStep => 1,
+            Refusal::Bodies => 2,
+            Refusal::Joints => 3,
+            Refusal::Scratch => 4,
+            Refusal::NotFinite => 5,
+            Refusal::OutOfRange => 6,
+            Refusal::Inertia => 7,
+            Refusal::JointBodies => 8,
+            Refusal::JointNumbers => 9,
+            Refusal::NonConvergent => 10,
+            Refusal::ArithmeticOverflow => 11,
+            Refusal::Ground => 12,
+        }
+    }
+}
+
 // The answer with the nonlinear passes begun and the linear passes counted.
-#[derive(Drop)]
+#[derive(Clone, Copy, Debug, PartialEq, Eq)]
 pub struct Report {
-    pub outcome: Outcome,
+    pub outcome: Result<(), Refusal>,
     pub nonlinear: usize,
     pub linear: usize,
 }
 
-// SPECIFICATION's number of a refusal, and 0 for an accepted step.
-pub fn number(outcome: Outcome) -> usize
-    ensures { result ≡ number_of outcome }
-{
-    match outcome {
-        Outcome::Accepted => 0,
-        Outcome::TimeStep => 1,
-        Outcome::Bodies => 2,
-        Outcome::Joints => 3,
-        Outcome::Scratch => 4,
-        Outcome::NotFinite => 5,
-        Outcome::OutOfRange => 6,
-        Outcome::Inertia => 7,
-        Outcome::JointBodies => 8,
-        Outcome::JointNumbers => 9,
-        Outcome::NonConvergent => 10,
-        Outcome::ArithmeticOverflow => 11,
-        Outcome::Ground => 12,
+impl Report {
+    // The number of the refusal, and 0 for an accepted step.
+    pub fn number(self) -> usize
+        ensures { result ≡ number_of self.outcome }
+    {
+        match self.outcome {
+            Ok(()) => 0,
+            Err(refusal) => refusal.number(),
+        }
     }
 }
 
 // What the run's end is to the caller: its states are written where all stand on the plan's ground.
-fn conclude(bodies: &mut [f64], work: &[f64], body_count: usize, end: End) -> Outcome
+fn conclude(bodies: &mut [f64], work: &[f64], body_count: usize, end: End) -> Result<(), Refusal>
     requires { (length bodies.old % RECORD ≡ 0) × (body_count ≡ count_of_bodies bodies.old) × (USED ≤ length work.now) × (body_count ≤ BODIES_MOST) }
     ensures { Concludes bodies.old bodies.new result (ran_as end (states_at work.now body_count)) }
 {
@@ -84,30 +96,25 @@ fn conclude(bodies: &mut [f64], work: &[f64], body_count: usize, end: End) -> Ou
         End::Done => {
             if in_ground(work, body_count) {
                 write_states(bodies, work, body_count);
-                return Outcome::Accepted;
+                return Ok(());
             }
-            Outcome::Ground
+            Err(Refusal::Ground)
         }
-        End::NonConvergent => Outcome::NonConvergent,
-        End::ArithmeticOverflow => Outcome::ArithmeticOverflow,
+        End::NonConvergent => Err(Refusal::NonConvergent),
+        End::ArithmeticOverflow => Err(Refusal::ArithmeticOverflow),
     }
 }
 
 // The run on the doubles of scratch that a step asks for, which are zero afterwards.
-fn solve_in(
-    bodies: &mut [f64],
-    joints: [Joint; 16],
-    count: usize,
-    dt: f64,
-    work: &mut [f64],
-) -> Report
-    requires { (length work.old ≡ SCRATCH) × (length bodies.old % RECORD ≡ 0) × (Joined joints count (count_of_bodies bodies.old)) }
-    ensures { Reports bodies.new work.new result (concluded bodies.old (replicate SCRATCH (ratio 0 1)) (run_for bodies.old joints count dt)) }
+fn solve_in(bodies: &mut [f64], joints: &[Joint], dt: f64, work: &mut [f64]) -> Report
+    requires { (length work.old ≡ SCRATCH) × (length bodies.old % RECORD ≡ 0)
+        × (Joined joints.now (length joints.now) (count_of_bodies bodies.old)) }
+    ensures { Reports bodies.new work.new result
+        (concluded bodies.old (replicate SCRATCH (ratio 0 1)) (run_for bodies.old joints.now (length joints.now) dt)) }
 {
     let body_count = bodies.len() / RECORD;
-    let ran = run(bodies, joints, count, dt, work);
-    let end = ran.end;
-    let outcome = conclude(bodies, work, body_count, end);
+    let ran = run(bodies, joints, dt, work);
+    let outcome = conclude(bodies, work, body_count, ran.end);
     clear(work, 0, SCRATCH);
     Report {
         outcome,
@@ -116,22 +123,16 @@ fn solve_in(
     }
 }
 
-pub fn solve(
-    bodies: &mut [f64],
-    joints: [Joint; 16],
-    count: usize,
-    dt: f64,
-    scratch: &mut [f64],
-) -> Report
-    ensures { Answered bodies.old bodies.new joints count dt scratch.old scratch.new result }
+pub fn solve(bodies: &mut [f64], joints: &[Joint], dt: f64, scratch: &mut [f64]) -> Report
+    ensures { Answered bodies.old bodies.new joints.now (length joints.now) dt scratch.old scratch.new result }
 {
-    let outcome = refusal(bodies, joints, count, dt, scratch.len());
-    if !accepted(outcome) {
+    let outcome = refusal(bodies, joints, dt, scratch.len());
+    if outcome.is_err() {
         return Report {
             outcome,
             nonlinear: 0,
             linear: 0,
         };
     }
-    solve_in(bodies, joints, count, dt, &mut scratch[..SCRATCH])
+    solve_in(bodies, joints, dt, &mut scratch[..SCRATCH])
 }

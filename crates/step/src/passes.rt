@@ -1,6 +1,6 @@
 // What a run is about (`Task`), how a pass, a loop and the run end, and what both stages share: the second half of a pass (`correct`)
 // and the loop (`stage_loop`). The passes, which call `correct` and are called by the loop, are in integrator.rt and velocity.rt.
-ghost use Rattle.std.specs.Prelude.{◌≡◌, ◌≤◌};
+ghost use Rattle.std.specs.Prelude.{◌≡◌, ◌≤◌, length};
 ghost use Rattle.solves.specs.View.{solution_on};
 ghost use Rattle.step.specs.RunView.{passed_after, job_for, Ours, Besides, Outside, given_at, make_at};
 ghost use Rattle.step.specs.Says.{Leaves, Corrects, Passes, Loops};
@@ -18,10 +18,9 @@ pub(crate) enum Stage {
     Velocity,
 }
 
-// The definition's Job without its joints: how many there are, the time step, and whether there are at least as many as bodies.
+// The definition's Job without its joints: the time step, and whether there are at least as many joints as bodies.
 #[derive(Clone, Copy)]
 pub(crate) struct Task {
-    pub count: usize,
     pub dt: f64,
     pub cyclic: bool,
 }
@@ -123,12 +122,12 @@ fn stage_pass(
     ia: &PerRow,
     ib: &PerRow,
     t: Table,
-    joints: [Joint; 16],
+    joints: &[Joint],
     task: Task,
     stage: Stage,
 ) -> Passed
-    requires { (Ours s.old ia.now ib.now t) × (Besides stage joints task.count ia.now ib.now t) }
-    ensures { Passes stage ia.now ib.now t s.old s.new (job_for joints task) result }
+    requires { (Ours s.old ia.now ib.now t) × (Besides stage joints.now (length joints.now) ia.now ib.now t) }
+    ensures { Passes stage ia.now ib.now t s.old s.new (job_for joints.now task) result }
 {
     match stage {
         Stage::Nonlinear => nonlinear_pass(s, ia, ib, t, joints, task),
@@ -142,13 +141,13 @@ pub(crate) fn stage_loop(
     ia: &PerRow,
     ib: &PerRow,
     t: Table,
-    joints: [Joint; 16],
+    joints: &[Joint],
     task: Task,
     stage: Stage,
     most: usize,
 ) -> Looped
-    requires { (Ours s.old ia.now ib.now t) × (Besides stage joints task.count ia.now ib.now t) × (most ≤ 32) }
-    ensures { Loops stage ia.now ib.now t s.old s.new (job_for joints task) most result }
+    requires { (Ours s.old ia.now ib.now t) × (Besides stage joints.now (length joints.now) ia.now ib.now t) × (most ≤ 32) }
+    ensures { Loops stage ia.now ib.now t s.old s.new (job_for joints.now task) most result }
 {
     let mut linear = 0;
     for k in 0..most {

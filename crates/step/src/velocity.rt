@@ -2,7 +2,6 @@
 ghost use Rattle.std.specs.Prelude.{◌≡◌, List, ◌≤◌, ◌<◌, length};
 ghost use Rattle.rows.specs.View.{Out};
 ghost use Rattle.solves.specs.Region.{vec_at};
-ghost use Rattle.solves.specs.Answer.{sum_as};
 ghost use Rattle.solves.specs.View.{RHS, GENERALIZED, Beside, system_in, solution_on, shares_in};
 ghost use Rattle.solves.specs.Layout.{ROWS_MOST, BODIES_MOST};
 ghost use Rattle.rows.specs.declared.geometry.Joint.{Joint};
@@ -15,14 +14,16 @@ ghost use Rattle.step.specs.Says.{Leaves, Passes};
 
 use crate::bodies::{load_candidate, store_candidate};
 use crate::passes::{Passed, Stage, Task, correct, pass_ended};
+use arith::fault::CollisionError;
 use arith::number::{abs, is_finite};
 use rows::body::MomentumBody;
+use rows::ended_by;
 use rows::geometry::EqualityRow;
 use solves::layout::{GENERALIZED, RHS, SOLUTION};
 use solves::operator::transpose;
 use solves::places::{load_generalized, load_row};
-use solves::{End, Pass, PerRow, Sum, Table, done};
-use vectors::vector::{OptionVec3, Vec3};
+use solves::{End, Pass, PerRow, Table, done};
+use vectors::vector::Vec3;
 
 // The number of no body: there are at most 16.
 const NO_BODY: usize = 16;
@@ -32,7 +33,7 @@ const NO_BODY: usize = 16;
 pub(crate) struct Motion {
     pub body: usize,
     pub linear: Vec3,
-    pub angular: OptionVec3,
+    pub angular: Result<Vec3, CollisionError>,
 }
 
 fn no_motion() -> Motion
@@ -41,7 +42,7 @@ fn no_motion() -> Motion
     Motion {
         body: NO_BODY,
         linear: Vec3::ZERO,
-        angular: OptionVec3::None,
+        angular: Err(CollisionError::ArithmeticOverflow),
     }
 }
 
@@ -69,25 +70,19 @@ fn motion_again(s: &[f64], k: usize, last: Motion) -> Motion
 }
 
 // The rate of a row, from the motions of its bodies.
-fn velocity(row: EqualityRow, a: Motion, b: Motion) -> Sum
-    ensures { (x y : MomentumBody) → MotionOf x a → MotionOf y b → sum_as result ≡ velocity_of row x y }
+fn velocity(row: EqualityRow, a: Motion, b: Motion) -> Result<f64, CollisionError>
+    ensures { (x y : MomentumBody) → MotionOf x a → MotionOf y b → result ≡ velocity_of row x y }
 {
-    let turned_a = a.angular;
-    let OptionVec3::Some(wa) = turned_a else {
-        return Sum::ArithmeticOverflow;
-    };
-    let turned_b = b.angular;
-    let OptionVec3::Some(wb) = turned_b else {
-        return Sum::ArithmeticOverflow;
-    };
+    let wa = a.angular?;
+    let wb = b.angular?;
     let value = row.linear_a.dot(a.linear)
         + row.angular_a.dot(wa)
         + row.linear_b.dot(b.linear)
         + row.angular_b.dot(wb);
-    if is_finite(value) {
-        return Sum::Value(value);
+    if !is_finite(value) {
+        return Err(CollisionError::ArithmeticOverflow);
     }
-    Sum::ArithmeticOverflow
+    Ok(value)
 }
 
 fn velocity_rhs(s: &mut [f64], ia: &PerRow, ib: &PerRow, t: Table) -> End
@@ -101,10 +96,10 @@ fn velocity_rhs(s: &mut [f64], ia: &PerRow, ib: &PerRow, t: Table) -> End
         let row = load_row(s, ia, ib, t.place, k);
         a = motion_again(s, row.a, a);
         b = motion_again(s, row.b, b);
-        let Sum::Value(value) = velocity(row, a, b) else {
-            return End::ArithmeticOverflow;
-        };
-        s[RHS + k] = -value;
+        match velocity(row, a, b) {
+            Ok(value) => s[RHS + k] = -value,
+            Err(error) => return ended_by(error),
+        }
     }
     End::Done
 }
@@ -113,12 +108,7 @@ fn compatible(s: &[f64], n: usize) -> bool
     requires { (USED ≤ length s.now) × (n ≤ ROWS_MOST) }
     ensures { result ≡ compatible_of (vec_at s.now RHS n) }
 {
-    for k in 0..n {
-        if abs(s[RHS + k]) <= 1.0e-12 {} else {
-            return false;
-        }
-    }
-    true
+    (0..n).all(|k| abs(s[RHS + k]) <= 1.0e-12)
 }
 
 fn kick_candidates(s: &mut [f64], body_count: usize) -> End
@@ -128,12 +118,10 @@ fn kick_candidates(s: &mut [f64], body_count: usize) -> End
 {
     for k in 0..body_count {
         let share = load_generalized(s, GENERALIZED, k);
-        let kicked = load_candidate(s, k).kick(share.linear, share.angular);
-        let outcome = kicked.outcome;
-        if !done(outcome) {
-            return outcome;
+        match load_candidate(s, k).kick(share.linear, share.angular) {
+            Ok(body) => store_candidate(s, k, body),
+            Err(error) => return ended_by(error),
         }
-        store_candidate(s, k, kicked.body);
     }
     End::Done
 }

@@ -1,2 +1,2 @@
--- Readings: the laws that the proofs of this crate's functions cite.
+-- Readings: one more read of a reading, over plain values.
 pub mod Readings

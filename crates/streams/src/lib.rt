@@ -1,165 +1,118 @@
-// Reading an input until it ends, with a failed read told from the end of the input, and a line, on standard error in the
-// programs, where something could not be done.
+// Reading an input until it ends, with a failed read told from the end of the input.
 #![tactic(auto)]
 
-ghost use Rattle.std.specs.Prelude.{◌+◌, ◌≤◌, ◌<◌, ◌≡◌, ◌^◌, IfOk, length, replicate};
-ghost use Rattle.std.proofs.Math.Seq.{paste};
-ghost use Rattle.streams.specs.Receive.{answer_of, got_of, bytes_in, is_failed, Reads, Receives};
+ghost use Rattle.std.specs.Prelude.{◌≡◌, MatchResult, length, replicate, drop};
+ghost use Rattle.std.specs.Io.{ReadsAtMost};
+ghost use Rattle.std.specs.Io.KnownBytes.{ReadConsumes};
+ghost use Rattle.streams.specs.Receive.{Receives};
 
 use std::io;
 
-// What one read met: it failed, the input had ended, or so many bytes came.
-#[derive(Clone, Copy)]
-pub enum Got {
-    Failed,
-    Ended,
-    Bytes(usize),
-}
-
-// One read: its answer, and what that says.
-#[derive(Drop)]
-struct Read {
-    answer: isize,
-    got: Got,
-}
-
-// How many bytes came in all, what the last read met, and that read's answer, which says so: how many bytes it brought, or −1
-// where it failed. Where it met neither failure nor the end, the buffer is full. That `answer` is what the read answered, the
-// contract does not say: it names nothing of a read that is over.
-#[derive(Clone, Copy)]
-pub struct Received {
+// A read failed with this error, when so many bytes had come.
+#[derive(Debug, Drop)]
+pub struct Unread {
     pub count: usize,
-    pub last: Got,
-    pub answer: isize,
+    pub error: io::Error,
 }
 
-// The first bytes of an input, and how they came. Those behind `got.count` are 0.
-#[derive(Clone, Copy)]
+// The first bytes of an input, and what `read_all` answered. Those behind the ones that came are 0.
+#[derive(Drop)]
 pub struct Input {
     pub bytes: [u8; 8192],
-    pub got: Received,
+    pub got: Result<usize, Unread>,
 }
 
 // The first 8,192 bytes of an input.
 pub fn receive<R: io::Read>(from: &mut R) -> Input
-    ensures { Receives (replicate 8192 0) result.bytes result.got }
+    ensures { Receives (replicate 8192 0) result.bytes (R.remaining from.old) (R.remaining from.new) result.got }
 {
     let mut bytes = [0u8; 8192];
     let got = read_all(from, &mut bytes);
     Input { bytes, got }
 }
 
-// Reads until the buffer is full, the input ends or a read fails. Into a buffer with no room nothing is read: `last` is
-// `Bytes(0)`, and `answer` is 0.
-pub fn read_all<R: io::Read>(from: &mut R, buffer: &mut [u8]) -> Received
-    ensures { Receives buffer.old buffer.new result }
+// Reads until the buffer is full, the input ends or a read fails, and answers how many bytes came: fewer than the buffer
+// holds only where the input ended. Into a buffer with no room nothing is read.
+pub fn read_all<R: io::Read>(from: &mut R, buffer: &mut [u8]) -> Result<usize, Unread>
+    ensures receives { Receives buffer.old buffer.new (R.remaining from.old) (R.remaining from.new) result }
+    ensures none { length buffer.old ≡ 0 → from.new ≡ from.old }
 {
-    let mut space = [0u8; 4096];
-    let chunk: &mut [u8] = &mut space;
     let mut count = 0;
-    let mut last = Got::Bytes(0);
-    let mut answer = 0;
     while count < buffer.len() {
-        let read = read_to(from, buffer, count, chunk);
-        last = read.got;
-        answer = read.answer;
-        let n = bytes(last);
-        if n == 0 {
-            return Received {
-                count,
-                last,
-                answer,
-            };
+        match read_some(from, &mut buffer[count..]) {
+            Ok(0) => return Ok(count),
+            Ok(n) => count += n,
+            Err(error) => return Err(Unread { count, error }),
         }
-        count += n;
     }
-    Received {
-        count,
-        last,
-        answer,
-    }
+    Ok(count)
 }
 
-// One read into the buffer from `at` on. It goes by way of `chunk`, so that no byte of the buffer changes but those that
-// came.
-fn read_to<R: io::Read>(from: &mut R, buffer: &mut [u8], at: usize, chunk: &mut [u8]) -> Read
-    requires { (at < length buffer.old) × (0 < length chunk.old) }
-    ensures { Reads buffer.old at buffer.new result }
+// One read. It goes by way of a chunk: a reader may write behind the bytes that it brings, and no byte of the buffer is to
+// change but those.
+fn read_some<R: io::Read>(from: &mut R, buffer: &mut [u8]) -> io::Result<usize>
+    ensures bound { ReadsAtMost result buffer.new }
+    ensures bytes { ReadConsumes (R.remaining from.old) (R.remaining from.new) result buffer.new }
+    ensures rest { MatchResult result (λ n. drop n buffer.new ≡ drop n buffer.old) (λ _. buffer.new ≡ buffer.old) }
 {
-    let n = least(buffer.len() - at, chunk.len());
-    let answer = answered(from.read(&mut chunk[..n]));
-    let got = met(answer);
-    copy(chunk, bytes(got), buffer, at);
-    Read { answer, got }
+    let mut chunk = [0u8; 4096];
+    let most = buffer.len().min(chunk.len());
+    let n = from.read(&mut chunk[..most])?;
+    buffer[..n].copy_from_slice(&chunk[..n]);
+    Ok(n)
 }
 
-// A read's answer as one number: how many bytes it brought, or −1 where it failed.
-fn answered(read: io::Result<usize>) -> isize
-    requires { IfOk read (λ n. n < 2 ^ 63) }
-    ensures { result ≡ answer_of read }
-{
-    match read {
-        Ok(n) => n as isize,
-        Err(_) => -1,
+#[cfg(test)]
+mod tests {
+    use super::*;
+    use std::io::{ErrorKind, Read};
+
+    // Each of its reads fails.
+    #[derive(Drop)]
+    struct Broken;
+
+    impl Read for Broken {
+        fn read(&mut self, _: &mut [u8]) -> io::Result<usize> {
+            Err(io::Error::from(ErrorKind::ConnectionReset))
+        }
     }
-}
 
-// What a read's answer says.
-fn met(answer: isize) -> Got
-    ensures { result ≡ got_of answer }
-{
-    if answer > 0 {
-        let n = answer as usize;
-        return Got::Bytes(n);
+    #[test]
+    fn the_end_after_two_reads(rt: HostRuntime) {
+        let mut from = b"abc".as_slice().chain(b"de".as_slice());
+        let mut buffer = [b'.'; 8];
+        assert!(rt; matches!(read_all(&mut from, &mut buffer), Ok(5)));
+        assert_eq!(rt; buffer.as_slice(), b"abcde...".as_slice());
     }
-    if answer < 0 {
-        return Got::Failed;
+
+    #[test]
+    fn a_failure_in_mid_stream(rt: HostRuntime) {
+        let mut from = b"abc".as_slice().chain(b"de".as_slice()).chain(Broken);
+        let mut buffer = [b'.'; 8];
+        let Err(unread) = read_all(&mut from, &mut buffer) else {
+            panic!(rt; "the failed read was taken for the end");
+        };
+        assert_eq!(rt; unread.count, 5);
+        assert_eq!(rt; unread.error.kind(), ErrorKind::ConnectionReset);
+        assert_eq!(rt; buffer.as_slice(), b"abcde...".as_slice());
     }
-    Got::Ended
-}
 
-fn bytes(got: Got) -> usize
-    ensures { result ≡ bytes_in got }
-{
-    match got {
-        Got::Failed => 0,
-        Got::Ended => 0,
-        Got::Bytes(n) => n,
+    // A full buffer is not read on, so the failure behind it is not met.
+    #[test]
+    fn a_failure_behind_what_is_read(rt: HostRuntime) {
+        let mut from = b"abcde".as_slice().chain(Broken);
+        let mut buffer = [b'.'; 5];
+        assert!(rt; matches!(read_all(&mut from, &mut buffer), Ok(5)));
+        assert!(rt; matches!(read_all(&mut Broken, &mut []), Ok(0)));
     }
-}
 
-pub fn failed(got: Got) -> bool
-    ensures { result ≡ is_failed got }
-{
-    match got {
-        Got::Failed => true,
-        Got::Ended => false,
-        Got::Bytes(_) => false,
-    }
-}
-
-// The first `n` bytes of `from`, into `to` at `at`.
-fn copy(from: &[u8], n: usize, to: &mut [u8], at: usize)
-    requires { (n ≤ length from.now) × (at + n ≤ length to.old) }
-    ensures { to.new ≡ paste to.old at from.now n }
-{
-    let mut i = 0;
-    while i < n {
-        to[at + i] = from[i];
-        i += 1;
-    }
-}
-
-fn least(a: usize, b: usize) -> usize
-    ensures { (result ≤ a) × (result ≤ b) }
-{
-    if a < b { a } else { b }
-}
-
-// A line to `to`, which is standard error in the programs. Where that fails too, nothing is left to be done, so no promise is
-// made of what `to` then holds.
-pub fn complain<W: io::Write>(to: &mut W, line: &[u8]) {
-    match to.write_all(line) {
-        _ => {}
+    // More than one chunk brings.
+    #[test]
+    fn a_long_input(rt: HostRuntime) {
+        let mut from = io::repeat(7).take(8191);
+        let input = receive(&mut from);
+        assert!(rt; matches!(input.got, Ok(8191)));
+        assert!(rt; input.bytes[..8191].iter().all(|byte| *byte == 7));
+        assert_eq!(rt; input.bytes[8191], 0);
     }
 }

@@ -1,4 +1,3 @@
--- The laws that the proofs of this crate's functions cite: ways through a function, and a field's list of lists.
-pub mod Rows
-pub mod Ways
-pub mod MatrixWays
+-- Laws that the proofs of this crate's functions cite: one test that three doubles are finite, and one factor for three columns.
+pub mod FiniteSum
+pub mod Once

@@ -1,8 +1,8 @@
 -- matrix.rs: matrices of three columns of three doubles, their Cholesky factor, and the inverse of solver_mass.rs.
-use Rattle.std.specs.Prelude.{ℕ, ◌+◌, ◌^◌, List, [], ◌∷◌, Bool, cond, not, ◌&&◌, ◌||◌, true, false, Float, get_or, set, eqb}
+use Rattle.std.specs.Prelude.{ℕ, ◌+◌, ◌^◌, List, [], ◌∷◌, Bool, cond, not, ◌&&◌, ◌||◌, Float, get_or, set, eqb}
 use Rattle.vectors.specs.Words.{nan, binary64, eq, lt, ◌⊕◌}
-use Rattle.vectors.specs.Words.{◌⊖◌, ◌⊗◌, ◌⊘◌, ratio, is_finite, abs_of, max_of, sqrt, Turn, go, stop, turns, loop, Vec3, Mat3, CholeskyOutcome, Done}
-use Rattle.vectors.specs.Words.{NonFiniteInput, NotSymmetric, NotPositiveDefinite, ResultOutOfRange, Cholesky3, Factored, Solved, Inverted}
+use Rattle.vectors.specs.Words.{◌⊖◌, ◌⊗◌, ◌⊘◌, ratio, is_finite, abs_of, max_of, sqrt, Turn, go, stop, ◌>>=◌, turns, loop, return_if, Vec3, Mat3, CholeskyError}
+use Rattle.vectors.specs.Words.{NonFiniteInput, NotSymmetric, NotPositiveDefinite, ResultOutOfRange, Cholesky3}
 use Rattle.vectors.specs.Vector.{vec, zero_vec, axis_x, axis_y, axis_z, add_of, scale_of, div_of, finite_of}
 
 abbrev pub Cells : Type 0  -- Three lists of three doubles: columns or rows.
@@ -66,35 +66,30 @@ correction_of lower row column = turns (λ k sum. sum ⊕ cell lower row k ⊗ c
 abbrev pub above_zero : Float → Bool
 above_zero x = is_finite x && lt (ratio 0 1) x
 
-abbrev pub entered : Cells → ℕ → ℕ → Float → Turn Cells Cells  -- `stop lower` where a pivot is not finite and above 0, with the entries until then
+abbrev pub entered : Cells → ℕ → ℕ → Float → Turn Cells CholeskyError  -- a pivot that is not finite and above 0 is refused
 entered lower row column value =
     cond (eqb row column)
-    (cond (above_zero value) (go (put lower row column (sqrt binary64 value))) (stop lower))
+    (cond (above_zero value) (go (put lower row column (sqrt binary64 value))) (stop NotPositiveDefinite))
     (go (put lower row column (value ⊘ cell lower column column)))
 
-unfoldable pub entry_of : Cells → ℕ → ℕ → Cells → Turn Cells Cells
+unfoldable pub entry_of : Cells → ℕ → ℕ → Cells → Turn Cells CholeskyError
 entry_of n row column lower = entered lower row column (cell n row column ⊖ correction_of lower row column)
 
-unfoldable pub factor_row_of : Cells → ℕ → Cells → Turn Cells Cells  -- for column in 0..=row
+unfoldable pub factor_row_of : Cells → ℕ → Cells → Turn Cells CholeskyError  -- for column in 0..=row
 factor_row_of n row lower = loop (row + 1) (entry_of n row) lower
 
-unfoldable pub factor_of : Cells → Cells → Turn Cells Cells  -- for row in 0..3
+unfoldable pub factor_of : Cells → Cells → Turn Cells CholeskyError  -- for row in 0..3
 factor_of n lower = loop 3 (factor_row_of n) lower
 
-abbrev pub unfactored : CholeskyOutcome → Factored
-unfactored o = record { outcome = o; factor = record { lower = zero_mat; scale = ratio 0 1 } }
-
-abbrev pub factored_with : Float → Turn Cells Cells → Factored  -- the factor's rows, held as a matrix
-factored_with scale (go lower) = record { outcome = Done; factor = record { lower = mat_of (transposed lower); scale = scale } }
-factored_with scale (stop lower) = unfactored NotPositiveDefinite
-
-unfoldable pub factor_spd_of : Mat3 → Factored
-factor_spd_of m =
-    let scale = mat_largest_of m in let normalized = divided (transposed m.columns) scale in
-    cond (not (finite_mat m)) (unfactored NonFiniteInput)
-    (cond (eq scale (ratio 0 1)) (unfactored NotPositiveDefinite)
-    (cond (not_symmetric normalized) (unfactored NotSymmetric)
-    (factored_with scale (factor_of normalized zero_mat.columns))))
+unfoldable pub factor_spd_of : Mat3 → Turn Cholesky3 CholeskyError
+factor_spd_of m = do
+  let scale = mat_largest_of m
+  let normalized = divided (transposed m.columns) scale
+  _ ← return_if (not (finite_mat m)) NonFiniteInput
+  _ ← return_if (eq scale (ratio 0 1)) NotPositiveDefinite
+  _ ← return_if (not_symmetric normalized) NotSymmetric
+  lower ← factor_of normalized zero_mat.columns
+  go (record { lower = mat_of (transposed lower); scale = scale })
 
 abbrev pub forward_of : Cells → Vec3 → Vec3  -- solve, for row in 0..3: value -= lower[row][column] * intermediate[column]
 forward_of l v =
@@ -106,36 +101,27 @@ backward_of l v =
     let z = v.z ⊘ cell l 2 2 in let y = (v.y ⊖ cell l 2 1 ⊗ z) ⊘ cell l 1 1 in
     vec ((v.x ⊖ cell l 1 0 ⊗ y ⊖ cell l 2 0 ⊗ z) ⊘ cell l 0 0) y z
 
-abbrev pub unsolved : CholeskyOutcome → Solved
-unsolved o = record { outcome = o; solution = zero_vec }
+unfoldable pub factor_solve_of : Cholesky3 → Vec3 → Turn Vec3 CholeskyError
+factor_solve_of factor rhs = do
+  let normalized = div_of rhs factor.scale
+  let lower = transposed factor.lower.columns
+  let solution = backward_of lower (forward_of lower normalized)
+  _ ← return_if (not (finite_of rhs)) NonFiniteInput
+  _ ← return_if (not (finite_of normalized)) ResultOutOfRange
+  _ ← return_if (not (finite_of solution)) ResultOutOfRange
+  go solution
 
-unfoldable pub factor_solve_of : Cholesky3 → Vec3 → Solved
-factor_solve_of factor rhs =
-    let normalized = div_of rhs factor.scale in let lower = transposed factor.lower.columns in
-    let solution = backward_of lower (forward_of lower normalized) in
-    cond (not (finite_of rhs)) (unsolved NonFiniteInput)
-    (cond (not (finite_of normalized)) (unsolved ResultOutOfRange)
-    (cond (not (finite_of solution)) (unsolved ResultOutOfRange)
-    (record { outcome = Done; solution = solution })))
+unfoldable pub solve_spd_of : Mat3 → Vec3 → Turn Vec3 CholeskyError  -- self.factor_spd()?.solve(rhs)
+solve_spd_of m rhs = factor_spd_of m >>= λ factor. factor_solve_of factor rhs
 
-abbrev pub done : CholeskyOutcome → Bool
-done outcome = elim outcome [ Done ↦ true | NonFiniteInput ↦ false | NotSymmetric ↦ false | NotPositiveDefinite ↦ false | ResultOutOfRange ↦ false ]
+unfoldable pub inverse_by : (Vec3 → Turn Vec3 CholeskyError) → Turn Mat3 CholeskyError  -- solver_mass.rs: a column for each axis
+inverse_by solve = do
+  x ← solve axis_x
+  y ← solve axis_y
+  z ← solve axis_z
+  let inverse = from_cols x y z
+  _ ← return_if (not (finite_mat inverse)) ResultOutOfRange
+  go inverse
 
-abbrev pub solved_by : Factored → Vec3 → Solved  -- factored?.solve(rhs)
-solved_by factored rhs = cond (done factored.outcome) (factor_solve_of factored.factor rhs) (unsolved factored.outcome)
-
-unfoldable pub solve_spd_of : Mat3 → Vec3 → Solved
-solve_spd_of m rhs = solved_by (factor_spd_of m) rhs
-
-abbrev pub uninverted : CholeskyOutcome → Inverted  -- solver_mass.rs
-uninverted o = record { outcome = o; inverse = zero_mat }
-
-unfoldable pub inverse_spd_of : Mat3 → Inverted
-inverse_spd_of m =
-    let x = solve_spd_of m axis_x in let y = solve_spd_of m axis_y in let z = solve_spd_of m axis_z in
-    let inverse = from_cols x.solution y.solution z.solution in
-    cond (not (done x.outcome)) (uninverted x.outcome)
-    (cond (not (done y.outcome)) (uninverted y.outcome)
-    (cond (not (done z.outcome)) (uninverted z.outcome)
-    (cond (not (finite_mat inverse)) (uninverted ResultOutOfRange)
-    (record { outcome = Done; inverse = inverse }))))
+unfoldable pub inverse_spd_of : Mat3 → Turn Mat3 CholeskyError
+inverse_spd_of m = inverse_by (solve_spd_of m)

@@ -1,7 +1,8 @@
 -- vector.rs: vectors of three doubles, by component, sums from the left.
+use Rattle.std.specs.Prelude.{Option, Some, None}
 use Rattle.std.specs.Prelude.{ℕ, ◌+◌, List, Bool, cond, not, ◌&&◌, ◌||◌, Float, get_or}
 use Rattle.vectors.specs.Words.{nan, neg, eq, ◌⊕◌, ◌⊖◌, ◌⊗◌, ◌⊘◌, ratio, is_finite, abs_of, max_of}
-use Rattle.vectors.specs.Words.{hypot_of, Vec3, OptionVec3, OptionF64}
+use Rattle.vectors.specs.Words.{hypot_of, Vec3}
 
 abbrev pub vec : Float → Float → Float → Vec3
 vec x y z = record { x = x; y = y; z = z }
@@ -55,16 +56,16 @@ abbrev pub largest_of : Vec3 → Float  -- the largest magnitude of a component
 largest_of v = max_of (max_of (abs_of v.x) (abs_of v.y)) (abs_of v.z)
 
 -- try_normalize, of vectors and of quaternions: divided by the largest magnitude, then by the length of that; nothing for zero and what is not finite
-unfoldable pub normalize_by : {A O : Type 0} → (A → Bool) → (A → Float) → (A → Float → A) → (A → Float) → O → (A → O) → A → O
-normalize_by finite largest div length none some v =
+unfoldable pub normalize_by : {A : Type 0} → (A → Bool) → (A → Float) → (A → Float → A) → (A → Float) → A → Option A
+normalize_by finite largest div length v =
     let scale = largest v in let scaled = div v scale in let len = length scaled in
-    cond (not (finite v)) none
-    (cond (eq scale (ratio 0 1)) none
-    (cond (not (is_finite len) || eq len (ratio 0 1)) none
-    (some (div scaled len))))
+    cond (not (finite v)) None
+    (cond (eq scale (ratio 0 1)) None
+    (cond (not (is_finite len) || eq len (ratio 0 1)) None
+    (Some (div scaled len))))
 
-abbrev pub try_normalize_of : Vec3 → OptionVec3
-try_normalize_of v = normalize_by finite_of largest_of div_of length_of OptionVec3.None OptionVec3.Some v
+abbrev pub try_normalize_of : Vec3 → Option Vec3
+try_normalize_of v = normalize_by finite_of largest_of div_of length_of v
 
-unfoldable pub checked_length_of : Vec3 → OptionF64
-checked_length_of v = cond (is_finite (length_of v)) (OptionF64.Some (length_of v)) OptionF64.None
+unfoldable pub checked_length_of : Vec3 → Option Float
+checked_length_of v = cond (is_finite (length_of v)) (Some (length_of v)) None

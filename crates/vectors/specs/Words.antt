@@ -4,18 +4,12 @@ pub use Rattle.arith.specs.Real.{◌⊕◌, ◌⊖◌, ◌⊗◌, ◌⊘◌, rat
 pub use Rattle.arith.specs.Hypot.{hypot_of}
 pub use Rattle.arith.specs.Root.{sqrt}
 pub use Rattle.arith.specs.Flow.{Turn, go, stop, ◌>>=◌, turns, loop, return_if}
-pub use Rattle.arith.specs.declared.angle.SinCos.{SinCos}
+pub use Rattle.arith.specs.declared.angle.SineCosine.{SineCosine}
+pub use Rattle.arith.specs.declared.fault.CollisionError.{CollisionError}
 pub use Rattle.arith.specs.Angle.{PI, sin_cos_of, atan2_of, rem_tau_of}
 pub use Rattle.vectors.specs.declared.vector.Vec3.{Vec3}
-pub use Rattle.vectors.specs.declared.vector.OptionVec3.{OptionVec3}
-pub use Rattle.vectors.specs.declared.vector.OptionF64.{OptionF64}
 pub use Rattle.vectors.specs.declared.matrix.Mat3.{Mat3}
-pub use Rattle.vectors.specs.declared.matrix.CholeskyOutcome.{CholeskyOutcome}
-pub use Rattle.vectors.specs.declared.matrix.CholeskyOutcome.TheVariants.{Done, NonFiniteInput, NotSymmetric, NotPositiveDefinite, ResultOutOfRange}
+pub use Rattle.vectors.specs.declared.matrix.CholeskyError.{CholeskyError}
+pub use Rattle.vectors.specs.declared.matrix.CholeskyError.TheVariants.{NonFiniteInput, NotSymmetric, NotPositiveDefinite, ResultOutOfRange}
 pub use Rattle.vectors.specs.declared.matrix.Cholesky3.{Cholesky3}
-pub use Rattle.vectors.specs.declared.matrix.Factored.{Factored}
-pub use Rattle.vectors.specs.declared.matrix.Solved.{Solved}
-pub use Rattle.vectors.specs.declared.matrix.Inverted.{Inverted}
 pub use Rattle.vectors.specs.declared.quaternion.Quat.{Quat}
-pub use Rattle.vectors.specs.declared.quaternion.OptionQuat.{OptionQuat}
-pub use Rattle.vectors.specs.declared.quaternion.OptionMat3.{OptionMat3}

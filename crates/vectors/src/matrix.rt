@@ -2,11 +2,11 @@
 // it; every other function is over them.
 ghost use Rattle.std.specs.Prelude.{◌≡◌, not, ◌<◌, min};
 ghost use Rattle.vectors.specs.Matrix as Matrix;
-ghost use Rattle.vectors.specs.Matrix.{mat_of, zero_mat, from_cols, transposed, transpose_of, finite_mat, apply_of, mat_product_of};
-ghost use Rattle.vectors.specs.Matrix.{solved_by, factor_spd_of, mat_largest_of, column_of, factor_solve_of, not_symmetric, correction_of};
+ghost use Rattle.vectors.specs.Matrix.{mat_of, from_cols, transposed, transpose_of, finite_mat, apply_of, mat_product_of};
+ghost use Rattle.vectors.specs.Matrix.{factor_spd_of, mat_largest_of, column_of, factor_solve_of, not_symmetric, correction_of};
 ghost use Rattle.vectors.specs.Matrix.{above_zero, entry_of, factor_row_of, factor_of, forward_of, backward_of};
-ghost use Rattle.vectors.specs.Answered.{ran_of};
-ghost use Rattle.vectors.specs.Matrix.{inverse_spd_of};
+ghost use Rattle.arith.specs.Flow.{leaving};
+ghost use Rattle.vectors.specs.Matrix.{inverse_by, inverse_spd_of};
 
 use crate::vector::Vec3;
 use arith::number::{abs, is_finite, max};
@@ -20,10 +20,9 @@ pub struct Mat3 {
     pub columns: [[f64; 3]; 3],
 }
 
-// How a factorization or a solve ends: `Done`, or the Rust's error.
-#[derive(Clone, Copy)]
-pub enum CholeskyOutcome {
-    Done,
+// Why there is no factor, or no solution.
+#[derive(Clone, Copy, Debug, PartialEq, Eq)]
+pub enum CholeskyError {
     NonFiniteInput,
     NotSymmetric,
     NotPositiveDefinite,
@@ -37,26 +36,11 @@ struct Cholesky3 {
     pub scale: f64,
 }
 
-// The outcome stands beside the value, which is zero unless the outcome is `Done`.
-#[derive(Clone, Copy)]
-struct Factored {
-    pub outcome: CholeskyOutcome,
-    pub factor: Cholesky3,
-}
-
-#[derive(Drop)]
-struct Solved {
-    pub outcome: CholeskyOutcome,
-    pub solution: Vec3,
-}
-
-#[derive(Drop)]
-pub struct Inverted {
-    pub outcome: CholeskyOutcome,
-    pub inverse: Mat3,
-}
-
 impl Mat3 {
+    pub const ZERO: Mat3 = Mat3 {
+        columns: [[0.0; 3]; 3],
+    };
+
     pub(crate) fn new(columns: [[f64; 3]; 3]) -> Mat3
         ensures { result ≡ mat_of columns }
     {
@@ -67,12 +51,6 @@ impl Mat3 {
         ensures { result ≡ self.columns }
     {
         self.columns
-    }
-
-    pub(crate) fn zero() -> Mat3
-        ensures { result ≡ zero_mat }
-    {
-        Mat3::new([[0.0; 3]; 3])
     }
 
     pub fn from_cols(x: Vec3, y: Vec3, z: Vec3) -> Mat3
@@ -121,12 +99,7 @@ impl Mat3 {
     pub fn is_finite(self) -> bool
         ensures { result ≡ finite_mat self }
     {
-        if self.column(0).is_finite() {
-            if self.column(1).is_finite() {
-                return self.column(2).is_finite();
-            }
-        }
-        false
+        self.column(0).is_finite() && self.column(1).is_finite() && self.column(2).is_finite()
     }
 
     // The columns times the components, summed from the left.
@@ -141,6 +114,7 @@ impl Mat3 {
         }
     }
 
+    #[tactic(auto, unfolding(crate::specs::Matrix::mat_product_of))]
     pub fn product(self, rhs: Mat3) -> Mat3
         ensures { result ≡ mat_product_of self rhs }
     {
@@ -153,34 +127,31 @@ impl Mat3 {
 
     // The factor of a finite matrix that is positive definite and, once divided by its largest magnitude, symmetric within
     // 32 epsilon.
-    fn factor_spd(self) -> Factored
+    #[tactic(auto, using(arith::specs::Literals::literals), unfolding(crate::specs::Matrix::factor_spd_of, arith::specs::Flow::and_then))]
+    fn factor_spd(self) -> Result<Cholesky3, CholeskyError>
         ensures { result ≡ factor_spd_of self }
     {
         if !self.is_finite() {
-            return unfactored(CholeskyOutcome::NonFiniteInput);
+            return Err(CholeskyError::NonFiniteInput);
         }
         let scale = self.largest();
         if scale == 0.0 {
-            return unfactored(CholeskyOutcome::NotPositiveDefinite);
+            return Err(CholeskyError::NotPositiveDefinite);
         }
         let normalized = divided(self.to_rows(), scale);
         if !symmetric(&normalized) {
-            return unfactored(CholeskyOutcome::NotSymmetric);
+            return Err(CholeskyError::NotSymmetric);
         }
         let mut lower = [[0.0; 3]; 3];
-        if factor(&normalized, &mut lower) {
-            return Factored {
-                outcome: CholeskyOutcome::Done,
-                factor: Cholesky3 {
-                    lower: Mat3::from_rows(lower),
-                    scale,
-                },
-            };
-        }
-        unfactored(CholeskyOutcome::NotPositiveDefinite)
+        factor(&normalized, &mut lower)?;
+        Ok(Cholesky3 {
+            lower: Mat3::from_rows(lower),
+            scale,
+        })
     }
 
     // The largest magnitude, from +0, column by column.
+    #[tactic(auto, using(arith::specs::Literals::literals))]
     fn largest(self) -> f64
         ensures { result ≡ mat_largest_of self }
     {
@@ -190,61 +161,40 @@ impl Mat3 {
     }
 }
 
-impl Factored {
-    // What is left of the Rust's `solve_spd` once the matrix is factored.
-    fn solve(self, rhs: Vec3) -> Solved
-        ensures { result ≡ solved_by self rhs }
-    {
-        let outcome = self.outcome;
-        if done(outcome) {
-            return self.factor.solve(rhs);
-        }
-        unsolved(outcome)
-    }
-}
-
 impl Cholesky3 {
     // Forward and back substitution.
-    fn solve(self, rhs: Vec3) -> Solved
+    #[tactic(auto, unfolding(crate::specs::Matrix::factor_solve_of, arith::specs::Flow::and_then))]
+    fn solve(self, rhs: Vec3) -> Result<Vec3, CholeskyError>
         ensures { result ≡ factor_solve_of self rhs }
     {
         if !rhs.is_finite() {
-            return unsolved(CholeskyOutcome::NonFiniteInput);
+            return Err(CholeskyError::NonFiniteInput);
         }
         let normalized_rhs = rhs.div(self.scale);
         if !normalized_rhs.is_finite() {
-            return unsolved(CholeskyOutcome::ResultOutOfRange);
+            return Err(CholeskyError::ResultOutOfRange);
         }
         let lower = self.lower.to_rows();
         let solution = backward(&lower, forward(&lower, normalized_rhs));
-        if solution.is_finite() {
-            return Solved {
-                outcome: CholeskyOutcome::Done,
-                solution,
-            };
+        if !solution.is_finite() {
+            return Err(CholeskyError::ResultOutOfRange);
         }
-        unsolved(CholeskyOutcome::ResultOutOfRange)
+        Ok(solution)
     }
-}
 
-fn unfactored(outcome: CholeskyOutcome) -> Factored
-    ensures { result ≡ Matrix.unfactored outcome }
-{
-    Factored {
-        outcome,
-        factor: Cholesky3 {
-            lower: Mat3::zero(),
-            scale: 0.0,
-        },
-    }
-}
-
-fn unsolved(outcome: CholeskyOutcome) -> Solved
-    ensures { result ≡ Matrix.unsolved outcome }
-{
-    Solved {
-        outcome,
-        solution: Vec3::ZERO,
+    // The inverse of the factored matrix, column by column.
+    #[tactic(auto, using(arith::specs::Literals::literals), unfolding(crate::specs::Matrix::inverse_by, arith::specs::Flow::and_then))]
+    fn inverse(self) -> Result<Mat3, CholeskyError>
+        ensures { result ≡ inverse_by (factor_solve_of self) }
+    {
+        let x = self.solve(Vec3::X)?;
+        let y = self.solve(Vec3::Y)?;
+        let z = self.solve(Vec3::Z)?;
+        let inverse = Mat3::from_cols(x, y, z);
+        if !inverse.is_finite() {
+            return Err(CholeskyError::ResultOutOfRange);
+        }
+        Ok(inverse)
     }
 }
 
@@ -276,6 +226,7 @@ fn divided(rows: [[f64; 3]; 3], scale: f64) -> [[f64; 3]; 3]
 }
 
 // Whether two mirrored numbers differ by more than 32 epsilon.
+#[tactic(auto, using(arith::specs::Literals::literals))]
 fn uneven(a: f64, b: f64) -> bool
     ensures { result ≡ Matrix.uneven a b }
 {
@@ -285,16 +236,11 @@ fn uneven(a: f64, b: f64) -> bool
 fn symmetric(n: &[[f64; 3]; 3]) -> bool
     ensures { result ≡ not (not_symmetric n.now) }
 {
-    if uneven(n[1][0], n[0][1]) {
-        return false;
-    }
-    if uneven(n[2][0], n[0][2]) {
-        return false;
-    }
-    !uneven(n[2][1], n[1][2])
+    !uneven(n[1][0], n[0][1]) && !uneven(n[2][0], n[0][2]) && !uneven(n[2][1], n[1][2])
 }
 
 // The products of the entries before `column` of two rows of the factor, summed from +0.
+#[tactic(auto, using(arith::specs::Literals::literals), unfolding(crate::specs::Matrix::correction_of))]
 fn correction(lower: &[[f64; 3]; 3], row: usize, column: usize) -> f64
     requires { (row < 3) × (column < 3) }
     ensures { result ≡ correction_of lower.now row column }
@@ -306,54 +252,54 @@ fn correction(lower: &[[f64; 3]; 3], row: usize, column: usize) -> f64
     total
 }
 
+#[tactic(auto, using(arith::specs::Literals::literals))]
 fn above_zero(x: f64) -> bool
     ensures { result ≡ above_zero x }
 {
-    if is_finite(x) {
-        return x > 0.0;
-    }
-    false
+    is_finite(x) && x > 0.0
 }
 
-// One entry of the factor, after those before it. False for a pivot that is not finite and above 0.
-fn enter(n: &[[f64; 3]; 3], lower: &mut [[f64; 3]; 3], row: usize, column: usize) -> bool
+// One entry of the factor, after those before it. A pivot that is not finite and above 0 is refused.
+#[tactic(auto, unfolding(crate::specs::Matrix::entry_of))]
+fn enter(
+    n: &[[f64; 3]; 3],
+    lower: &mut [[f64; 3]; 3],
+    row: usize,
+    column: usize,
+) -> Result<(), CholeskyError>
     requires { (row < 3) × (column < 3) }
-    ensures { ran_of result lower.new ≡ entry_of n.now row column lower.old }
+    ensures { leaving result lower.new ≡ entry_of n.now row column lower.old }
 {
     let value = n[row][column] - correction(lower, row, column);
-    if row == column {
-        if above_zero(value) {
-            lower[row][column] = sqrt(value);
-            return true;
-        }
-        return false;
+    if row != column {
+        lower[row][column] = value / lower[column][column];
+        return Ok(());
     }
-    lower[row][column] = value / lower[column][column];
-    true
+    if !above_zero(value) {
+        return Err(CholeskyError::NotPositiveDefinite);
+    }
+    lower[row][column] = sqrt(value);
+    Ok(())
 }
 
-fn factor_row(n: &[[f64; 3]; 3], lower: &mut [[f64; 3]; 3], row: usize) -> bool
+fn factor_row(n: &[[f64; 3]; 3], lower: &mut [[f64; 3]; 3], row: usize) -> Result<(), CholeskyError>
     requires { row < 3 }
-    ensures { ran_of result lower.new ≡ factor_row_of n.now row lower.old }
+    ensures { leaving result lower.new ≡ factor_row_of n.now row lower.old }
 {
     for column in 0..row + 1 {
-        if !enter(n, lower, row, column) {
-            return false;
-        }
+        enter(n, lower, row, column)?;
     }
-    true
+    Ok(())
 }
 
-// The lower factor of the rows n, row by row. False where a pivot is not above 0.
-fn factor(n: &[[f64; 3]; 3], lower: &mut [[f64; 3]; 3]) -> bool
-    ensures { ran_of result lower.new ≡ factor_of n.now lower.old }
+// The lower factor of the rows n, row by row.
+fn factor(n: &[[f64; 3]; 3], lower: &mut [[f64; 3]; 3]) -> Result<(), CholeskyError>
+    ensures { leaving result lower.new ≡ factor_of n.now lower.old }
 {
     for row in 0..3usize {
-        if !factor_row(n, lower, row) {
-            return false;
-        }
+        factor_row(n, lower, row)?;
     }
-    true
+    Ok(())
 }
 
 fn forward(l: &[[f64; 3]; 3], v: Vec3) -> Vec3
@@ -374,54 +320,11 @@ fn backward(l: &[[f64; 3]; 3], v: Vec3) -> Vec3
     Vec3 { x, y, z }
 }
 
-// The inverse of a symmetric positive definite matrix, column by column. The Rust factors the matrix for each column; once
-// does, since the factor is the same.
-pub fn inverse_spd(matrix: Mat3) -> Inverted
+// The inverse of a symmetric positive definite matrix. The Rust factors the matrix for each column; once does, since the factor
+// is the same.
+#[tactic(auto, using(crate::proofs::Once::unfactored, crate::proofs::Once::factored))]
+pub fn inverse_spd(matrix: Mat3) -> Result<Mat3, CholeskyError>
     ensures { result ≡ inverse_spd_of matrix }
 {
-    let factored = matrix.factor_spd();
-    let x = factored.solve(Vec3::X);
-    let outcome = x.outcome;
-    if !done(outcome) {
-        return uninverted(outcome);
-    }
-    let y = factored.solve(Vec3::Y);
-    let outcome = y.outcome;
-    if !done(outcome) {
-        return uninverted(outcome);
-    }
-    let z = factored.solve(Vec3::Z);
-    let outcome = z.outcome;
-    if !done(outcome) {
-        return uninverted(outcome);
-    }
-    let inverse = Mat3::from_cols(x.solution, y.solution, z.solution);
-    if inverse.is_finite() {
-        return Inverted {
-            outcome: CholeskyOutcome::Done,
-            inverse,
-        };
-    }
-    uninverted(CholeskyOutcome::ResultOutOfRange)
-}
-
-fn done(outcome: CholeskyOutcome) -> bool
-    ensures { result ≡ Matrix.done outcome }
-{
-    match outcome {
-        CholeskyOutcome::Done => true,
-        CholeskyOutcome::NonFiniteInput => false,
-        CholeskyOutcome::NotSymmetric => false,
-        CholeskyOutcome::NotPositiveDefinite => false,
-        CholeskyOutcome::ResultOutOfRange => false,
-    }
-}
-
-fn uninverted(outcome: CholeskyOutcome) -> Inverted
-    ensures { result ≡ Matrix.uninverted outcome }
-{
-    Inverted {
-        outcome,
-        inverse: Mat3::zero(),
-    }
+    matrix.factor_spd()?.inverse()
 }

@@ -7,33 +7,21 @@ ghost use Rattle.vectors.specs.Answered.{rotate_as_unit_of, integrate_as_unit_of
 ghost use Rattle.vectors.specs.Quaternion.{delta_in, delta_of, small_turn};
 
 use crate::matrix::Mat3;
-use crate::vector::{OptionVec3, Vec3};
-use arith::angle::{SinCos, sin_cos};
+use crate::normal::{Normal, normalize};
+use crate::vector::Vec3;
+use arith::angle::sin_cos;
 use arith::number::{abs, is_finite, max};
 use arith::root::hypot;
 
 // 2^-44: how far the squares of a rotation may sum from 1.
 const ROTATION_TOLERANCE: f64 = 5.684341886080802e-14;
 
-#[derive(Clone, Copy)]
+#[derive(Clone, Copy, PartialEq)]
 pub struct Quat {
     pub x: f64,
     pub y: f64,
     pub z: f64,
     pub w: f64,
-}
-
-#[derive(Drop)]
-pub enum OptionQuat {
-    Some(Quat),
-    None,
-}
-
-// The flag stands beside the matrix, which is zero where there is none.
-#[derive(Drop)]
-pub struct OptionMat3 {
-    pub some: bool,
-    pub matrix: Mat3,
 }
 
 impl Quat {
@@ -65,65 +53,14 @@ impl Quat {
         self.x * self.x + self.y * self.y + self.z * self.z + self.w * self.w
     }
 
-    fn length(self) -> f64
-        ensures { result ≡ quat_length_of self }
-    {
-        hypot(hypot(hypot(self.x, self.y), self.z), self.w)
-    }
-
-    fn div(self, k: f64) -> Quat
-        ensures { result ≡ quat_div_of self k }
-    {
-        Quat {
-            x: self.x / k,
-            y: self.y / k,
-            z: self.z / k,
-            w: self.w / k,
-        }
-    }
-
-    pub fn try_normalize(self) -> OptionQuat
+    pub fn try_normalize(self) -> Option<Quat>
         ensures { result ≡ quat_try_normalize_of self }
     {
-        if !self.is_finite() {
-            return OptionQuat::None;
-        }
-        let scale = self.largest();
-        if scale == 0.0 {
-            return OptionQuat::None;
-        }
-        let scaled = self.div(scale);
-        let length = scaled.length();
-        if !is_finite(length) {
-            return OptionQuat::None;
-        }
-        if length == 0.0 {
-            return OptionQuat::None;
-        }
-        OptionQuat::Some(scaled.div(length))
-    }
-
-    // The largest magnitude of a component.
-    fn largest(self) -> f64
-        ensures { result ≡ quat_largest_of self }
-    {
-        max(max(max(abs(self.x), abs(self.y)), abs(self.z)), abs(self.w))
-    }
-
-    fn is_finite(self) -> bool
-        ensures { result ≡ quat_finite_of self }
-    {
-        if is_finite(self.x) {
-            if is_finite(self.y) {
-                if is_finite(self.z) {
-                    return is_finite(self.w);
-                }
-            }
-        }
-        false
+        normalize(self)
     }
 
     // Refusal 6's test of a rotation. It stands in for the test of the length in the Rust.
+    #[tactic(auto, using(arith::specs::Literals::literals), unfolding(crate::specs::Quaternion::is_normalized_of))]
     pub fn is_normalized(self) -> bool
         ensures { result ≡ is_normalized_of self }
     {
@@ -134,40 +71,40 @@ impl Quat {
     }
 
     // The vector turned, or nothing where an argument does not serve or the result overflows.
-    pub fn rotate_vector(self, vector: Vec3) -> OptionVec3
+    #[tactic(auto, unfolding(crate::specs::Quaternion::rotate_vector_of))]
+    pub fn rotate_vector(self, vector: Vec3) -> Option<Vec3>
         ensures { result ≡ rotate_vector_of self vector }
     {
         if !vector.is_finite() {
-            return OptionVec3::None;
+            return None;
         }
-        match self.try_normalize() {
-            OptionQuat::Some(rotation) => rotation.rotated(vector),
-            OptionQuat::None => OptionVec3::None,
-        }
+        self.try_normalize()?.rotated(vector)
     }
 
     // `rotate_vector` of every quaternion that normalizes to self. Who turns several vectors normalizes once.
-    pub fn rotate_as_unit(self, vector: Vec3) -> OptionVec3
+    #[tactic(auto, unfolding(crate::specs::Answered::rotate_as_unit_of))]
+    pub fn rotate_as_unit(self, vector: Vec3) -> Option<Vec3>
         ensures { result ≡ rotate_as_unit_of self vector }
     {
         if vector.is_finite() {
             return self.rotated(vector);
         }
-        OptionVec3::None
+        None
     }
 
     // A finite vector turned by a quaternion already normalized, unless that overflows.
-    fn rotated(self, vector: Vec3) -> OptionVec3
+    fn rotated(self, vector: Vec3) -> Option<Vec3>
         ensures { result ≡ rotated_of self vector }
     {
         let rotated = self.turned(vector);
         if rotated.is_finite() {
-            return OptionVec3::Some(rotated);
+            return Some(rotated);
         }
-        OptionVec3::None
+        None
     }
 
     // v + (u × v) (2 w) + (u × (u × v)) 2, for a quaternion already normalized.
+    #[tactic(auto, using(arith::specs::Literals::literals))]
     fn turned(self, vector: Vec3) -> Vec3
         ensures { result ≡ turned_of self vector }
     {
@@ -179,22 +116,15 @@ impl Quat {
     }
 
     // The matrix of the same rotation.
-    pub fn to_mat3(self) -> OptionMat3
+    #[tactic(auto, unfolding(crate::specs::Quaternion::to_mat3_of))]
+    pub fn to_mat3(self) -> Option<Mat3>
         ensures { result ≡ to_mat3_of self }
     {
-        let OptionQuat::Some(rotation) = self.try_normalize() else {
-            return OptionMat3 {
-                some: false,
-                matrix: Mat3::zero(),
-            };
-        };
-        OptionMat3 {
-            some: true,
-            matrix: rotation.columns(),
-        }
+        Some(self.try_normalize()?.columns())
     }
 
     // The matrix of a quaternion already normalized.
+    #[tactic(auto, using(arith::specs::Literals::literals))]
     fn columns(self) -> Mat3
         ensures { result ≡ columns_of self }
     {
@@ -223,49 +153,74 @@ impl Quat {
 
     // This rotation after `angular_velocity` of the world has turned it for the time dt: the Rust's
     // `integrate_world_angular_velocity`, of every quaternion that normalizes to self.
-    pub fn integrate_as_unit(self, angular_velocity: Vec3, dt: f64) -> OptionQuat
+    #[tactic(auto, unfolding(crate::specs::Answered::integrate_as_unit_of))]
+    pub fn integrate_as_unit(self, angular_velocity: Vec3, dt: f64) -> Option<Quat>
         ensures { result ≡ integrate_as_unit_of self angular_velocity dt }
     {
-        match turn_in(angular_velocity, dt) {
-            OptionQuat::Some(delta) => delta.product(self).try_normalize(),
-            OptionQuat::None => OptionQuat::None,
+        turn_in(angular_velocity, dt)?.product(self).try_normalize()
+    }
+}
+
+impl Normal for Quat {
+    ghost finite = { quat_finite_of };
+
+    ghost largest_in = { quat_largest_of };
+
+    ghost divided = { quat_div_of };
+
+    ghost length_in = { quat_length_of };
+
+    fn is_finite(self) -> bool {
+        is_finite(self.x) && is_finite(self.y) && is_finite(self.z) && is_finite(self.w)
+    }
+
+    fn largest(self) -> f64 {
+        max(max(max(abs(self.x), abs(self.y)), abs(self.z)), abs(self.w))
+    }
+
+    fn div(self, k: f64) -> Quat {
+        Quat {
+            x: self.x / k,
+            y: self.y / k,
+            z: self.z / k,
+            w: self.w / k,
         }
+    }
+
+    fn length(self) -> f64 {
+        hypot(hypot(hypot(self.x, self.y), self.z), self.w)
     }
 }
 
 // The turn that an angular velocity makes in the time dt.
-fn turn_in(angular_velocity: Vec3, dt: f64) -> OptionQuat
+fn turn_in(angular_velocity: Vec3, dt: f64) -> Option<Quat>
     ensures { result ≡ delta_in angular_velocity dt }
 {
-    if !angular_velocity.is_finite() {
-        return OptionQuat::None;
-    }
-    if !is_finite(dt) {
-        return OptionQuat::None;
+    if !angular_velocity.is_finite() || !is_finite(dt) {
+        return None;
     }
     turn_of(angular_velocity.scale(dt))
 }
 
 // The turn about a rotation vector by its length. Nothing where that is not finite, or where half of
 // it is above 4 (the half angle rule).
-fn turn_of(rotation_vector: Vec3) -> OptionQuat
+#[tactic(auto, using(arith::specs::Literals::literals), unfolding(crate::specs::Quaternion::delta_of))]
+fn turn_of(rotation_vector: Vec3) -> Option<Quat>
     ensures { result ≡ delta_of rotation_vector }
 {
     if !rotation_vector.is_finite() {
-        return OptionQuat::None;
+        return None;
     }
     let angle = rotation_vector.length();
     if !is_finite(angle) {
-        return OptionQuat::None;
+        return None;
     }
     if angle < 1.0e-8 {
-        return OptionQuat::Some(small_turn(rotation_vector, angle));
+        return Some(small_turn(rotation_vector, angle));
     }
-    let SinCos::Value(turn) = sin_cos(angle * 0.5) else {
-        return OptionQuat::None;
-    };
+    let turn = sin_cos(angle * 0.5).ok()?;
     let axis = rotation_vector.div(angle);
-    OptionQuat::Some(Quat {
+    Some(Quat {
         x: axis.x * turn.s,
         y: axis.y * turn.s,
         z: axis.z * turn.s,
@@ -274,6 +229,7 @@ fn turn_of(rotation_vector: Vec3) -> OptionQuat
 }
 
 // Below 1e-8 radians no sine is taken.
+#[tactic(auto, using(arith::specs::Literals::literals))]
 fn small_turn(rotation_vector: Vec3, angle: f64) -> Quat
     ensures { result ≡ small_turn rotation_vector angle }
 {

@@ -3,26 +3,15 @@ ghost use Rattle.std.specs.Prelude.{◌≡◌};
 ghost use Rattle.vectors.specs.Vector.{vec, dot_of, cross_of, length_of, largest_of, try_normalize_of, finite_of, checked_length_of};
 ghost use Rattle.vectors.specs.Vector.{add_of, sub_of, scale_of, div_of, neg_of};
 
+use crate::normal::{Normal, normalize};
 use arith::number::{abs, is_finite, max};
 use arith::root::hypot;
 
-#[derive(Clone, Copy)]
+#[derive(Clone, Copy, PartialEq)]
 pub struct Vec3 {
     pub x: f64,
     pub y: f64,
     pub z: f64,
-}
-
-#[derive(Clone, Copy)]
-pub enum OptionVec3 {
-    Some(Vec3),
-    None,
-}
-
-#[derive(Drop)]
-pub enum OptionF64 {
-    Some(f64),
-    None,
 }
 
 impl Vec3 {
@@ -78,58 +67,30 @@ impl Vec3 {
         self.dot(self)
     }
 
-    // The Euclidean length; infinite where a hypotenuse overflows.
-    pub(crate) fn length(self) -> f64
-        ensures { result ≡ length_of self }
-    {
-        hypot(hypot(self.x, self.y), self.z)
-    }
-
-    // The unit vector of the same direction, or nothing for zero and for what is not finite. Scaling
-    // before the norm keeps it from overflow and underflow.
-    pub fn try_normalize(self) -> OptionVec3
+    // The unit vector of the same direction, or nothing for zero and for what is not finite.
+    pub fn try_normalize(self) -> Option<Vec3>
         ensures { result ≡ try_normalize_of self }
     {
-        if !self.is_finite() {
-            return OptionVec3::None;
-        }
-        let scale = self.largest();
-        if scale == 0.0 {
-            return OptionVec3::None;
-        }
-        let scaled = self.div(scale);
-        let length = scaled.length();
-        if !is_finite(length) {
-            return OptionVec3::None;
-        }
-        if length == 0.0 {
-            return OptionVec3::None;
-        }
-        OptionVec3::Some(scaled.div(length))
-    }
-
-    // The largest magnitude of a component.
-    fn largest(self) -> f64
-        ensures { result ≡ largest_of self }
-    {
-        max(max(abs(self.x), abs(self.y)), abs(self.z))
+        normalize(self)
     }
 
     // x - x is +0 for a finite x, else a NaN, which a sum keeps. So one test does, and no branch.
+    #[tactic(auto, using(crate::proofs::FiniteSum::finite_sum))]
     pub fn is_finite(self) -> bool
         ensures { result ≡ finite_of self }
     {
         (self.x - self.x) + (self.y - self.y) + (self.z - self.z) == 0.0
     }
 
-    pub fn checked_length(self) -> OptionF64
+    #[tactic(auto, unfolding(crate::specs::Vector::checked_length_of))]
+    pub fn checked_length(self) -> Option<f64>
         ensures { result ≡ checked_length_of self }
     {
         let result = self.length();
         if is_finite(result) {
-            return OptionF64::Some(result);
+            return Some(result);
         }
-        OptionF64::None
+        None
     }
 
     pub fn add(self, rhs: Vec3) -> Vec3
@@ -180,5 +141,31 @@ impl Vec3 {
             y: -self.y,
             z: -self.z,
         }
+    }
+}
+
+impl Normal for Vec3 {
+    ghost finite = { finite_of };
+
+    ghost largest_in = { largest_of };
+
+    ghost divided = { div_of };
+
+    ghost length_in = { length_of };
+
+    fn is_finite(self) -> bool {
+        Vec3::is_finite(self)
+    }
+
+    fn largest(self) -> f64 {
+        max(max(abs(self.x), abs(self.y)), abs(self.z))
+    }
+
+    fn div(self, k: f64) -> Vec3 {
+        Vec3::div(self, k)
+    }
+
+    fn length(self) -> f64 {
+        hypot(hypot(self.x, self.y), self.z)
     }
 }

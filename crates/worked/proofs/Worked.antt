@@ -3,7 +3,7 @@
 use Prim.Native.Nat.{ℕ, ◌^◌, ◌≤◌}
 use mathlib.Core.Path.{◌≡◌, refl, ap, ◌∙◌}
 use mathlib.Core.List.{List, [], ◌∷◌, ◌++◌, map}
-use mathlib.Core.Bool.{Bool, cond, not}
+use mathlib.Core.Bool.{Bool, not}
 use borrow.Author.Tests.{le-ltb}
 use lib.Dec.{ltb}
 use lib.ListN.{length}
@@ -12,12 +12,13 @@ use Rattle.arith.specs.Real.{F, ratio, is_finite, abs_of}
 use Rattle.arith.specs.Root.{root_in, root, round_root, sqrt}
 use Rattle.arith.specs.Hypot.{scaled_root, hypot_of}
 use Rattle.arith.specs.Angle.{factorial, horner, sine_sum, cosine_sum, sums_at, doubled, halved_of, sin_cos_of}
-use Rattle.arith.specs.Flow.{◌>>=◌, turns, loop, tab, every}
+use Rattle.arith.specs.Flow.{Turn, go, stop, and_then, ◌>>=◌, return_if, turns, loop, tab, every}
 use Rattle.arith.specs.Run as Run
 use Rattle.vectors.specs.declared.quaternion.Quat.{Quat}
 use Rattle.vectors.specs.Vector.{zero_vec, normalize_by, checked_length_of}
 use Rattle.vectors.specs.Matrix as Matrix
-use Rattle.vectors.specs.Matrix.{triple, mat_product_of, correction_of, entry_of, factor_row_of, factor_of, factor_spd_of, solve_spd_of, inverse_spd_of}
+use Rattle.vectors.specs.Matrix.{triple, mat_product_of, correction_of, entry_of, factor_row_of, factor_of, factor_spd_of}
+use Rattle.vectors.specs.Matrix.{solve_spd_of, inverse_by, inverse_spd_of}
 use Rattle.vectors.specs.Quaternion.{quat, is_normalized_of, rotate_vector_of, to_mat3_of, delta_of, integrate_of}
 use Rattle.rows.specs.declared.geometry.Kind.{Kind}
 use Rattle.rows.specs.declared.geometry.Kind.TheVariants.{Hinge, Distance}
@@ -27,14 +28,14 @@ use Rattle.rows.specs.Body.{world_center_of_mass_of, new_of, inverse_angular_mas
 use Rattle.rows.specs.Geometry.{ends_of, tolerance_of, distance_row, linear_row, linear_rows, aligned_of, align_rows, frame_rows, write_equality_rows}
 use Rattle.solves.specs.Solver.{dot, pushed, push_into, push_row, transpose, scaled, rate, operator, through, cross_end, cross_mass, difference, within}
 use Rattle.solves.specs.Solver.{tolerance_for}
-use Rattle.solves.specs.Path.{begins, path_starts, add_edge, block_edges, path_edges, neighbor, follows, next_block, walk_turn, walk, is_end, walk_from}
-use Rattle.solves.specs.Path.{path_walks, path_order, reduced, scale_at, path_entry, path_row, path_factor, path_factored, forward_sum, backward_sum, forward}
-use Rattle.solves.specs.Path.{backward_turn, backward, refine}
+use Rattle.solves.specs.Path.{note_row, path_blocks, with_block, add_edge, block_edges, path_edges, other_block, neighbor, follows, next_block, visit}
+use Rattle.solves.specs.Path.{walk_turn, walk, is_end, walk_from, path_walks, path_order, reduced, scale_at, path_entry, path_row, path_factor}
+use Rattle.solves.specs.Path.{path_factored, forward_sum, backward_sum, forward, backward_turn, backward, refine}
 use Rattle.solves.specs.System.{side_of}
 use Rattle.solves.specs.Search.{refinement, path_along, choose, solve_by, linear_solve}
-use Rattle.step.specs.declared.Outcome.{Outcome}
-use Rattle.step.specs.declared.Outcome.TheVariants.{Accepted, TimeStep, Bodies, Joints, Scratch, NonConvergent, ArithmeticOverflow, Ground}
-use Rattle.step.specs.Checks.{is_accepted, time_step_ok, bodies_fit, sizes_or, bodies_or, joints_or, refusal_of}
+use Rattle.step.specs.declared.Refusal.{Refusal}
+use Rattle.step.specs.declared.Refusal.TheVariants.{TimeStep, Bodies, Joints, Scratch, NonConvergent, ArithmeticOverflow, Ground}
+use Rattle.step.specs.Checks.{time_step_ok, bodies_fit, sizes_or, bodies_or, joints_or, refusal_of}
 use Rattle.step.specs.Records.{SCRATCH, count_of_bodies}
 use Rattle.step.specs.Bodies.{start_bodies, write_rows, mass_response, prepare_masses, start_of, move_bodies, rows_met, rhs_of, add_impulses, candidate_of}
 use Rattle.step.specs.Bodies.{velocity_of, velocity_rhs, compatible_of, kick_bodies, reaction_of, states_of}
@@ -47,7 +48,7 @@ record Plan : Type 0 where
   dt : Float
 
 -- With any scratch that is long enough the plan's step gives this answer, these counts and these bodies, and the scratch is cleared.
-abbrev Works : Plan → Outcome → ℕ → ℕ → List Float → Type 0
+abbrev Works : Plan → Turn (Unit {0}) Refusal → ℕ → ℕ → List Float → Type 0
 Works plan outcome nonlinear linear bodies =
     (scratch : List Float) → SCRATCH ≤ length scratch →
     solve_of plan.bodies plan.joints (length plan.joints) plan.dt scratch
@@ -55,12 +56,12 @@ Works plan outcome nonlinear linear bodies =
 
 -- ---- what is computed, with no scratch in it: the refusals for one of 6,144 doubles, and the run's end for any
 -- All that is met on the way unfolds, from the step down to the arithmetic.
-refusal : Plan → Outcome
+refusal : Plan → Turn (Unit {0}) Refusal
 unfolding refusal_of sizes_or bodies_or joints_or
     is_normalized_of
-    correction_of entry_of factor_row_of factor_of factor_spd_of Matrix.factor_solve_of solve_spd_of inverse_spd_of
+    correction_of entry_of factor_row_of factor_of factor_spd_of Matrix.factor_solve_of solve_spd_of inverse_by inverse_spd_of
     sqrt round_root root root_in
-    ◌>>=◌ turns loop every is_finite abs_of add sub mul div neg lt le eq round
+    and_then turns loop every is_finite abs_of add sub mul div neg lt le eq round
 refusal plan = refusal_of plan.bodies plan.joints (length plan.joints) plan.dt SCRATCH
 
 ended : Plan → List Float → Stepped
@@ -68,17 +69,18 @@ unfolding start_bodies write_rows mass_response prepare_masses start_of move_bod
     velocity_of velocity_rhs compatible_of kick_bodies reaction_of states_of
     nonlinear_pass nonlinear_loop velocity_pass velocity_loop finish_of run_of grounded hand_back
     dot pushed push_into push_row transpose scaled rate operator through cross_end cross_mass difference within tolerance_for
-    begins path_starts add_edge block_edges path_edges neighbor follows next_block walk_turn walk is_end walk_from path_walks path_order
+    note_row path_blocks with_block add_edge block_edges path_edges other_block neighbor follows next_block
+    visit walk_turn walk is_end walk_from path_walks path_order
     reduced scale_at path_entry path_row path_factor path_factored forward_sum backward_sum forward backward_turn backward refine
     side_of refinement path_along choose solve_by linear_solve
     ends_of tolerance_of distance_row linear_row linear_rows aligned_of align_rows frame_rows write_equality_rows
     world_center_of_mass_of new_of inverse_angular_mass_of kick_of anchor_of pass_of drift_of origin_of state_of try_finite
     is_normalized_of rotate_vector_of to_mat3_of delta_of integrate_of
-    mat_product_of correction_of entry_of factor_row_of factor_of factor_spd_of Matrix.factor_solve_of solve_spd_of inverse_spd_of
+    mat_product_of correction_of entry_of factor_row_of factor_of factor_spd_of Matrix.factor_solve_of solve_spd_of inverse_by inverse_spd_of
     normalize_by checked_length_of
     factorial horner sine_sum cosine_sum sums_at doubled halved_of sin_cos_of
     hypot_of scaled_root sqrt round_root root root_in
-    ◌>>=◌ turns loop tab every Run.◌>>=◌ Run.fail_if Run.leave_if Run.up_to is_finite abs_of of_bits add sub mul div neg lt le eq round
+    and_then turns loop tab every Run.◌>>=◌ Run.fail_if Run.leave_if Run.up_to is_finite abs_of of_bits add sub mul div neg lt le eq round
 ended plan scratch = concluded plan.bodies scratch (run_for plan.bodies plan.joints (length plan.joints) plan.dt)
 
 -- test 4 alone reads the scratch's length
@@ -86,18 +88,20 @@ long-enough : (bodies : List Float) (joints : List Joint) (count : ℕ) (dt : Fl
     → refusal_of bodies joints count dt n ≡ refusal_of bodies joints count dt SCRATCH
 unfolding refusal_of sizes_or
 long-enough bodies joints count dt n h =
-    let later : Outcome = bodies_or bodies (count_of_bodies bodies) (joints_or joints count (count_of_bodies bodies) Accepted) in
     ap (λ (short : Bool).
-    cond (not (time_step_ok dt)) TimeStep (cond (not (bodies_fit (length bodies))) Bodies (cond (ltb 16 count) Joints (cond short Scratch later))))
+    (return_if (not (time_step_ok dt)) TimeStep >>= λ _. return_if (not (bodies_fit (length bodies))) Bodies
+    >>= λ _. return_if (ltb 16 count) Joints >>= λ _. return_if short Scratch)
+    >>= λ _. bodies_or bodies (count_of_bodies bodies) >>= λ _. joints_or joints count (count_of_bodies bodies))
     (le-ltb n SCRATCH h)
 
 works :
-    (plan : Plan) {outcome : Outcome} {nonlinear linear : ℕ} {bodies : List Float} →
-    refusal plan ≡ Accepted → ((scratch : List Float) → ended plan scratch ≡ stepped outcome nonlinear linear bodies scratch) →
+    (plan : Plan) {outcome : Turn (Unit {0}) Refusal} {nonlinear linear : ℕ} {bodies : List Float} →
+    refusal plan ≡ go tt → ((scratch : List Float) → ended plan scratch ≡ stepped outcome nonlinear linear bodies scratch) →
     Works plan outcome nonlinear linear bodies
 unfolding solve_of refusal ended
 works plan passes ends scratch room =
-    ap (λ (refusal : Outcome). cond (is_accepted refusal) (ended plan (cleared scratch)) (stepped refusal 0 0 plan.bodies scratch))
+    ap (λ (tested : Turn (Unit {0}) Refusal).
+    elim tested [ stop refusal ↦ stepped (stop refusal) 0 0 plan.bodies scratch | go _ ↦ ended plan (cleared scratch) ])
     (long-enough plan.bodies plan.joints (length plan.joints) plan.dt (length scratch) room ∙ passes)
     ∙ ends (cleared scratch)
 
@@ -158,7 +162,7 @@ pair origin velocity joint dt =
 moving : Plan
 moving = record { bodies = standing zeros (triple 𝟙 𝟘 𝟘) zeros (ball (whole 2)); joints = []; dt = 𝟙 }
 
-moving-works : Works moving Accepted 1 0
+moving-works : Works moving (go tt) 1 0
     (back (0x3ff0000000000000 ∷ 0 ∷ 0 ∷ 0 ∷ 0 ∷ 0 ∷ 0x3ff0000000000000 ∷ 0x3ff0000000000000 ∷ 0 ∷ 0 ∷ 0 ∷ 0 ∷ 0 ∷ []) (ball (whole 2)))
 unfolding refusal ended moving
 moving-works = works moving refl (λ _. refl)
@@ -172,7 +176,7 @@ turning =
       dt = half;
     }
 
-turning-works : Works turning Accepted 1 0
+turning-works : Works turning (go tt) 1 0
     (back
     (0x3ff0000000000000 ∷ 0 ∷ 0x4008000000000000 ∷ 0 ∷ 0 ∷ 0x3fbfeaaeee86ee35 ∷ 0x3fefc015527d5bd2
     ∷ 0 ∷ 0xc010000000000000 ∷ 0 ∷ 0 ∷ 0 ∷ 0x3fe0000000000000 ∷ [])
@@ -184,7 +188,7 @@ turning-works = works turning refl (λ _. refl)
 met : Plan
 met = pair (triple (whole 3) (whole 4) 𝟘) zeros (rod (whole 5)) 𝟙
 
-met-works : Works met Accepted 1 0
+met-works : Works met (go tt) 1 0
     (back (0 ∷ 0 ∷ 0 ∷ 0 ∷ 0 ∷ 0 ∷ 0x3ff0000000000000 ∷ 0 ∷ 0 ∷ 0 ∷ 0 ∷ 0 ∷ 0 ∷ []) (ball 𝟙)
     ++ back (0x4008000000000000 ∷ 0x4010000000000000 ∷ 0 ∷ 0 ∷ 0 ∷ 0 ∷ 0x3ff0000000000000 ∷ 0 ∷ 0 ∷ 0 ∷ 0 ∷ 0 ∷ 0 ∷ []) (ball 𝟙))
 unfolding refusal ended met
@@ -194,7 +198,7 @@ met-works = works met refl (λ _. refl)
 pulled : Plan
 pulled = pair (triple (whole 2) 𝟘 𝟘) (triple 𝟙 𝟘 𝟘) (rod (whole 2)) half
 
-pulled-works : Works pulled Accepted 2 1
+pulled-works : Works pulled (go tt) 2 1
     (back (0x3fd0000000000001 ∷ 0 ∷ 0 ∷ 0 ∷ 0 ∷ 0 ∷ 0x3ff0000000000000 ∷ 0x3fe0000000000001 ∷ 0 ∷ 0 ∷ 0 ∷ 0 ∷ 0 ∷ []) (ball 𝟙)
     ++ back (0x4002000000000000 ∷ 0 ∷ 0 ∷ 0 ∷ 0 ∷ 0 ∷ 0x3ff0000000000000 ∷ 0x3fdffffffffffffe ∷ 0 ∷ 0 ∷ 0 ∷ 0 ∷ 0 ∷ []) (ball 𝟙))
 unfolding refusal ended pulled
@@ -204,7 +208,7 @@ pulled-works = works pulled refl (λ _. refl)
 swung : Plan
 swung = pair (triple (whole 2) 𝟘 𝟘) (triple 𝟘 (ratio 1 (2 ^ 16)) 𝟘) (rod (whole 2)) 𝟙
 
-swung-works : Works swung Accepted 2 2
+swung-works : Works swung (go tt) 2 2
     (back (0x3dc0000000000001 ∷ 0 ∷ 0 ∷ 0 ∷ 0 ∷ 0 ∷ 0x3ff0000000000000 ∷ 0x3dd0000000000001 ∷ 0x3cb0000000020001 ∷ 0 ∷ 0 ∷ 0 ∷ 0 ∷ []) (ball 𝟙)
     ++ back
     (0x3ffffffffffe0000 ∷ 0x3ef0000000000000 ∷ 0 ∷ 0 ∷ 0 ∷ 0 ∷ 0x3ff0000000000000 ∷ 0xbdd0000000000001 ∷ 0x3eeffffffffe0000 ∷ 0 ∷ 0 ∷ 0 ∷ 0 ∷ []) (ball 𝟙))
@@ -215,7 +219,7 @@ swung-works = works swung refl (λ _. refl)
 opposed : Plan
 opposed = pair zeros zeros (joint Hinge (quat 𝟙 𝟘 𝟘 𝟘)) 𝟙
 
-opposed-works : Works opposed NonConvergent 0 0 opposed.bodies
+opposed-works : Works opposed (stop NonConvergent) 0 0 opposed.bodies
 unfolding refusal ended opposed
 opposed-works = works opposed refl (λ _. refl)
 
@@ -229,7 +233,7 @@ twice = record {
   dt = 𝟙;
 }
 
-twice-works : Works twice NonConvergent 1 0 twice.bodies
+twice-works : Works twice (stop NonConvergent) 1 0 twice.bodies
 unfolding refusal ended twice
 twice-works = works twice refl (λ _. refl)
 
@@ -237,7 +241,7 @@ twice-works = works twice refl (λ _. refl)
 heavy : Plan
 heavy = record { bodies = standing zeros (triple (whole (2 ^ 1023)) 𝟘 𝟘) zeros (ball (whole 2)); joints = []; dt = 𝟙 }
 
-heavy-works : Works heavy ArithmeticOverflow 0 0 heavy.bodies
+heavy-works : Works heavy (stop ArithmeticOverflow) 0 0 heavy.bodies
 unfolding refusal ended heavy
 heavy-works = works heavy refl (λ _. refl)
 
@@ -245,7 +249,7 @@ heavy-works = works heavy refl (λ _. refl)
 fast : Plan
 fast = record { bodies = standing zeros (triple (whole (2 ^ 1023)) 𝟘 𝟘) zeros (ball 𝟙); joints = []; dt = whole 2 }
 
-fast-works : Works fast ArithmeticOverflow 1 0 fast.bodies
+fast-works : Works fast (stop ArithmeticOverflow) 1 0 fast.bodies
 unfolding refusal ended fast
 fast-works = works fast refl (λ _. refl)
 
@@ -253,6 +257,6 @@ fast-works = works fast refl (λ _. refl)
 away : Plan
 away = record { bodies = standing (triple (whole 8192) 𝟘 𝟘) (triple 𝟙 𝟘 𝟘) zeros (ball 𝟙); joints = []; dt = 𝟙 }
 
-away-works : Works away Ground 1 0 away.bodies
+away-works : Works away (stop Ground) 1 0 away.bodies
 unfolding refusal ended away
 away-works = works away refl (λ _. refl)

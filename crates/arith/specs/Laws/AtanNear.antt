@@ -12,10 +12,11 @@ use Rattle.exact.specs.Cert.{comb, by-nn, hyp, sqr, num, ◌⊞◌, ◌⊠◌, d
 use Rattle.exact.specs.Abs.{U, iv, iv_f, 0≤, Abs, positive}
 use Rattle.exact.specs.Val.{val}
 use Rattle.exact.specs.Relative.{tiny}
+use Rattle.std.specs.Prelude.{Result, Ok, Err}
+use Rattle.arith.specs.Fault.{CollisionError, ArithmeticOverflow}
 use Rattle.arith.specs.Real.{ratio, is_finite}
 use Rattle.arith.specs.Angle.{angle_of, atan2_of}
 use Rattle.arith.specs.ExactSums.{sine_sum41, cosine_sum42}
-use Rattle.arith.specs.declared.angle.Angle.TheVariants as Angles
 use Rattle.arith.specs.Laws.Magnitude.{finite-same}
 use Rattle.arith.specs.Laws.AtanTurn.{u_top}
 use Rattle.arith.specs.Laws.AtanAimed.{Aimed, aimed-angle}
@@ -72,7 +73,7 @@ near_of y x v a =
 
 -- ---- the law
 pub atan2-near : (y x : Float) → T (is_finite y) → T (is_finite x) → T (not (eq x (ratio 0 1) && eq y (ratio 0 1)))
-    → (v : Float) × (atan2_of y x ≡ Angles.Value v) × Atan2Near y x v
+    → (v : Float) × (atan2_of y x ≡ Ok v) × Atan2Near y x v
 unfolding atan2_of
 atan2-near y x fy fx t = (
   angle_of y x,
@@ -81,7 +82,7 @@ atan2-near y x fy fx t = (
 )
   where
     answer : (a b c : Bool) → T a → T b → T (not c)
-        → cond (a && b) (Angles.Value (cond c (ratio 0 1) (angle_of y x))) Angles.Refused ≡ Angles.Value (angle_of y x)
+        → cond (a && b) (Ok (cond c (ratio 0 1) (angle_of y x))) (Err ArithmeticOverflow) ≡ Ok (angle_of y x)
     answer true true true p q r = absurd r
     answer true true false p q r = refl
     answer true false c p q r = absurd q

@@ -21,13 +21,14 @@ use Rattle.exact.specs.Compare.{lt_val, le_val}
 use Rattle.exact.specs.Check.{Fx, fv, fc, ◌+f◌, ◌-f◌, ◌*f◌, run, exact, Bd, bd, mag, err, ok, chk, Rel, Good, sound, free, known, to_r, to_r-ok, plain}
 use Rattle.exact.specs.Given.{given}
 use Rattle.exact.specs.Relative.{Near, tiny}
+use Rattle.std.specs.Prelude.{Result, Ok, Err}
+use Rattle.arith.specs.Fault.{CollisionError, ArithmeticOverflow}
 use Rattle.arith.specs.Real.{◌⊗◌ as ◌·◌, ratio}
 use Rattle.arith.specs.Angle.{factorial, horner, part, neg_part, sine_sum, cosine_sum, sums_at, doubled, halved_of, sin_cos_of}
 use Rattle.arith.specs.ExactSums.{factorial-pos, sine_sum41, cosine_sum42}
 use Rattle.arith.specs.Laws.Magnitude.{lt_no}
 use Rattle.arith.specs.Laws.ExactSums.{sine_r, cosine_r, sine-poly, cosine-poly}
 use Rattle.arith.specs.declared.angle.SineCosine.{SineCosine}
-use Rattle.arith.specs.declared.angle.SinCos.TheVariants as Sines
 
 -- ---- the computations as expressions for the checker
 -- 1 / k! and -1 / k!
@@ -376,17 +377,17 @@ accepted-finite (inf true) p q = absurd (true≢false p)
 accepted-finite (inf false) p q = absurd (true≢false (sym q))
 accepted-finite (fin s m e) p q = tt
 
-pub sin-cos-accepts : (h : Float) → T (finite h) → qn 0 ≤q val h → val h ≤q qn 4 → sin_cos_of h ≡ Sines.Value (halved_of 3 h)
+pub sin-cos-accepts : (h : Float) → T (finite h) → qn 0 ≤q val h → val h ≤q qn 4 → sin_cos_of h ≡ Ok (halved_of 3 h)
 unfolding sin_cos_of
 sin-cos-accepts h f a b =
     let p : lt h (ratio 0 1) ≡ false = lt_val h (ratio 0 1) f (small-finite 0 (inl refl))
     ∙ ap not (is_true (leq (val (ratio 0 1)) (val h)) (subst (λ z. z ≤q val h) (sym zero_val) a)) in
     let q : le h (ratio 4 1) ≡ true = le_val h (ratio 4 1) f (small-finite 4 (inr refl))
     ∙ is_true (leq (val h) (val (ratio 4 1))) (subst (λ z. val h ≤q z) (sym four-val) b) in
-    ap (λ c. cond c Sines.Refused (cond (le h (ratio 4 1)) (Sines.Value (halved_of 3 h)) Sines.Refused)) p
-    ∙ ap (λ c. cond c (Sines.Value (halved_of 3 h)) Sines.Refused) q
+    ap (λ c. cond c (Err ArithmeticOverflow) (cond (le h (ratio 4 1)) (Ok (halved_of 3 h)) (Err ArithmeticOverflow))) p
+    ∙ ap (λ c. cond c (Ok (halved_of 3 h)) (Err ArithmeticOverflow)) q
 
-no_value : (t : SineCosine) → Sines.Refused ≡ Sines.Value t → ⊥
+no_value : (t : SineCosine) → Err ArithmeticOverflow ≡ Ok t → ⊥
 no_value t e = let z : ◌≡◌ {A = ℕ} 0 1 = cc in omega arith
 
 pub record Accepted (h : Float) (t : SineCosine) : Type 0 where
@@ -395,12 +396,12 @@ pub record Accepted (h : Float) (t : SineCosine) : Type 0 where
   pub high : val h ≤q qn 4
   pub is : halved_of 3 h ≡ t
 
-pub sin-cos-accepted : (h : Float) (t : SineCosine) → sin_cos_of h ≡ Sines.Value t → Accepted h t
+pub sin-cos-accepted : (h : Float) (t : SineCosine) → sin_cos_of h ≡ Ok t → Accepted h t
 unfolding sin_cos_of
 sin-cos-accepted h t e = go (lt h (ratio 0 1)) (le h (ratio 4 1)) refl refl e
   where
     go : (a b : Bool) → lt h (ratio 0 1) ≡ a → le h (ratio 4 1) ≡ b
-        → cond a Sines.Refused (cond b (Sines.Value (halved_of 3 h)) Sines.Refused) ≡ Sines.Value t → Accepted h t
+        → cond a (Err ArithmeticOverflow) (cond b (Ok (halved_of 3 h)) (Err ArithmeticOverflow)) ≡ Ok t → Accepted h t
     go true b p q e = absurd (no_value t e)
     go false false p q e = absurd (no_value t e)
     go false true p q e =
@@ -413,5 +414,5 @@ sin-cos-accepted h t e = go (lt h (ratio 0 1)) (le h (ratio 4 1)) refl refl e
         }
 
 -- ---- for every angle that `sin_cos_of` accepts
-pub sin-cos-near : (h : Float) (t : SineCosine) → sin_cos_of h ≡ Sines.Value t → SinesNear (val h) t
+pub sin-cos-near : (h : Float) (t : SineCosine) → sin_cos_of h ≡ Ok t → SinesNear (val h) t
 sin-cos-near h t e = let a = sin-cos-accepted h t e in subst (SinesNear (val h)) a.is (turn_near h a.is_finite a.low a.high)

@@ -1,6 +1,7 @@
 -- Anchors: where a body hands back its record with an origin of at most 8,192, the doubles of its anchor are within 2 ^ -36 of the exact anchor of that
 -- record.
 -- origin = centre - turned local centre, anchor = centre + turned (local anchor - local centre), each rounded; the exact turn is linear.
+use Rattle.std.specs.Prelude.{Option, Some, None}
 use Rattle.std.specs.Prelude.{◌≡◌, refl, List, [], ◌∷◌, Bool, ◌&&◌, ℕ, ◌+◌, ◌*◌, ◌^◌, T, Float}
 use Rattle.std.proofs.Common.{sym, subst, leb→le}
 use mathlib.Core.Quot
@@ -17,7 +18,6 @@ use Rattle.exact.specs.Check.{Fx, fv, ◌+f◌, ◌-f◌, mag, err, chk, sound, 
 use Rattle.exact.specs.Given.{given}
 use Rattle.arith.specs.Real.{ratio, abs_of}
 use Rattle.vectors.specs.declared.vector.Vec3.{Vec3}
-use Rattle.vectors.specs.declared.vector.OptionVec3.TheVariants.{Some}
 use Rattle.vectors.specs.declared.quaternion.Quat.{Quat}
 use Rattle.vectors.specs.Vector.{vec, add_of, sub_of}
 use Rattle.vectors.specs.Quaternion.{quat, rotate_vector_of}

@@ -1,4 +1,5 @@
 -- Rows along an axis of frame a: where such a row's value is at most its tolerance, the exact part of d along the exact axis is at most 2 ^ -28 + 2 ^ -32.
+use Rattle.std.specs.Prelude.{Option, Some, None}
 use Rattle.std.specs.Prelude.{◌≡◌, refl, Bool, ◌&&◌, ℕ, ◌+◌, ◌*◌, ◌^◌, T, leb, Float}
 use Rattle.std.proofs.Common.{sym, ◌∙◌, subst, leb→le, lit<}
 use mathlib.Core.List.{List, [], ◌∷◌}
@@ -16,7 +17,6 @@ use Rattle.exact.specs.Given.{given}
 use Rattle.exact.specs.Hypot.{hyp-fits}
 use Rattle.arith.specs.Real.{◌⊕◌ as ◌⊞f◌, ◌⊗◌ as ◌⊠f◌, ratio, abs_of}
 use Rattle.vectors.specs.declared.vector.Vec3.{Vec3}
-use Rattle.vectors.specs.declared.vector.OptionVec3.TheVariants.{Some}
 use Rattle.vectors.specs.declared.quaternion.Quat.{Quat}
 use Rattle.vectors.specs.Vector.{axis_x, axis_y, axis_z, sub_of, dot_of, length_of}
 use Rattle.vectors.specs.Quaternion.{rotate_vector_of}

@@ -1,6 +1,7 @@
 -- Demand 3 for one joint. `met`: where a joint's rows were written from bodies a and b and every value is within its tolerance, and
 -- bodies at the same places hand back records on the ground, the joint is met by these records. `stands`: a record that is handed back
 -- holds finite numbers, and its N is above 0. Bodies that were kicked since are at the same place.
+use Rattle.std.specs.Prelude.{Option, Some, None}
 use Rattle.std.specs.Prelude.{◌≡◌, List, [], ◌∷◌, Bool, ◌&&◌, ◌^◌, T, Float}
 use Rattle.std.proofs.Common.{sym, ap, ◌∙◌, subst, subst₂}
 use Rattle.std.specs.Float.{binary64}
@@ -13,7 +14,6 @@ use Rattle.exact.specs.Val.{val}
 use Rattle.arith.specs.Real.{ratio}
 use Rattle.arith.specs.Flow.{go, ◌>>=◌}
 use Rattle.vectors.specs.declared.vector.Vec3.{Vec3}
-use Rattle.vectors.specs.declared.vector.OptionVec3.TheVariants.{Some}
 use Rattle.vectors.specs.declared.quaternion.Quat.{Quat}
 use Rattle.vectors.specs.Vector.{axis_x, axis_y, axis_z, add_of, sub_of, finite_of}
 use Rattle.vectors.specs.Quaternion.{product_of, is_normalized_of, rotate_vector_of}

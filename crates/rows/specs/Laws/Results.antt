@@ -1,14 +1,11 @@
 -- From an answer `go` back to the steps that led to it: what the definitions of Body and Geometry passed on the way.
+use Rattle.std.specs.Prelude.{Option, Some, None, ok_or}
 use Rattle.std.specs.Prelude.{◌≡◌, refl, Bool, true, false, not, cond, ◌&&◌, ℕ, ◌^◌, T, Float}
 use Rattle.std.proofs.Common.{sym, ap, ◌∙◌, subst, arith}
 use Rattle.std.specs.Float.Ieee.{le}
 use Rattle.arith.specs.Real.{◌⊕◌, ◌⊖◌, ◌⊗◌, ratio, is_finite, max_of}
-use Rattle.arith.specs.Flow.{Turn, go, stop, ◌>>=◌, return_if}
+use Rattle.arith.specs.Flow.{Turn, go, stop, and_then, ◌>>=◌, return_if}
 use Rattle.vectors.specs.declared.vector.Vec3.{Vec3}
-use Rattle.vectors.specs.declared.vector.OptionVec3.{OptionVec3}
-use Rattle.vectors.specs.declared.vector.OptionVec3.TheVariants as Vector
-use Rattle.vectors.specs.declared.vector.OptionF64.{OptionF64}
-use Rattle.vectors.specs.declared.vector.OptionF64.TheVariants as Number
 use Rattle.vectors.specs.declared.quaternion.Quat.{Quat}
 use Rattle.vectors.specs.Vector.{axis_z, add_of, sub_of, dot_of, finite_of, length_of, checked_length_of}
 use Rattle.vectors.specs.Quaternion.{product_of, is_normalized_of, rotate_vector_of}
@@ -18,7 +15,7 @@ use Rattle.rows.specs.declared.body.MomentumBody.{MomentumBody}
 use Rattle.rows.specs.declared.geometry.Joint.{Joint}
 use Rattle.rows.specs.declared.geometry.EqualityRow.{EqualityRow}
 use Rattle.rows.specs.declared.geometry.Ends.{Ends}
-use Rattle.rows.specs.Fault.{Fault, arithmetic_overflow, non_convergent, vector_or, number_or, try_finite, try_length, try_rotate}
+use Rattle.rows.specs.Fault.{CollisionError, ArithmeticOverflow, NonConvergent, try_finite, try_length, try_rotate}
 use Rattle.rows.specs.Body.{anchor_of, same_vec3, same_quat, state_with, origin_of, state_of}
 use Rattle.rows.specs.Geometry.{epsilon, ends_of, tolerance_of, distance_row, linear_row, aligned_of, align_row}
 
@@ -31,35 +28,32 @@ go_same a b h = cc
 
 -- x ← r, and then f
 pub step : {A B E : Type 0} (r : Turn A E) (f : A → Turn B E) (b : B) → (r >>= f) ≡ go b → (a : A) × (r ≡ go a) × (f a ≡ go b)
-unfolding ◌>>=◌
+unfolding and_then
 step (go a) f b h = (a, refl, h)
 step (stop e) f b h = absurd (not-go e b h)
 
-pub vector-some : (fault : Fault) (o : OptionVec3) (v : Vec3) → vector_or fault o ≡ go v → o ≡ Vector.Some v
-vector-some fault (Vector.Some w) v h = ap Vector.Some (go_same w v h)
-vector-some fault Vector.None v h = absurd (not-go fault v h)
-
-pub number-some : (fault : Fault) (o : OptionF64) (x : Float) → number_or fault o ≡ go x → o ≡ Number.Some x
-number-some fault (Number.Some y) x h = ap Number.Some (go_same y x h)
-number-some fault Number.None x h = absurd (not-go fault x h)
+-- o.ok_or(fault)?
+pub some-go : {A E : Type 0} (fault : E) (o : Option A) (x : A) → ok_or o fault ≡ go x → o ≡ Some x
+some-go fault (Some y) x h = ap Some (go_same y x h)
+some-go fault None x h = absurd (not-go fault x h)
 
 pub finite-go : (v w : Vec3) → try_finite v ≡ go w → (v ≡ w) × T (finite_of v)
 unfolding try_finite
 finite-go v w h = walk (finite_of v) refl h
   where
-    walk : (b : Bool) → finite_of v ≡ b → cond b (go v) (stop arithmetic_overflow) ≡ go w → (v ≡ w) × T (finite_of v)
+    walk : (b : Bool) → finite_of v ≡ b → cond b (go v) (stop ArithmeticOverflow) ≡ go w → (v ≡ w) × T (finite_of v)
     walk true e h = (go_same v w h, subst T (sym e) tt)
-    walk false e h = absurd (not-go arithmetic_overflow w h)
+    walk false e h = absurd (not-go ArithmeticOverflow w h)
 
 pub not-returned : {E : Type 0} (b : Bool) (e : E) (u : Unit {0}) → return_if b e ≡ go u → T (not b)
 not-returned true e u h = absurd (not-go e u h)
 not-returned false e u h = tt
 
 pub length-go : (v : Vec3) (x : Float) → try_length v ≡ go x → (length_of v ≡ x) × T (is_finite x)
-length-go v x h = length-is v x (number-some arithmetic_overflow (checked_length_of v) x h)
+length-go v x h = length-is v x (some-go ArithmeticOverflow (checked_length_of v) x h)
 
-rotate-go : (q : Quat) (v r : Vec3) → try_rotate q v ≡ go r → rotate_vector_of q v ≡ Vector.Some r
-rotate-go q v r h = vector-some arithmetic_overflow (rotate_vector_of q v) r h
+rotate-go : (q : Quat) (v r : Vec3) → try_rotate q v ≡ go r → rotate_vector_of q v ≡ Some r
+rotate-go q v r h = some-go ArithmeticOverflow (rotate_vector_of q v) r h
 
 -- ---- state_of
 -- what `state_of` answers at the origin o
@@ -70,7 +64,7 @@ stated_at a old o linear angular =
 
 pub record Stated (a : MomentumBody) (old s : BodyState) : Type 0 where
   pub centre : Vec3
-  pub rotates : rotate_vector_of a.rotation a.center_of_mass ≡ Vector.Some centre
+  pub rotates : rotate_vector_of a.rotation a.center_of_mass ≡ Some centre
   pub finite : T (finite_of (sub_of a.center centre))
   pub unit : T (is_normalized_of a.rotation)
   pub linear : Vec3
@@ -80,7 +74,7 @@ pub record Stated (a : MomentumBody) (old s : BodyState) : Type 0 where
 -- the origin
 record Started (a : MomentumBody) (o : Vec3) : Type 0 where
   centre : Vec3
-  rotates : rotate_vector_of a.rotation a.center_of_mass ≡ Vector.Some centre
+  rotates : rotate_vector_of a.rotation a.center_of_mass ≡ Some centre
   is : sub_of a.center centre ≡ o
   finite : T (finite_of (sub_of a.center centre))
   unit : T (is_normalized_of a.rotation)
@@ -98,7 +92,7 @@ started a o h =
       rotates = rotate-go a.rotation a.center_of_mass r₁.0 r₁.1;
       is = f.0 ∙ go_same _ o r₄.2;
       finite = f.1;
-      unit = not-not (is_normalized_of a.rotation) (not-returned (not (is_normalized_of a.rotation)) arithmetic_overflow r₃.0 r₃.1);
+      unit = not-not (is_normalized_of a.rotation) (not-returned (not (is_normalized_of a.rotation)) ArithmeticOverflow r₃.0 r₃.1);
     }
 
 pub stated : (a : MomentumBody) (old s : BodyState) → state_of a old ≡ go s → Stated a old s
@@ -121,7 +115,7 @@ stated a old s h =
 -- ---- anchor_of
 pub record Anchored (a : MomentumBody) (local p : Vec3) : Type 0 where
   pub arm : Vec3
-  pub rotates : rotate_vector_of a.rotation (sub_of local a.center_of_mass) ≡ Vector.Some arm
+  pub rotates : rotate_vector_of a.rotation (sub_of local a.center_of_mass) ≡ Some arm
   pub is : add_of a.center arm ≡ p
   pub finite : T (finite_of (add_of a.center arm))
 
@@ -175,7 +169,7 @@ tolerated pa pb t h =
 -- ---- the rows
 pub record Along (joint : Joint) (e : Ends) (local : Vec3) (row : EqualityRow) : Type 0 where
   pub axis : Vec3
-  pub rotates : rotate_vector_of e.frame_a local ≡ Vector.Some axis
+  pub rotates : rotate_vector_of e.frame_a local ≡ Some axis
   pub value-is : dot_of e.delta axis ≡ row.value
   pub tolerance-is : Tolerated e.pa e.pb row.tolerance
 
@@ -212,9 +206,9 @@ rod joint e length row h =
     })
 
 pub record Facing (frame_a frame_b : Quat) (z : Vec3) : Type 0 where
-  pub b-rotates : rotate_vector_of frame_b axis_z ≡ Vector.Some z
+  pub b-rotates : rotate_vector_of frame_b axis_z ≡ Some z
   pub za : Vec3
-  pub a-rotates : rotate_vector_of frame_a axis_z ≡ Vector.Some za
+  pub a-rotates : rotate_vector_of frame_a axis_z ≡ Some za
   pub above : T (not (le (dot_of za z) (ratio 1 (10 ^ 10))))
 
 pub facing : (frame_a frame_b : Quat) (z : Vec3) → aligned_of frame_a frame_b ≡ go z → Facing frame_a frame_b z
@@ -227,12 +221,12 @@ facing frame_a frame_b z h =
       b-rotates = rotate-go frame_b axis_z r₁.0 r₁.1;
       za = r₂.0;
       a-rotates = rotate-go frame_a axis_z r₂.0 r₂.1;
-      above = not-returned (le (dot_of r₂.0 r₁.0) (ratio 1 (10 ^ 10))) non_convergent r₃.0 r₃.1;
+      above = not-returned (le (dot_of r₂.0 r₁.0) (ratio 1 (10 ^ 10))) NonConvergent r₃.0 r₃.1;
     })
 
 pub record Across (frame_a : Quat) (local z : Vec3) (row : EqualityRow) : Type 0 where
   pub axis : Vec3
-  pub rotates : rotate_vector_of frame_a local ≡ Vector.Some axis
+  pub rotates : rotate_vector_of frame_a local ≡ Some axis
   pub value-is : dot_of axis z ≡ row.value
   pub tolerance-is : ratio 1 (10 ^ 13) ≡ row.tolerance
 

@@ -1,15 +1,16 @@
--- `read_all`: after each turn the bytes behind what came are those of the first buffer, and the last read brought some.
-use Rattle.std.proofs.Common.{length, ◌-◌, ◌≤◌, ◌≡◌}
-use Rattle.streams.proofs.Readings.{Reading}
+-- `read_all`: after each turn `count` bytes have come and stand at the front, and those behind them are those of the first buffer.
+use Rattle.std.proofs.Common.{length, take, drop, ◌-◌, ◌≤◌, ◌≡◌}
+use Rattle.std.specs.Io.KnownBytes.{Consumes}
 use Rattle.streams.proofs.read_all.Given as goal
 
 abbrev pub invariant-loop-count : goal.invariant-loop-count
 invariant-loop-count g l =
     record {
       size : length l.buffer ≡ length l.initial.buffer;
-      chunk : length l.chunk ≡ 4096;
       within : l.count ≤ length l.buffer;
-      reading : Reading l.initial.buffer l.buffer l.count l.last l.answer;
+      rest : drop l.count l.buffer ≡ drop l.count l.initial.buffer;
+      bytes : Consumes (g.R.Read.remaining l.initial.from) (g.R.Read.remaining l.from) (take l.count l.buffer);
+      none : length l.initial.buffer ≡ 0 → l.from ≡ l.initial.from;
     }
 
 abbrev pub decreases-loop-count : goal.decreases-loop-count

@@ -1,5 +1,6 @@
 -- A quaternion turns and integrates as its normalized form does, so the code may normalize once where the Rust does at each call.
 -- The conjugate normalizes to the conjugate: a quotient changes its sign with its numerator, a magnitude does not.
+use Rattle.std.specs.Prelude.{Option, Some, None}
 use Rattle.std.specs.Prelude.{◌≡◌, Bool, not, ◌*◌, eqb, Float}
 use Rattle.std.proofs.Math.Path.{refl, ap}
 use Rattle.std.proofs.Common.{◌∙◌}
@@ -10,10 +11,7 @@ use Rattle.arith.specs.Real.{◌⊘◌, is_finite, abs_of}
 use Rattle.arith.specs.Hypot.{hypot_of}
 use Rattle.arith.specs.Laws.Rounding.{round-neg, unlike-neg}
 use Rattle.vectors.specs.declared.vector.Vec3.{Vec3}
-use Rattle.vectors.specs.declared.vector.OptionVec3.TheVariants as Vector
 use Rattle.vectors.specs.declared.quaternion.Quat.{Quat}
-use Rattle.vectors.specs.declared.quaternion.OptionQuat.{OptionQuat}
-use Rattle.vectors.specs.declared.quaternion.OptionQuat.TheVariants.{Some, None}
 use Rattle.vectors.specs.Vector.{finite_of, normalize_by}
 use Rattle.vectors.specs.Quaternion.{conjugate_of, quat_try_normalize_of, rotated_by, rotate_vector_of, integrated, delta_in, integrate_of}
 use Rattle.vectors.specs.Answered.{rotate_as_unit_of, integrate_as_unit_of}
@@ -60,11 +58,11 @@ unfolding hypot_of
 neg-hypot-second x y = simp (neg-finite, neg-abs)
 
 -- ---- the conjugate
-abbrev conjugated : OptionQuat → OptionQuat
+abbrev conjugated : Option Quat → Option Quat
 conjugated (Some u) = Some (conjugate_of u)
 conjugated None = None
 
-conjugated-cond : (b : Bool) (o : OptionQuat) → conjugated (cond b None o) ≡ cond b None (conjugated o)
+conjugated-cond : (b : Bool) (o : Option Quat) → conjugated (cond b None o) ≡ cond b None (conjugated o)
 conjugated-cond true o = refl
 conjugated-cond false o = refl
 
@@ -76,7 +74,7 @@ conjugate-normalizes q = simp (neg-finite, neg-abs, neg-div, neg-hypot, neg-hypo
 module _ (q : Quat) {u : Quat} (n : quat_try_normalize_of q ≡ Some u) where
   pub rotates-as-unit : (v : Vec3) → rotate_vector_of q v ≡ rotate_as_unit_of u v
   unfolding rotate_vector_of rotate_as_unit_of
-  rotates-as-unit v = ap (λ (o : OptionQuat). cond (not (finite_of v)) Vector.None (rotated_by v o)) n
+  rotates-as-unit v = ap (λ (o : Option Quat). cond (not (finite_of v)) None (rotated_by v o)) n
 
   pub conjugate-unit : quat_try_normalize_of (conjugate_of q) ≡ Some (conjugate_of u)
   conjugate-unit = conjugate-normalizes q ∙ ap conjugated n
@@ -91,16 +89,16 @@ conjugate-rotates-as-unit q n = rotates-as-unit (conjugate_of q) (conjugate-unit
 
 -- ---- a quaternion that does not normalize
 module _ (q : Quat) (n : quat_try_normalize_of q ≡ None) where
-  pub no-unit-no-rotation : (v : Vec3) → rotate_vector_of q v ≡ Vector.None
+  pub no-unit-no-rotation : (v : Vec3) → rotate_vector_of q v ≡ None
   unfolding rotate_vector_of
-  no-unit-no-rotation v = ap (λ (o : OptionQuat). cond (not (finite_of v)) Vector.None (rotated_by v o)) n ∙ none (not (finite_of v))
+  no-unit-no-rotation v = ap (λ (o : Option Quat). cond (not (finite_of v)) None (rotated_by v o)) n ∙ none (not (finite_of v))
     where
-      none : (b : Bool) → cond b Vector.None Vector.None ≡ Vector.None
+      none : (b : Bool) → ◌≡◌ {A = Option Vec3} (cond b None None) None
       none true = refl
       none false = refl
 
   pub conjugate-no-unit : quat_try_normalize_of (conjugate_of q) ≡ None
   conjugate-no-unit = conjugate-normalizes q ∙ ap conjugated n
 
-pub conjugate-no-rotation : (q : Quat) → quat_try_normalize_of q ≡ None → (v : Vec3) → rotate_vector_of (conjugate_of q) v ≡ Vector.None
+pub conjugate-no-rotation : (q : Quat) → quat_try_normalize_of q ≡ None → (v : Vec3) → rotate_vector_of (conjugate_of q) v ≡ None
 conjugate-no-rotation q n = no-unit-no-rotation (conjugate_of q) (conjugate-no-unit q n)

@@ -1,6 +1,7 @@
 -- `quat_try_normalize_of`: each normalised component is near c times the quaternion's own, for
 -- one c that is not below 0, and c² times the sum of its squares is near 1.
 -- c is 1 / (m l): m the largest magnitude, l the length of the quaternion divided by m.
+use Rattle.std.specs.Prelude.{Some}
 use Rattle.std.specs.Prelude.{◌≡◌, refl, not, ◌&&◌, ℕ, ◌+◌, ◌*◌, ◌^◌, T, leb, Float}
 use Rattle.std.proofs.Common.{sym, leb→le}
 use Rattle.std.proofs.Math.Path.{subst}
@@ -22,7 +23,6 @@ use Rattle.arith.specs.Real.{abs_of, max_of, ratio, is_finite}
 use Rattle.arith.specs.Hypot.{hypot_of}
 use Rattle.arith.specs.Laws.Magnitude.{abs-nn, abs-finite, abs-square, max-first, max-second}
 use Rattle.vectors.specs.declared.quaternion.Quat.{Quat}
-use Rattle.vectors.specs.declared.quaternion.OptionQuat.TheVariants.{Some}
 use Rattle.vectors.specs.Quaternion.{quat_largest_of, quat_div_of, quat_length_of, quat_try_normalize_of}
 use Rattle.vectors.specs.Laws.Tests.{finite-of, both, above_zero, abs-under, max-keeps}
 use Rattle.vectors.specs.Laws.Length.{sides, side, Long, longer, hypot-close}

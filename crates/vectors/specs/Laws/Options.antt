@@ -1,15 +1,11 @@
 -- From an answer `Some` back to the tests that it passed.
+use Rattle.std.specs.Prelude.{Option, Some, None}
 use Rattle.std.specs.Prelude.{◌≡◌, refl, Bool, true, false, not, cond, ◌||◌, ℕ, T, Float}
 use Rattle.std.proofs.Common.{sym, subst, arith}
 use Rattle.std.specs.Float.Ieee.{eq}
 use Rattle.arith.specs.Real.{is_finite, ratio}
 use Rattle.vectors.specs.declared.vector.Vec3.{Vec3}
-use Rattle.vectors.specs.declared.vector.OptionVec3.{OptionVec3}
-use Rattle.vectors.specs.declared.vector.OptionVec3.TheVariants as Vector
-use Rattle.vectors.specs.declared.vector.OptionF64.TheVariants as Number
 use Rattle.vectors.specs.declared.quaternion.Quat.{Quat}
-use Rattle.vectors.specs.declared.quaternion.OptionQuat.{OptionQuat}
-use Rattle.vectors.specs.declared.quaternion.OptionQuat.TheVariants.{Some, None}
 use Rattle.vectors.specs.Vector.{finite_of, length_of, normalize_by, checked_length_of}
 use Rattle.vectors.specs.Quaternion.{quat_finite_of, quat_largest_of, quat_div_of, quat_length_of, quat_try_normalize_of, turned_of, rotated_by}
 use Rattle.vectors.specs.Quaternion.{rotate_vector_of}
@@ -30,19 +26,19 @@ neither false b t = (tt, t)
 no-quat : (u : Quat) → None ≡ Some u → ⊥
 no-quat u e = let z : ◌≡◌ {A = ℕ} 0 1 = cc in omega arith
 
-no-vec : (v : Vec3) → Vector.None ≡ Vector.Some v → ⊥
+no-vec : (v : Vec3) → None ≡ Some v → ⊥
 no-vec v e = let z : ◌≡◌ {A = ℕ} 0 1 = cc in omega arith
 
-no_number : (x : Float) → Number.None ≡ Number.Some x → ⊥
+no_number : (x : Float) → None ≡ Some x → ⊥
 no_number x e = let z : ◌≡◌ {A = ℕ} 0 1 = cc in omega arith
 
 some-quat : (u v : Quat) → Some u ≡ Some v → u ≡ v
 some-quat u v e = cc
 
-some-vec : (u v : Vec3) → Vector.Some u ≡ Vector.Some v → u ≡ v
+some-vec : (u v : Vec3) → Some u ≡ Some v → u ≡ v
 some-vec u v e = cc
 
-some_number : (x y : Float) → Number.Some x ≡ Number.Some y → x ≡ y
+some_number : (x y : Float) → Some x ≡ Some y → x ≡ y
 some_number x y e = cc
 
 -- ---- quat_try_normalize_of
@@ -74,31 +70,31 @@ pub record Rotates (q : Quat) (v r : Vec3) : Type 0 where
   pub is : turned_of unit v ≡ r
   pub result : T (finite_of r)
 
-abbrev pub if_finite : Vec3 → OptionVec3
-if_finite v = cond (finite_of v) (Vector.Some v) Vector.None
+abbrev pub if_finite : Vec3 → Option Vec3
+if_finite v = cond (finite_of v) (Some v) None
 
-pub if-finite : (v r : Vec3) → if_finite v ≡ Vector.Some r → (v ≡ r) × T (finite_of r)
+pub if-finite : (v r : Vec3) → if_finite v ≡ Some r → (v ≡ r) × T (finite_of r)
 if-finite v r e = go (finite_of v) refl e
   where
-    go : (b : Bool) → finite_of v ≡ b → cond b (Vector.Some v) Vector.None ≡ Vector.Some r → (v ≡ r) × T (finite_of r)
+    go : (b : Bool) → finite_of v ≡ b → cond b (Some v) None ≡ Some r → (v ≡ r) × T (finite_of r)
     go true h e = let s = some-vec v r e in (s, subst (λ w. T (finite_of w)) s (subst T (sym h) tt))
     go false h e = absurd (no-vec r e)
 
-pub rotates : (q : Quat) (v r : Vec3) → rotate_vector_of q v ≡ Vector.Some r → Rotates q v r
+pub rotates : (q : Quat) (v r : Vec3) → rotate_vector_of q v ≡ Some r → Rotates q v r
 unfolding rotate_vector_of
 rotates q v r e =
-    let a = past (not (finite_of v)) Vector.None (rotated_by v (quat_try_normalize_of q)) (Vector.Some r) (no-vec r) e in
+    let a = past (not (finite_of v)) None (rotated_by v (quat_try_normalize_of q)) (Some r) (no-vec r) e in
     go (not-not (finite_of v) a.0) (quat_try_normalize_of q) refl a.1
   where
-    go : T (finite_of v) → (o : OptionQuat) → quat_try_normalize_of q ≡ o → rotated_by v o ≡ Vector.Some r → Rotates q v r
+    go : T (finite_of v) → (o : Option Quat) → quat_try_normalize_of q ≡ o → rotated_by v o ≡ Some r → Rotates q v r
     go f (Some u) n e = let k = if-finite (turned_of u v) r e in record { fine = f; unit = u; normal = n; is = k.0; result = k.1 }
     go f None n e = absurd (no-vec r e)
 
 -- ---- checked_length_of
-pub length-is : (v : Vec3) (x : Float) → checked_length_of v ≡ Number.Some x → (length_of v ≡ x) × T (is_finite x)
+pub length-is : (v : Vec3) (x : Float) → checked_length_of v ≡ Some x → (length_of v ≡ x) × T (is_finite x)
 unfolding checked_length_of
 length-is v x e = go (is_finite (length_of v)) refl e
   where
-    go : (b : Bool) → is_finite (length_of v) ≡ b → cond b (Number.Some (length_of v)) Number.None ≡ Number.Some x → (length_of v ≡ x) × T (is_finite x)
+    go : (b : Bool) → is_finite (length_of v) ≡ b → cond b (Some (length_of v)) None ≡ Some x → (length_of v ≡ x) × T (is_finite x)
     go true h e = let s = some_number (length_of v) x e in (s, subst (λ w. T (is_finite w)) s (subst T (sym h) tt))
     go false h e = absurd (no_number x e)

@@ -1,5 +1,6 @@
 -- The rotation law: `rotate_vector_of f v` is within 2 ^ -44 of the exact turn of v by the
 -- exact quaternion that f is near, for v of at most 1, and in proportion.
+use Rattle.std.specs.Prelude.{Some}
 use Rattle.std.specs.Prelude.{◌≡◌, ◌&&◌, ℕ, ◌+◌, ◌*◌, ◌^◌, T}
 use Rattle.std.proofs.Common.{subst}
 use Rattle.std.specs.Float.Ieee.Scale.{finite}
@@ -9,7 +10,6 @@ use Rattle.exact.specs.Val.{val}
 use Rattle.exact.specs.Given.{Input}
 use Rattle.arith.specs.Real.{is_finite}
 use Rattle.vectors.specs.declared.vector.Vec3.{Vec3}
-use Rattle.vectors.specs.declared.vector.OptionVec3.TheVariants.{Some}
 use Rattle.vectors.specs.declared.quaternion.Quat.{Quat}
 use Rattle.vectors.specs.Vector.{finite_of}
 use Rattle.vectors.specs.Quaternion.{rotate_vector_of}

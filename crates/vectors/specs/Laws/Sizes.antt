@@ -1,6 +1,7 @@
 -- The rotation law at every size from 1 to 129: each component is within 2 ^ -44 times the bound on the coordinates of the exact turn.
 -- `rotated` is a test at one bound. The sizes of a table pass it with room, and each is at most 1.08
 -- times the one before, so that between two sizes the law of the larger serves.
+use Rattle.std.specs.Prelude.{Some}
 use Rattle.std.specs.Prelude.{◌≡◌, refl, Bool, true, ◌&&◌, ℕ, ◌*◌, ◌^◌, ◌≤◌, ◌<◌, leb}
 use Rattle.std.proofs.Common.{sym, subst, le_trans, le_of_lt, not-le_of_lt, lt_of_not-le, lt_of_lt_of_le, le_of_mul-le-mul_right, mul_assoc, leb→le, lit<}
 use mathlib.Core.List.{List, [], ◌∷◌}
@@ -10,7 +11,6 @@ use Rattle.exact.specs.Rat.{ℚ, leq, ◌+q◌, ◌-q◌, ◌*q◌, negq, inv}
 use Rattle.exact.specs.Abs.{U, iv, Abs, abs-mono}
 use Rattle.exact.specs.Val.{val}
 use Rattle.vectors.specs.declared.vector.Vec3.{Vec3}
-use Rattle.vectors.specs.declared.vector.OptionVec3.TheVariants.{Some}
 use Rattle.vectors.specs.declared.quaternion.Quat.{Quat}
 use Rattle.vectors.specs.Quaternion.{rotate_vector_of}
 use Rattle.vectors.specs.Laws.Tests.{both}

@@ -1,0 +1,10 @@
+-- `joints_from`: one joint more.
+use Rattle.arith.specs.FlowLaws.{turns-none}
+use Rattle.plan.proofs.Readings.{joints-more}
+use Rattle.plan.proofs.reader.joints_from.Goals as goal
+
+pub loop-k-init : goal.loop-k-init
+loop-k-init c = turns-none _ _
+
+pub loop-k-preserved : goal.loop-k-preserved
+loop-k-preserved c = joints-more c.args.file.now c.args.places.bytes _ _ c.loop-k.invariant c.joint_at.ensures

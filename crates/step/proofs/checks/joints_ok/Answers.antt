@@ -1,0 +1,9 @@
+use Rattle.std.proofs.Common.{rules}
+use Rattle.std.proofs.lemmas.Iterator.{YieldsList-from_slice}
+use Rattle.step.specs.Checks.{joint_ok}
+use Rattle.step.proofs.EveryLaws.{every-listed}
+use Rattle.step.proofs.checks.joints_ok.Goals as goal
+
+pub returns : goal.returns
+returns c =
+    every-listed _ joint_ok _ c.args.joints.now c.all.ensures.ran (YieldsList-from_slice c.args.joints.now cc) (λ x b q h. search rules)

@@ -1,0 +1,44 @@
+-- A rate more, a rate that fails, and the last.
+use Rattle.std.proofs.Common.{arith}
+use Rattle.rows.specs.AnswerLaws.{ended-by}
+use Rattle.solves.specs.DoesLaws.{does-eq}
+use Rattle.step.proofs.VelocityLaws.{rhs-none, row-a, row-b, no-body-remembered, motion-remembered, rhs-again, rhs-stops, rhs-ends}
+use Rattle.step.proofs.velocity.velocity_rhs.Goals as goal
+
+pub loop-k-init : goal.loop-k-init
+loop-k-init c = record {
+  made = rhs-none c.requires.ready;
+  a = no-body-remembered c.no_motion-a.ensures;
+  b = no-body-remembered c.no_motion-b.ensures;
+}
+
+pub motion_again-a-requires : goal.motion_again-a-requires
+motion_again-a-requires c = (
+  omega (arith, c.requires.long),
+  omega (arith, row-a c.requires.ready c.loop-k-test.true c.loop-k.s c.load_row-row.ensures, c.requires.ready.bodies),
+  c.loop-k.invariant.a,
+)
+
+pub motion_again-b-requires : goal.motion_again-b-requires
+motion_again-b-requires c = (
+  omega (arith, c.requires.long),
+  omega (arith, row-b c.requires.ready c.loop-k-test.true c.loop-k.s c.load_row-row.ensures, c.requires.ready.bodies),
+  c.loop-k.invariant.b,
+)
+
+pub returns-in-Err : goal.returns-in-Err
+returns-in-Err c =
+    does-eq (ended-by _ _ c.ended_by.ensures)
+    (rhs-stops c.requires.ready c.loop-k.invariant.made c.loop-k-test.true c.load_row-row.ensures
+    (c.in-Err.ensures _ _ c.motion_again-a.ensures.moves c.motion_again-b.ensures.moves))
+
+pub loop-k-preserved : goal.loop-k-preserved
+loop-k-preserved c = record {
+  made = rhs-again c.requires.ready c.loop-k.invariant.made c.loop-k-test.true c.load_row-row.ensures
+      (c.in-Ok.ensures _ _ c.motion_again-a.ensures.moves c.motion_again-b.ensures.moves);
+  a = motion-remembered c.loop-k.k _ (omega arith) c.motion_again-a.ensures;
+  b = motion-remembered c.loop-k.k _ (omega arith) c.motion_again-b.ensures;
+}
+
+pub returns : goal.returns
+returns c = rhs-ends c.requires.ready c.loop-k.invariant.made (omega arith) c.loop-k-test.false
