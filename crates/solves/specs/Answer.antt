@@ -1,6 +1,7 @@
 -- The code's answers as the definitions' results.
-use Rattle.std.specs.Prelude.{ℕ, Bool, List, Option, Some, None, Float}
+use Rattle.std.specs.Prelude.{ℕ, ◌≡◌, Bool, List, Option, Some, None, Float}
 use Rattle.arith.specs.Flow.{Turn, go, stop, leaving}
+use Rattle.arith.specs.Fault.{refusal_number}
 use Rattle.arith.specs.Run.{ran, after}
 use Rattle.arith.specs.RunLaws.{over}
 use Rattle.rows.specs.declared.End.{End}
@@ -77,10 +78,10 @@ left_as (stop e) x = stop e
 
 -- ---- what the two calls say that the step takes, each with the number of its answer
 -- `transpose`: the bodies' shares of the rows at entry, as f says, or the fault; no more than the shares is touched
-abbrev pub Pushes : List Float → List Float → List ℕ → List ℕ → Table → End → (List EqualityRow → Result (List Generalized)) → Type 0
+abbrev pub Pushes : List Float → List Float → List ℕ → List ℕ → Table → Result (Unit {0}) → (List EqualityRow → Result (List Generalized)) → Type 0
 Pushes s s' ia ib t r f =
     let defined = f (rows_on ia ib s t.place t.rows) in
-    (Does Shares s s' (ran_as r (shares_in s' t.bodies)) defined) × (Numbered r defined)
+    (Does Shares s s' (leaving r (shares_in s' t.bodies)) defined) × (refusal_number r ≡ refusal_number defined)
 
 -- a linear solve: the system at entry is solved as f says, the solution stands at exit, and no more than `Work` is touched
 abbrev pub Solves : List Float → List Float → List ℕ → List ℕ → Table → Ended → (System → Counting (List Float)) → Type 0

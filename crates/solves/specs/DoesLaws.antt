@@ -3,6 +3,7 @@ use Rattle.std.specs.Prelude.{ℕ, ◌≡◌, refl, Bool, true, false, List, Flo
 use Rattle.std.proofs.Common.{sym, ◌∙◌, ap}
 use Rattle.arith.specs.Real.{is_finite}
 use Rattle.arith.specs.Flow.{go, stop, leaving, ◌>>=◌, return_if}
+use Rattle.arith.specs.Fault.{refusal_number}
 use Rattle.arith.specs.FlowLaws.{then-go, then-stop}
 use Rattle.arith.specs.RunLaws.{over}
 use Rattle.rows.specs.Fault.{CollisionError, NonConvergent, ArithmeticOverflow, Result}
@@ -44,6 +45,15 @@ sum_over e h = sym (ap sum_as h) ∙ e
 pub solves-numbered : {A : Type 0} {P : ℕ → Type 0} {s t : List Float} (x : A) (r : Ended) {R : Counting A} → Does P s t (ended_as r x) R
     → (Does P s t (ended_as r x) R) × (Numbered r.end R.ends)
 solves-numbered {A} x r d = (d, ran-number x r.end (ap (λ (c : Counting A). c.ends) d.is))
+
+-- a call that left x, and its number
+pub does-leave : {A : Type 0} {P : ℕ → Type 0} {s t : List Float} (x : A) (r : Result (Unit {0})) {R : Result A} → Does P s t (leaving r x) R
+    → (Does P s t (leaving r x) R) × (refusal_number r ≡ refusal_number R)
+does-leave {A} x r d = (d, here r ∙ ap refusal_number d.is)
+  where
+    here : (r : Result (Unit {0})) → refusal_number r ≡ refusal_number (leaving r x)
+    here (go _) = refl
+    here (stop _) = refl
 
 -- what the step takes of a call that ended as r
 pub ran-end : {A : Type 0} (x : A) (r : Result (Unit {0})) → ran_as (end_of r) x ≡ leaving r x

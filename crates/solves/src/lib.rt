@@ -62,7 +62,7 @@ impl Ended {
 }
 
 // How a call ended, as the step takes it.
-pub(crate) fn end_of(answer: Result<(), CollisionError>) -> End
+pub fn end_of(answer: Result<(), CollisionError>) -> End
     ensures { result ≡ end_of answer }
 {
     match answer {

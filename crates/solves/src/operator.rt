@@ -14,7 +14,7 @@ ghost use Rattle.solves.specs.View.{ROWS_MOST, BODIES_MOST, MASSES, RHS, END};
 use crate::joined::Rows;
 use crate::layout::{GENERALIZED, MASSES, RHS, SHARE};
 use crate::places::{Generalized, MassResponse, load_generalized, load_mass, store_generalized};
-use crate::{End, PerRow, Table, end_of};
+use crate::{PerRow, Table};
 use arith::fault::CollisionError;
 use arith::number;
 use arith::root::sqrt;
@@ -205,11 +205,17 @@ impl Rows<'_> {
 }
 
 // The rows' `transpose`, as the step calls it.
-pub fn transpose(s: &mut [f64], ia: &PerRow, ib: &PerRow, t: Table, values: usize) -> End
+pub fn transpose(
+    s: &mut [f64],
+    ia: &PerRow,
+    ib: &PerRow,
+    t: Table,
+    values: usize,
+) -> Result<(), CollisionError>
     requires { (Ready s.old ia.now ib.now t) × (VectorPlace s.old values) }
     ensures { Pushes s.old s.new ia.now ib.now t result (λ rows. transpose_of rows (vec_at s.old values t.rows) t.bodies) }
 {
-    end_of(Rows::new(ia, ib, t).transpose(s, values))
+    Rows::new(ia, ib, t).transpose(s, values)
 }
 
 // The share of one body in the entry of two rows that both touch it.

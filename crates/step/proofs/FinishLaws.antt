@@ -8,7 +8,7 @@ use lib.ListN.{length, drop, replicate, length-replicate, get_or-replicate}
 use lib.Seq.{ext_get_or}
 use lib.Ieee.{Float, nan}
 use Rattle.arith.specs.Real.{ratio}
-use Rattle.arith.specs.Flow.{Turn, go, stop, every}
+use Rattle.arith.specs.Flow.{Turn, go, stop, leaving, every}
 use Rattle.arith.specs.FlowLaws.{cond_yes, cond_no}
 use Rattle.arith.specs.Run.{ran, try, after, ◌>>=◌, up_to}
 use Rattle.arith.specs.RunLaws.{run_is, then-go, then-stop, try-go}
@@ -16,7 +16,7 @@ use Rattle.rows.specs.declared.body.RigidBody.{RigidBody}
 use Rattle.rows.specs.declared.body.BodyState.{BodyState}
 use Rattle.rows.specs.declared.body.MomentumBody.{MomentumBody}
 use Rattle.rows.specs.declared.geometry.Joint.{Joint}
-use Rattle.rows.specs.Fault.{Result, NonConvergent}
+use Rattle.rows.specs.Fault.{CollisionError, Result, NonConvergent}
 use Rattle.rows.specs.View.{at, vec3_at, Out, Kept}
 use Rattle.rows.specs.Region.{tab-length, tab-at, kept_then, kept_more}
 use Rattle.rows.specs.declared.End.{End}
@@ -41,7 +41,8 @@ use Rattle.step.specs.View.{candidates_at, states_at, Handed, state_at, no_state
 use Rattle.step.specs.ViewLaws.{kept-candidates}
 use Rattle.step.specs.BackLaws.{handed-back}
 use Rattle.step.specs.Bodies.{Job, Started, start_of, prepare_masses, states_of, state_in}
-use Rattle.step.specs.Step.{nonlinear_pass, nonlinear_loop, velocity_pass, velocity_loop, finish_of, run_of, Stepped, stepped, grounded, cleared, concluded}
+use Rattle.step.specs.Step.{nonlinear_pass, nonlinear_loop, velocity_pass, velocity_loop, finish_of, run_of, Stepped, stepped, fault_outcome, grounded, cleared}
+use Rattle.step.specs.Step.{concluded}
 use Rattle.step.specs.RunView.{Ours, impulses_at, started_at, found_at, Sides, candidate_table, Trying, Correcting, left_as, looped_as}
 use Rattle.step.proofs.EveryLaws.{every-ext}
 use Rattle.step.proofs.PassLaws.{failed-as}
@@ -178,20 +179,29 @@ module _ (body-count : ℕ) (s bodies : List Float) where
       (λ k h. ap (λ (x : BodyState). within_of x.origin (ratio 8192 1)) (sym (tab-at body-count (λ j. state_at s (CANDIDATE + 13 * j)) no_state k h)))
       ∙ ap (λ (m : ℕ). every m (λ k. within_of (state_in states k).origin (ratio 8192 1))) (sym (tab-length body-count (λ j. state_at s (CANDIDATE + 13 * j))))
 
-  module _ {b : Bool} (e : b ≡ every body-count (λ k. within_of (vec3_at s (CANDIDATE + 13 * k)) (ratio 8192 1))) {end : End} (q : end ≡ Ends.Done)
+  -- the run failed, and so does the step
+  pub conclude-fails : {r : Result (Unit {0})} {f : CollisionError} → r ≡ stop f → {outcome : Turn (Unit {0}) Refusal} → outcome ≡ fault_outcome f
+      → (nonlinear linear : ℕ) (scratch : List Float)
+      → stepped outcome nonlinear linear bodies scratch ≡ concluded bodies scratch (ran (leaving r states) nonlinear linear)
+  conclude-fails q e nonlinear linear scratch =
+      ap (λ (o : Turn (Unit {0}) Refusal). stepped o nonlinear linear bodies scratch) e
+      ∙ ap (λ (x : Result (Unit {0})). concluded bodies scratch (ran (leaving x states) nonlinear linear)) (sym q)
+
+  module _ {b : Bool} (e : b ≡ every body-count (λ k. within_of (vec3_at s (CANDIDATE + 13 * k)) (ratio 8192 1))) {r : Result (Unit {0})} {u : Unit {0}}
+      (q : r ≡ go u)
       (nonlinear linear : ℕ) (scratch : List Float) where
     -- in the case that the run went through
-    done : concluded bodies scratch (ran (go states) nonlinear linear) ≡ concluded bodies scratch (ran (ran_as end states) nonlinear linear)
-    done = ap (λ (x : End). concluded bodies scratch (ran (ran_as x states) nonlinear linear)) (sym q)
+    done : concluded bodies scratch (ran (go states) nonlinear linear) ≡ concluded bodies scratch (ran (leaving r states) nonlinear linear)
+    done = ap (λ (x : Result (Unit {0})). concluded bodies scratch (ran (leaving x states) nonlinear linear)) (sym q)
 
     pub conclude-accepts : b ≡ true → body-count ≡ count_of_bodies bodies → length bodies % 26 ≡ 0 → {after : List Float} → Handed body-count s bodies after
-        → stepped (go tt) nonlinear linear after scratch ≡ concluded bodies scratch (ran (ran_as end states) nonlinear linear)
+        → stepped (go tt) nonlinear linear after scratch ≡ concluded bodies scratch (ran (leaving r states) nonlinear linear)
     conclude-accepts t c w h =
         ap (λ (a : List Float). stepped (go tt) nonlinear linear a scratch) (handed-back body-count s c w h)
         ∙ cond_yes {b = grounded states} _ _ (sym (sym t ∙ e ∙ ground-is)) ∙ done
 
     pub conclude-grounds : b ≡ false
-        → stepped (stop Refusals.Ground) nonlinear linear bodies scratch ≡ concluded bodies scratch (ran (ran_as end states) nonlinear linear)
+        → stepped (stop Refusals.Ground) nonlinear linear bodies scratch ≡ concluded bodies scratch (ran (leaving r states) nonlinear linear)
     conclude-grounds t = cond_no {b = grounded states} _ _ (sym (sym t ∙ e ∙ ground-is)) ∙ done
 
 -- the scratch of a run, cleared
@@ -205,15 +215,21 @@ all-zero {s} {t} e f =
 
 -- ---- solve_in
 pub solved-in : (bodies : List Float) {run : Counting (List BodyState)} {P : ℕ → Type 0} {s t u : List Float} (r : Ran) (states : List BodyState)
-    → Does P s t (left_as r states) run → {outcome : Turn (Unit {0}) Refusal} {after : List Float}
+    → Does P s t (left_as r states) run → {answer : Result (Unit {0})} → answer ≡ ran_as r.end tt → {outcome : Turn (Unit {0}) Refusal} {after : List Float}
     →
     ((nonlinear linear : ℕ) (scratch : List Float) → stepped outcome nonlinear linear after scratch ≡ concluded bodies scratch
-    (ran (ran_as r.end states) nonlinear linear))
+    (ran (leaving answer states) nonlinear linear))
     → u ≡ replicate SCRATCH (ratio 0 1)
     → stepped outcome r.nonlinear r.linear after u ≡ concluded bodies (replicate SCRATCH (ratio 0 1)) run
-solved-in bodies {run} r _ d {outcome} {after} e z =
+solved-in bodies {run} r states d {answer} q {outcome} {after} e z =
     ap (stepped outcome r.nonlinear r.linear after) z ∙ e r.nonlinear r.linear (replicate SCRATCH (ratio 0 1))
+    ∙ ap (λ (x : Result (List BodyState)). concluded bodies (replicate SCRATCH (ratio 0 1)) (ran x r.nonlinear r.linear)) (left r.end q)
     ∙ ap (concluded bodies (replicate SCRATCH (ratio 0 1))) d.is
+  where
+    left : (end : End) → answer ≡ ran_as end tt → leaving answer states ≡ ran_as end states
+    left Ends.Done h = ap (λ (x : Result (Unit {0})). leaving x states) h
+    left Ends.NonConvergent h = ap (λ (x : Result (Unit {0})). leaving x states) h
+    left Ends.ArithmeticOverflow h = ap (λ (x : Result (Unit {0})). leaving x states) h
 
 -- the step's scratch is the run's, with what stands behind it
 pub solved-scratch : (bodies scratch : List Float) (run : Counting (List BodyState)) {outcome : Turn (Unit {0}) Refusal} {nonlinear linear : ℕ}

@@ -1,19 +1,16 @@
 -- The calls of `start` and of `candidate` one after the other, each under its frame: by the contracts, what stays between them, and `?`.
 use Prim.Native.Nat.{ℕ, ◌+◌, ◌≤◌}
 use mathlib.Core.Path.{◌≡◌, refl, sym, ◌∙◌, ap}
-use mathlib.Core.Bool.{Bool, false}
 use mathlib.Core.List.{List}
 use native.Mathlib.Omega.{arith}
 use lib.ListN.{length}
 use lib.Ieee.{Float}
-use Rattle.arith.specs.Flow.{go, and_then, ◌>>=◌, tab}
+use Rattle.arith.specs.Flow.{go, stop, leaving, and_then, ◌>>=◌, tab}
 use Rattle.rows.specs.declared.body.MomentumBody.{MomentumBody}
 use Rattle.rows.specs.declared.geometry.EqualityRow.{EqualityRow}
-use Rattle.rows.specs.Fault.{Result}
+use Rattle.rows.specs.Fault.{CollisionError, Result}
 use Rattle.rows.specs.View.{Out, Kept}
 use Rattle.rows.specs.Region.{tab-length, kept_then, kept_more}
-use Rattle.rows.specs.declared.End.{End}
-use Rattle.rows.specs.declared.End.TheVariants as Ends
 use Rattle.solves.specs.declared.Table.{Table}
 use Rattle.solves.specs.declared.places.Generalized.{Generalized}
 use Rattle.solves.specs.declared.places.MassResponse.{MassResponse}
@@ -21,8 +18,7 @@ use Rattle.solves.specs.Layout.{ROW_TABLE, MASS_TABLE}
 use Rattle.solves.specs.Region.{Does}
 use Rattle.solves.specs.RegionLaws.{kept-vec}
 use Rattle.solves.specs.Solver.{transpose}
-use Rattle.solves.specs.Answer.{ran_as, is_done}
-use Rattle.solves.specs.DoesLaws.{fails, failed, does-stop, does-then, does-eq, does-is}
+use Rattle.solves.specs.DoesLaws.{does-stop, does-then, does-is}
 use Rattle.solves.specs.View.{START_ROWS, ROWS, MASSES, Shares, rows_on, shares_in, masses_at}
 use Rattle.solves.specs.ViewLaws.{kept-rows, kept-masses}
 use Rattle.step.specs.Layout.{IMPULSES, START, CANDIDATE, BODIES, STATES, USED}
@@ -33,11 +29,10 @@ use Rattle.step.specs.ViewLaws.{kept-starts, kept-candidates}
 use Rattle.step.specs.RunView.{Ours, impulses_at, started_at, found_at, Trying}
 
 -- what a call left goes into a record, or its fault goes on
-ran_then : {A B : Type 0} (r : End) (x : A) (f : A → B) → ran_as r (f x) ≡ (ran_as r x >>= λ y. go (f y))
+left_then : {A B : Type 0} (r : Result (Unit {0})) (x : A) (f : A → B) → leaving r (f x) ≡ (leaving r x >>= λ y. go (f y))
 unfolding and_then
-ran_then Ends.Done x f = refl
-ran_then Ends.NonConvergent x f = refl
-ran_then Ends.ArithmeticOverflow x f = refl
+left_then (go _) x f = refl
+left_then (stop _) x f = refl
 
 -- what stands before the first pass stays
 pub kept-started : {P : ℕ → Type 0} {s t : List Float} (kept : Kept P s t) (ia ib : List ℕ) (table : Table) → table.place + ROW_TABLE ≤ ROWS
@@ -64,26 +59,24 @@ module _ (job : Job) (bodies : List Float) (g : count_of_bodies bodies ≤ 16) (
   abbrev Makes : Result (List MomentumBody) → Type 0
   Makes x = Does (Out START BODIES) s s₁ x (start_bodies (tab (count_of_bodies bodies) (record_at bodies)))
 
-  pub no_body : (r : End) {b : Bool} → b ≡ is_done r → b ≡ false → Makes (ran_as r (start_bodies_at s₁ (count_of_bodies bodies))) → (y : Started)
-      → Begins s₁ (ran_as r y)
+  pub no_body : {e : CollisionError} → Makes (stop e) → Begins s₁ (stop e)
   unfolding start_of
-  no_body r eb h d y = does-eq (fails y r eb h) (does-stop on_start (λ i x. omega arith) (failed _ r eb d h))
+  no_body d = does-stop on_start (λ i x. omega arith) d
 
   module _ (d₁ : Makes (go (start_bodies_at s₁ (count_of_bodies bodies)))) (s₂ : List Float) where
     abbrev Writes : Result (List EqualityRow) → Type 0
     Writes x = Does (Out START_ROWS ROW_TABLE) s₁ s₂ x (write_rows job.joints job.count (start_bodies_at s₁ (count_of_bodies bodies)))
 
-    pub no_rows : (r : End) {b : Bool} → b ≡ is_done r → b ≡ false → (x : List EqualityRow) → Writes (ran_as r x) → (y : Started)
-        → Begins s₂ (ran_as r y)
+    pub no_rows : {e : CollisionError} → Writes (stop e) → Begins s₂ (stop e)
     unfolding start_of
-    no_rows r eb h x d y =
-        does-eq (fails y r eb h) (does-then on_start (λ i x. omega arith) (λ i x. x) d₁
-        (does-stop {Q = Out 0 USED} (on_rows (start_bodies_at s₁ (count_of_bodies bodies))) (λ i x. omega arith) (failed x r eb d h)))
+    no_rows d =
+        does-then on_start (λ i x. omega arith) (λ i x. x) d₁
+        (does-stop {Q = Out 0 USED} (on_rows (start_bodies_at s₁ (count_of_bodies bodies))) (λ i x. omega arith) d)
 
-    pub all-begun : (ia ib : List ℕ) {n : ℕ} → n ≤ 96 → Writes (go (rows_on ia ib s₂ START_ROWS n)) → (r : End) {s₃ : List Float}
-        → Does (Out MASSES MASS_TABLE) s₂ s₃ (ran_as r (masses_at s₃ MASSES (count_of_bodies bodies)))
+    pub all-begun : (ia ib : List ℕ) {n : ℕ} → n ≤ 96 → Writes (go (rows_on ia ib s₂ START_ROWS n)) → (r : Result (Unit {0})) {s₃ : List Float}
+        → Does (Out MASSES MASS_TABLE) s₂ s₃ (leaving r (masses_at s₃ MASSES (count_of_bodies bodies)))
         (prepare_masses (start_bodies_at s₂ (count_of_bodies bodies)))
-        → Begins s₃ (ran_as r (started_at ia ib s₃ (record { place = START_ROWS; rows = n; bodies = count_of_bodies bodies })))
+        → Begins s₃ (leaving r (started_at ia ib s₃ (record { place = START_ROWS; rows = n; bodies = count_of_bodies bodies })))
     unfolding start_of
     all-begun ia ib {n} l d₂ r {s₃} d₃ =
         does-then on_start (λ i x. omega arith) (λ i x. x) d₁
@@ -103,11 +96,11 @@ module _ (job : Job) (bodies : List Float) (g : count_of_bodies bodies ≤ 16) (
           system = record { rows = kept-rows d₃.kept ia ib START_ROWS n (λ i a b. omega arith) j; masses = masses_at s₃ MASSES (count_of_bodies bodies) };
         }
 
-        last : Does (Out 0 USED) s₂ s₃ (ran_as r (started_at ia ib s₃ (record { place = START_ROWS; rows = n; bodies = count_of_bodies bodies })))
+        last : Does (Out 0 USED) s₂ s₃ (leaving r (started_at ia ib s₃ (record { place = START_ROWS; rows = n; bodies = count_of_bodies bodies })))
             (on_rows (start_bodies_at s₁ (count_of_bodies bodies)) (rows_on ia ib s₂ START_ROWS n))
         last = record {
           kept = kept_more d₃.kept (λ i x. omega arith);
-          is = ap (ran_as r) there ∙ ran_then r (masses_at s₃ MASSES (count_of_bodies bodies)) made
+          is = ap (leaving r) there ∙ left_then r (masses_at s₃ MASSES (count_of_bodies bodies)) made
               ∙ ap (λ (x : Result (List MassResponse)). x >>= λ masses. go (made masses)) (d₃.is ∙ ap prepare_masses starts);
         }
 
@@ -133,11 +126,10 @@ module _ (job : Job) {S : List Float} {IA IB : List ℕ} {table : Table} (pre : 
       does-is d (ap (transpose (rows_on IA IB s table.place table.rows) (impulses_at s table))
       (sym (tab-length table.bodies (start_body_at s))))
 
-  pub not-pushed : (r : End) {b : Bool} → b ≡ is_done r → b ≡ false → Pushed (ran_as r (shares_in s₁ table.bodies)) → (y : Found)
-      → Tried s₁ (ran_as r y)
+  pub not-pushed : {e : CollisionError} → Pushed (stop e) → Tried s₁ (stop e)
   unfolding candidate_of
-  not-pushed r eb h d y = (
-    does-eq (fails y r eb h) (does-stop on_shares (λ i x. omega (arith, x.1)) (counted (failed _ r eb d h))),
+  not-pushed d = (
+    does-stop on_shares (λ i x. omega (arith, x.1)) (counted d),
     kept-vec d.kept IMPULSES table.rows (λ i a b. omega arith),
   )
 
@@ -155,19 +147,17 @@ module _ (job : Job) {S : List Float} {IA IB : List ℕ} {table : Table} (pre : 
     keeps : {x : Result (List MomentumBody)} → Moved x → Kept (λ i. (Shares i) × (Out CANDIDATE STATES i)) s s₂
     keeps d = kept_then (kept_more d₁.kept (λ i x. x.0)) d.kept (λ i x. x.1)
 
-    pub not-moved : (r : End) {b : Bool} → b ≡ is_done r → b ≡ false → Moved (ran_as r (candidates_at s₂ table.bodies)) → (y : Found)
-        → Tried s₂ (ran_as r y)
+    pub not-moved : {e : CollisionError} → Moved (stop e) → Tried s₂ (stop e)
     unfolding candidate_of
-    not-moved r eb h d y = (
-      does-eq (fails y r eb h)
-          (does-then on_shares (λ i x. omega (arith, x.1)) (λ i x. x.2) (counted d₁) (does-stop on_moved (λ i x. x) (moved (failed _ r eb d h)))),
+    not-moved d = (
+      does-then on_shares (λ i x. omega (arith, x.1)) (λ i x. x.2) (counted d₁) (does-stop on_moved (λ i x. x) (moved d)),
       kept-vec (keeps d) IMPULSES table.rows (λ i a b. (omega arith, omega arith)),
     )
 
-    pub all-tried : Moved (go (candidates_at s₂ table.bodies)) → {n : ℕ} → table.rows ≡ n → {s₃ : List Float} (r : End)
-        → Does (Out ROWS ROW_TABLE) s₂ s₃ (ran_as r (rows_on IA IB s₃ ROWS n))
+    pub all-tried : Moved (go (candidates_at s₂ table.bodies)) → {n : ℕ} → table.rows ≡ n → {s₃ : List Float} (r : Result (Unit {0}))
+        → Does (Out ROWS ROW_TABLE) s₂ s₃ (leaving r (rows_on IA IB s₃ ROWS n))
         (write_rows job.joints job.count (candidates_at s₂ table.bodies))
-        → Tried s₃ (ran_as r (found_at IA IB s₃ table))
+        → Tried s₃ (leaving r (found_at IA IB s₃ table))
     unfolding candidate_of
     all-tried d₂ {n} en {s₃} r d₃ = (
       does-then on_shares (λ i x. omega (arith, x.1)) {T = λ i. (Out CANDIDATE STATES i) × (Out ROWS ROW_TABLE i)} (λ i x. (x.2, x.0)) (counted d₁)
@@ -187,10 +177,10 @@ module _ (job : Job) {S : List Float} {IA IB : List ℕ} {table : Table} (pre : 
           rows = rows_on IA IB s₃ ROWS (en j);
         }
 
-        last : Does (Out ROWS ROW_TABLE) s₂ s₃ (ran_as r (found_at IA IB s₃ table)) (on_moved (candidates_at s₂ table.bodies))
+        last : Does (Out ROWS ROW_TABLE) s₂ s₃ (leaving r (found_at IA IB s₃ table)) (on_moved (candidates_at s₂ table.bodies))
         last = record {
           kept = d₃.kept;
           is =
-              ap (ran_as r) there ∙ ran_then r (rows_on IA IB s₃ ROWS n) found
+              ap (leaving r) there ∙ left_then r (rows_on IA IB s₃ ROWS n) found
               ∙ ap (λ (x : Result (List EqualityRow)). x >>= λ rows. go (found rows)) d₃.is;
         }

@@ -6,7 +6,7 @@ use mathlib.Core.List.{List}
 use native.Mathlib.Omega.{arith}
 use native.Mathlib.Nat.{zero-add}
 use lib.Ieee.{Float}
-use Rattle.arith.specs.Flow.{Turn, go, stop}
+use Rattle.arith.specs.Flow.{Turn, go, stop, leaving}
 use Rattle.arith.specs.Run.{ran, after, try, begin, again, leave_if, ◌>>=◌}
 use Rattle.arith.specs.RunLaws.{run_is, then-go, then-stop, try-go, try-stop, leave-yes, leave-no, over}
 use Rattle.arith.specs.RunLaws.{Reached, reached-none, reached-again, reached-over, reached-spent}
@@ -127,11 +127,11 @@ pub staged : {stage : Stage} (job : Job) (ia ib : List ℕ) (table : Table) {s u
     → Passes q ia ib table s u job r → Passes stage ia ib table s u job r
 staged {stage} job ia ib table {s} {u} r e = subst (λ (q : Stage). Passes q ia ib table s u job r) (sym e)
 
-pub used : (stage : Stage) (ia ib : List ℕ) (table : Table) {s u : List Float} (r : End) (x : List Float) {q : Stage} → stage ≡ q
-    → Does (Outside q) s u (ran_as r (given_at q u table)) (make_at q ia ib table s x)
-    → Does (Outside stage) s u (ran_as r (given_at stage u table)) (make_at stage ia ib table s x)
+pub used : (stage : Stage) (ia ib : List ℕ) (table : Table) {s u : List Float} (r : Result (Unit {0})) (x : List Float) {q : Stage} → stage ≡ q
+    → Does (Outside q) s u (leaving r (given_at q u table)) (make_at q ia ib table s x)
+    → Does (Outside stage) s u (leaving r (given_at stage u table)) (make_at stage ia ib table s x)
 used stage ia ib table {s} {u} r x e =
-    subst (λ (q : Stage). Does (Outside q) s u (ran_as r (given_at q u table)) (make_at q ia ib table s x)) (sym e)
+    subst (λ (q : Stage). Does (Outside q) s u (leaving r (given_at q u table)) (make_at q ia ib table s x)) (sym e)
 
 -- a solve leaves what is made of its solution
 pub solve-inside : (stage : Stage) (i : ℕ) → Outside stage i → Work i

@@ -1,11 +1,11 @@
 -- What the functions of the two loops say: what they leave alone, and that their answer with what they leave is the definition's at entry.
 use Rattle.std.specs.Prelude.{ℕ, ◌-◌, Bool, List, length, Float}
+use Rattle.arith.specs.Flow.{leaving}
 use Rattle.arith.specs.Run.{ran, up_to}
 use Rattle.rows.specs.declared.body.BodyState.{BodyState}
 use Rattle.rows.specs.declared.geometry.Joint.{Joint}
 use Rattle.rows.specs.Fault.{Result, NonConvergent}
 use Rattle.rows.specs.View.{Out}
-use Rattle.rows.specs.declared.End.{End}
 use Rattle.solves.specs.declared.Ended.{Ended}
 use Rattle.solves.specs.declared.Table.{Table}
 use Rattle.solves.specs.Region.{vec_at, Does}
@@ -28,19 +28,19 @@ use Rattle.step.specs.RunView.{impulses_at, started_at, found_at, job_for, rows_
 use Rattle.step.specs.RunView.{given_at, gained_at, pass_at, make_at, nonlinear_of, Outside}
 
 -- a function that leaves a list in the scratch, or fails: what it touches, and what it left
-abbrev pub Leaves : {A : Type 0} → (ℕ → Type 0) → List Float → List Float → End → (List Float → A) → Result A → Type 0
-Leaves P s s' r view defined = Does P s s' (ran_as r (view s')) defined
+abbrev pub Leaves : {A : Type 0} → (ℕ → Type 0) → List Float → List Float → Result (Unit {0}) → (List Float → A) → Result A → Type 0
+Leaves P s s' r view defined = Does P s s' (leaving r (view s')) defined
 
 -- `write_rows`, of the rows of the joints, on whatever bodies two lists say that they are
-abbrev pub WritesRows : List Float → List Float → List Joint → ℕ → ℕ → Bool → End → Type 0
+abbrev pub WritesRows : List Float → List Float → List Joint → ℕ → ℕ → Bool → Result (Unit {0}) → Type 0
 WritesRows s s' joints count place moved r = (body-count : ℕ) → Joined joints count body-count → (ia ib : List ℕ) → Sides joints count ia ib
     → Leaves (Out place ROW_TABLE) s s' r (λ u. rows_on ia ib u place (rows_before joints count)) (write_rows joints count (bodies_at moved s body-count))
 
 -- `start`, for whatever time step, of the rows of the joints, on whatever bodies two lists say that they are
-abbrev pub Starts : List Float → List Float → List Float → List Joint → End → Type 0
+abbrev pub Starts : List Float → List Float → List Float → List Joint → Result (Unit {0}) → Type 0
 Starts s s' bodies joints r = (task : Task) (ia ib : List ℕ) → Sides joints (length joints) ia ib
     → Does (Out 0 USED) s s'
-    (ran_as r (started_at ia ib s' (record { place = START_ROWS; rows = rows_before joints (length joints); bodies = count_of_bodies bodies })))
+    (leaving r (started_at ia ib s' (record { place = START_ROWS; rows = rows_before joints (length joints); bodies = count_of_bodies bodies })))
     (start_of (job_for joints task) (records_of bodies))
 
 -- both stages, from s to u: `correct`; `stage_pass`, `nonlinear_pass` and `velocity_pass`; `stage_loop`
@@ -65,8 +65,8 @@ module _ (s s' : List Float) (ia ib : List ℕ) (t : Table) where
   found = found_at ia ib s' t
 
   -- `candidate`
-  abbrev pub Finds : End → (Started → List Float → Result Found) → Type 0
-  Finds r f = Does Trying s s' (ran_as r found) (f start (impulses_at s t))
+  abbrev pub Finds : Result (Unit {0}) → (Started → List Float → Result Found) → Type 0
+  Finds r f = Does Trying s s' (leaving r found) (f start (impulses_at s t))
 
   -- `finish_run`
   abbrev pub Finishes : Ended → (Found → Counting (List BodyState)) → Type 0

@@ -25,28 +25,25 @@ use crate::passes::{Passed, Ran, Stage, Task, correct, pass_ended, run_ended, st
 use arith::fault::CollisionError;
 use arith::number::{abs, is_finite};
 use rows::body::MomentumBody;
-use rows::ended_by;
 use rows::geometry::{Joint, ROW, TOLERANCE, VALUE, clear, row_count, write_equality_rows};
 use solves::layout::{GENERALIZED, MASSES, RHS, ROWS, SOLUTION, START_ROWS};
 use solves::operator::transpose;
 use solves::places::{MassResponse, load_generalized, store_mass};
-use solves::{End, Ended, Pass, PerRow, Table, done};
+use solves::{End, Ended, Pass, PerRow, Table, done, end_of};
 use vectors::matrix::{Mat3, inverse_spd};
 use vectors::vector::Vec3;
 
-fn start_bodies(s: &mut [f64], bodies: &[f64], body_count: usize) -> End
+fn start_bodies(s: &mut [f64], bodies: &[f64], body_count: usize) -> Result<(), CollisionError>
     requires { (USED ≤ length s.old) × (RECORD * body_count ≤ length bodies.now) × (body_count ≤ BODIES_MOST) }
     ensures { Leaves (Out START BODIES) s.old s.new result (λ u. start_bodies_at u body_count) (start_bodies (tab body_count (record_at bodies.now))) }
 {
     for k in 0..body_count {
         let record = load_record(bodies, k);
         let inverse = inverse_spd(record.inertia).unwrap_or(Mat3::ZERO);
-        match MomentumBody::new(record, inverse) {
-            Ok(body) => store_start(s, k, body),
-            Err(error) => return ended_by(error),
-        }
+        let body = MomentumBody::new(record, inverse)?;
+        store_start(s, k, body);
     }
-    End::Done
+    Ok(())
 }
 
 fn fill(index: &mut [usize], from: usize, n: usize, body: usize)
@@ -83,7 +80,12 @@ fn load_moved(s: &[f64], k: usize, moved: bool) -> MomentumBody
 }
 
 // The rows of all joints, of the bodies at the start or of the candidates.
-fn write_rows(s: &mut [f64], joints: &[Joint], place: usize, moved: bool) -> End
+fn write_rows(
+    s: &mut [f64],
+    joints: &[Joint],
+    place: usize,
+    moved: bool,
+) -> Result<(), CollisionError>
     requires { (USED ≤ length s.old) × (place ≤ ROWS) × (Joined joints.now (length joints.now) BODIES_MOST) }
     ensures { WritesRows s.old s.new joints.now (length joints.now) place moved result }
 {
@@ -91,12 +93,9 @@ fn write_rows(s: &mut [f64], joints: &[Joint], place: usize, moved: bool) -> End
     for joint in joints {
         let a = load_moved(s, joint.body_a, moved);
         let b = load_moved(s, joint.body_b, moved);
-        match write_equality_rows(s, place + ROW * n, *joint, a, b) {
-            Ok(m) => n += m,
-            Err(error) => return ended_by(error),
-        }
+        n += write_equality_rows(s, place + ROW * n, *joint, a, b)?;
     }
-    End::Done
+    Ok(())
 }
 
 // The mass response of a body at its rotation, if it is finite.
@@ -118,34 +117,28 @@ fn mass_response(body: MomentumBody) -> Result<MassResponse, CollisionError>
     Ok(MassResponse { linear, angular })
 }
 
-fn prepare_mass(s: &mut [f64], k: usize, body: MomentumBody) -> End
+fn prepare_mass(s: &mut [f64], k: usize, body: MomentumBody) -> Result<(), CollisionError>
     requires { (USED ≤ length s.old) × (k < BODIES_MOST) }
     ensures { Leaves (Out (MASSES + 10 * k) 10) s.old s.new result (λ u. mass_at u MASSES k) (mass_response body) }
 {
-    let mass = match mass_response(body) {
-        Ok(mass) => mass,
-        Err(error) => return ended_by(error),
-    };
+    let mass = mass_response(body)?;
     let angular = mass.angular;
     let x = angular.column(0);
     let y = angular.column(1);
     let z = angular.column(2);
     store_mass(s, MASSES, k, mass.linear, x, y, z);
-    End::Done
+    Ok(())
 }
 
-fn prepare_masses(s: &mut [f64], body_count: usize, moved: bool) -> End
+fn prepare_masses(s: &mut [f64], body_count: usize, moved: bool) -> Result<(), CollisionError>
     requires { (USED ≤ length s.old) × (body_count ≤ BODIES_MOST) }
     ensures { Leaves (Out MASSES MASS_TABLE) s.old s.new result (λ u. masses_at u MASSES body_count) (prepare_masses (bodies_at moved s.old body_count)) }
 {
     for k in 0..body_count {
         let body = load_moved(s, k, moved);
-        let end = prepare_mass(s, k, body);
-        if !done(end) {
-            return end;
-        }
+        prepare_mass(s, k, body)?;
     }
-    End::Done
+    Ok(())
 }
 
 // A body kicked by its share, and drifted.
@@ -163,19 +156,17 @@ fn kick_and_drift(
 }
 
 // The candidates: each pass restarts from the starting bodies with the summed impulses.
-fn move_bodies(s: &mut [f64], body_count: usize, dt: f64) -> End
+fn move_bodies(s: &mut [f64], body_count: usize, dt: f64) -> Result<(), CollisionError>
     requires { (USED ≤ length s.old) × (body_count ≤ BODIES_MOST) }
     ensures { Leaves (Out CANDIDATE STATES) s.old s.new result (λ u. candidates_at u body_count)
         (move_bodies dt (start_bodies_at s.old body_count) (shares_in s.old body_count)) }
 {
     for k in 0..body_count {
         let share = load_generalized(s, GENERALIZED, k);
-        match kick_and_drift(load_start(s, k), share.linear, share.angular, dt) {
-            Ok(body) => store_candidate(s, k, body),
-            Err(error) => return ended_by(error),
-        }
+        let body = kick_and_drift(load_start(s, k), share.linear, share.angular, dt)?;
+        store_candidate(s, k, body);
     }
-    End::Done
+    Ok(())
 }
 
 fn rows_met(s: &[f64], n: usize) -> bool
@@ -194,7 +185,7 @@ fn fill_rhs(s: &mut [f64], dt: f64, n: usize)
     }
 }
 
-pub(crate) fn add_impulses(s: &mut [f64], n: usize) -> End
+pub(crate) fn add_impulses(s: &mut [f64], n: usize) -> Result<(), CollisionError>
     requires { (USED ≤ length s.old) × (n ≤ ROWS_MOST) }
     ensures { Leaves (Beside IMPULSES) s.old s.new result (λ u. vec_at u IMPULSES n) (add_impulses (vec_at s.old IMPULSES n) (vec_at s.old SOLUTION n)) }
 {
@@ -202,25 +193,26 @@ pub(crate) fn add_impulses(s: &mut [f64], n: usize) -> End
         let sum = s[IMPULSES + k] + s[SOLUTION + k];
         s[IMPULSES + k] = sum;
         if !is_finite(sum) {
-            return End::ArithmeticOverflow;
+            return Err(CollisionError::ArithmeticOverflow);
         }
     }
-    End::Done
+    Ok(())
 }
 
 // The first half: the candidates and their rows.
-fn candidate(s: &mut [f64], ia: &PerRow, ib: &PerRow, t: Table, joints: &[Joint], task: Task) -> End
+fn candidate(
+    s: &mut [f64],
+    ia: &PerRow,
+    ib: &PerRow,
+    t: Table,
+    joints: &[Joint],
+    task: Task,
+) -> Result<(), CollisionError>
     requires { (Ours s.old ia.now ib.now t) × (Joins joints.now (length joints.now) ia.now ib.now t) }
     ensures { Finds s.old s.new ia.now ib.now t result (candidate_of (job_for joints.now task)) × (impulses_at s.new t ≡ impulses_at s.old t) }
 {
-    let pushed = transpose(s, ia, ib, t, IMPULSES);
-    if !done(pushed) {
-        return pushed;
-    }
-    let moved = move_bodies(s, t.bodies, task.dt);
-    if !done(moved) {
-        return moved;
-    }
+    transpose(s, ia, ib, t, IMPULSES)?;
+    move_bodies(s, t.bodies, task.dt)?;
     write_rows(s, joints, ROWS, true)
 }
 
@@ -236,7 +228,7 @@ pub(crate) fn nonlinear_pass(
     requires { (Ours s.old ia.now ib.now t) × (Joins joints.now (length joints.now) ia.now ib.now t) }
     ensures { Passes Nonlinear ia.now ib.now t s.old s.new (job_for joints.now task) result }
 {
-    let found = candidate(s, ia, ib, t, joints, task);
+    let found = end_of(candidate(s, ia, ib, t, joints, task));
     if !done(found) {
         return pass_ended(Pass::Over(found), 0);
     }
@@ -248,19 +240,17 @@ pub(crate) fn nonlinear_pass(
 }
 
 // The states of the candidates, in their places.
-fn make_states(s: &mut [f64], bodies: &[f64], body_count: usize) -> End
+fn make_states(s: &mut [f64], bodies: &[f64], body_count: usize) -> Result<(), CollisionError>
     requires { (USED ≤ length s.old) × (body_count ≤ count_of_bodies bodies.now) × (body_count ≤ BODIES_MOST) }
     ensures { Leaves (Out CANDIDATE STATES) s.old s.new result (λ u. states_at u body_count)
         (states_of (records_of bodies.now) (candidates_at s.old body_count)) }
 {
     for k in 0..body_count {
         let body = load_candidate(s, k);
-        match body.state(load_state(bodies, RECORD * k)) {
-            Ok(state) => store_state(s, CANDIDATE + MOVING * k, state),
-            Err(error) => return ended_by(error),
-        }
+        let state = body.state(load_state(bodies, RECORD * k))?;
+        store_state(s, CANDIDATE + MOVING * k, state);
     }
-    End::Done
+    Ok(())
 }
 
 // The velocity loop over the candidates' rows and the states, after the nonlinear loop met its rows.
@@ -276,7 +266,7 @@ fn finish_run(
     requires { (Ours s.old ia.now ib.now (candidate_table t)) × (t.bodies ≤ count_of_bodies bodies.now) }
     ensures { Finishes s.old s.new ia.now ib.now t result (finish_of (job_for joints.now task) (records_of bodies.now)) }
 {
-    let weighed = prepare_masses(s, t.bodies, true);
+    let weighed = end_of(prepare_masses(s, t.bodies, true));
     if !done(weighed) {
         return Ended::new(weighed, 0);
     }
@@ -291,24 +281,18 @@ fn finish_run(
     if !done(end) {
         return Ended::new(end, corrected.linear);
     }
-    let made = make_states(s, bodies, t.bodies);
+    let made = end_of(make_states(s, bodies, t.bodies));
     Ended::new(made, corrected.linear)
 }
 
 // What stands before the first pass: starting bodies, rows and masses.
-fn start(s: &mut [f64], bodies: &[f64], joints: &[Joint]) -> End
+fn start(s: &mut [f64], bodies: &[f64], joints: &[Joint]) -> Result<(), CollisionError>
     requires { (USED ≤ length s.old) × (Joined joints.now (length joints.now) (count_of_bodies bodies.now)) }
     ensures { Starts s.old s.new bodies.now joints.now result }
 {
     let body_count = bodies.len() / RECORD;
-    let made = start_bodies(s, bodies, body_count);
-    if !done(made) {
-        return made;
-    }
-    let written = write_rows(s, joints, START_ROWS, false);
-    if !done(written) {
-        return written;
-    }
+    start_bodies(s, bodies, body_count)?;
+    write_rows(s, joints, START_ROWS, false)?;
     prepare_masses(s, body_count, false)
 }
 
@@ -326,7 +310,7 @@ pub(crate) fn run(bodies: &[f64], joints: &[Joint], dt: f64, s: &mut [f64]) -> R
     let mut ia = [0usize; 96];
     let mut ib = [0usize; 96];
     let n = row_bodies(&mut ia, &mut ib, joints);
-    let started = start(s, bodies, joints);
+    let started = end_of(start(s, bodies, joints));
     if !done(started) {
         return run_ended(started, 0, 0);
     }

@@ -10,6 +10,7 @@ mod velocity;
 
 ghost use Rattle.std.specs.Prelude.{◌≡◌, ◌%◌, ◌≤◌, length, replicate, Err};
 ghost use Rattle.arith.specs.Real.{ratio};
+ghost use Rattle.arith.specs.Flow.{leaving};
 ghost use Rattle.solves.specs.Answer.{ran_as};
 ghost use Rattle.solves.specs.Layout.{BODIES_MOST};
 ghost use Rattle.step.specs.Layout.{RECORD, SCRATCH, USED};
@@ -17,7 +18,7 @@ ghost use Rattle.step.specs.Records.{count_of_bodies};
 ghost use Rattle.step.specs.Checks.{number_of};
 ghost use Rattle.step.specs.Joined.{Joined};
 ghost use Rattle.step.specs.View.{states_at};
-ghost use Rattle.step.specs.Step.{concluded, run_for};
+ghost use Rattle.step.specs.Step.{fault_outcome, concluded, run_for};
 ghost use Rattle.step.specs.ConcludeView.{Concludes, Reports};
 ghost use Rattle.step.specs.Answered.{Answered};
 
@@ -25,6 +26,7 @@ use crate::bodies::{in_ground, write_states};
 use crate::checks::refusal;
 use crate::integrator::run;
 use crate::layout::{RECORD, SCRATCH};
+use arith::fault::CollisionError;
 use rows::geometry::{Joint, clear};
 use solves::End;
 
@@ -67,6 +69,18 @@ impl Refusal {
     }
 }
 
+// A run's failure is refusal 10 or 11.
+impl From<CollisionError> for Refusal {
+    ghost from_gives = { λ error refusal. Err refusal ≡ fault_outcome error };
+
+    fn from(error: CollisionError) -> Refusal {
+        match error {
+            CollisionError::NonConvergent => Refusal::NonConvergent,
+            CollisionError::ArithmeticOverflow => Refusal::ArithmeticOverflow,
+        }
+    }
+}
+
 // The answer with the nonlinear passes begun and the linear passes counted.
 #[derive(Clone, Copy, Debug, PartialEq, Eq)]
 pub struct Report {
@@ -88,20 +102,31 @@ impl Report {
 }
 
 // What the run's end is to the caller: its states are written where all stand on the plan's ground.
-fn conclude(bodies: &mut [f64], work: &[f64], body_count: usize, end: End) -> Result<(), Refusal>
+fn conclude(
+    bodies: &mut [f64],
+    work: &[f64],
+    body_count: usize,
+    ran: Result<(), CollisionError>,
+) -> Result<(), Refusal>
     requires { (length bodies.old % RECORD ≡ 0) × (body_count ≡ count_of_bodies bodies.old) × (USED ≤ length work.now) × (body_count ≤ BODIES_MOST) }
-    ensures { Concludes bodies.old bodies.new result (ran_as end (states_at work.now body_count)) }
+    ensures { Concludes bodies.old bodies.new result (leaving ran (states_at work.now body_count)) }
+{
+    ran?;
+    if in_ground(work, body_count) {
+        write_states(bodies, work, body_count);
+        return Ok(());
+    }
+    Err(Refusal::Ground)
+}
+
+// How the run ended, as a result.
+fn answer_of(end: End) -> Result<(), CollisionError>
+    ensures { result ≡ ran_as end tt }
 {
     match end {
-        End::Done => {
-            if in_ground(work, body_count) {
-                write_states(bodies, work, body_count);
-                return Ok(());
-            }
-            Err(Refusal::Ground)
-        }
-        End::NonConvergent => Err(Refusal::NonConvergent),
-        End::ArithmeticOverflow => Err(Refusal::ArithmeticOverflow),
+        End::Done => Ok(()),
+        End::NonConvergent => Err(CollisionError::NonConvergent),
+        End::ArithmeticOverflow => Err(CollisionError::ArithmeticOverflow),
     }
 }
 
@@ -114,7 +139,7 @@ fn solve_in(bodies: &mut [f64], joints: &[Joint], dt: f64, work: &mut [f64]) -> 
 {
     let body_count = bodies.len() / RECORD;
     let ran = run(bodies, joints, dt, work);
-    let outcome = conclude(bodies, work, body_count, ran.end);
+    let outcome = conclude(bodies, work, body_count, answer_of(ran.end));
     clear(work, 0, SCRATCH);
     Report {
         outcome,

@@ -7,9 +7,10 @@ ghost use Rattle.step.specs.Says.{Leaves, Corrects, Passes, Loops};
 
 use crate::integrator::{add_impulses, nonlinear_pass};
 use crate::velocity::{apply, velocity_pass};
+use arith::fault::CollisionError;
 use rows::geometry::Joint;
 use solves::solver::linear_solve;
-use solves::{End, Pass, PerRow, Table, done};
+use solves::{End, Pass, PerRow, Table, done, end_of};
 
 // The nonlinear loop from the starting bodies, and the velocity loop over the candidates that it found.
 #[derive(Clone, Copy)]
@@ -85,7 +86,13 @@ fn loop_ended(end: End, passes: usize, linear: usize) -> Looped
 }
 
 // What is made of a solution: the impulses of the next pass, or the candidates kicked.
-fn use_solution(s: &mut [f64], ia: &PerRow, ib: &PerRow, t: Table, stage: Stage) -> End
+fn use_solution(
+    s: &mut [f64],
+    ia: &PerRow,
+    ib: &PerRow,
+    t: Table,
+    stage: Stage,
+) -> Result<(), CollisionError>
     requires { Ours s.old ia.now ib.now t }
     ensures { Leaves (Outside stage) s.old s.new result (λ u. given_at stage u t) (make_at stage ia.now ib.now t s.old (solution_on s.old t)) }
 {
@@ -112,7 +119,7 @@ pub(crate) fn correct(
     if !done(end) {
         return pass_after(end, solved.linear);
     }
-    let used = use_solution(s, ia, ib, t, stage);
+    let used = end_of(use_solution(s, ia, ib, t, stage));
     pass_after(used, solved.linear)
 }
 

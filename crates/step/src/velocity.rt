@@ -17,12 +17,11 @@ use crate::passes::{Passed, Stage, Task, correct, pass_ended};
 use arith::fault::CollisionError;
 use arith::number::{abs, is_finite};
 use rows::body::MomentumBody;
-use rows::ended_by;
 use rows::geometry::EqualityRow;
 use solves::layout::{GENERALIZED, RHS, SOLUTION};
 use solves::operator::transpose;
 use solves::places::{load_generalized, load_row};
-use solves::{End, Pass, PerRow, Table, done};
+use solves::{End, Pass, PerRow, Table, done, end_of};
 use vectors::vector::Vec3;
 
 // The number of no body: there are at most 16.
@@ -85,7 +84,7 @@ fn velocity(row: EqualityRow, a: Motion, b: Motion) -> Result<f64, CollisionErro
     Ok(value)
 }
 
-fn velocity_rhs(s: &mut [f64], ia: &PerRow, ib: &PerRow, t: Table) -> End
+fn velocity_rhs(s: &mut [f64], ia: &PerRow, ib: &PerRow, t: Table) -> Result<(), CollisionError>
     requires { Ours s.old ia.now ib.now t }
     ensures { Leaves (Beside RHS) s.old s.new result (λ u. vec_at u RHS t.rows) (velocity_rhs (system_in s.old ia.now ib.now t).rows (candidates_of t s.old)) }
 {
@@ -96,12 +95,9 @@ fn velocity_rhs(s: &mut [f64], ia: &PerRow, ib: &PerRow, t: Table) -> End
         let row = load_row(s, ia, ib, t.place, k);
         a = motion_again(s, row.a, a);
         b = motion_again(s, row.b, b);
-        match velocity(row, a, b) {
-            Ok(value) => s[RHS + k] = -value,
-            Err(error) => return ended_by(error),
-        }
+        s[RHS + k] = -velocity(row, a, b)?;
     }
-    End::Done
+    Ok(())
 }
 
 fn compatible(s: &[f64], n: usize) -> bool
@@ -111,31 +107,26 @@ fn compatible(s: &[f64], n: usize) -> bool
     (0..n).all(|k| abs(s[RHS + k]) <= 1.0e-12)
 }
 
-fn kick_candidates(s: &mut [f64], body_count: usize) -> End
+fn kick_candidates(s: &mut [f64], body_count: usize) -> Result<(), CollisionError>
     requires { (USED ≤ length s.old) × (body_count ≤ BODIES_MOST) }
     ensures { Leaves (Out CANDIDATE STATES) s.old s.new result (λ u. candidates_at u body_count)
         (kick_bodies (candidates_at s.old body_count) (shares_in s.old body_count)) }
 {
     for k in 0..body_count {
         let share = load_generalized(s, GENERALIZED, k);
-        match load_candidate(s, k).kick(share.linear, share.angular) {
-            Ok(body) => store_candidate(s, k, body),
-            Err(error) => return ended_by(error),
-        }
+        let body = load_candidate(s, k).kick(share.linear, share.angular)?;
+        store_candidate(s, k, body);
     }
-    End::Done
+    Ok(())
 }
 
 // A solve's reaction on the candidates.
-pub(crate) fn apply(s: &mut [f64], ia: &PerRow, ib: &PerRow, t: Table) -> End
+pub(crate) fn apply(s: &mut [f64], ia: &PerRow, ib: &PerRow, t: Table) -> Result<(), CollisionError>
     requires { Ours s.old ia.now ib.now t }
     ensures { Leaves Correcting s.old s.new result (candidates_of t)
         (reaction_of (system_in s.old ia.now ib.now t).rows (candidates_of t s.old) (solution_on s.old t)) }
 {
-    let pushed = transpose(s, ia, ib, t, SOLUTION);
-    if !done(pushed) {
-        return pushed;
-    }
+    transpose(s, ia, ib, t, SOLUTION)?;
     kick_candidates(s, t.bodies)
 }
 
@@ -144,7 +135,7 @@ pub(crate) fn velocity_pass(s: &mut [f64], ia: &PerRow, ib: &PerRow, t: Table, t
     requires { Ours s.old ia.now ib.now t }
     ensures { (joints : List Joint) → Passes Velocity ia.now ib.now t s.old s.new (job_for joints task) result }
 {
-    let rated = velocity_rhs(s, ia, ib, t);
+    let rated = end_of(velocity_rhs(s, ia, ib, t));
     if !done(rated) {
         return pass_ended(Pass::Over(rated), 0);
     }

@@ -1,5 +1,5 @@
 -- The rows of the table, lent with their bodies.
-use Rattle.solves.specs.DoesLaws.{does-end}
+use Rattle.solves.specs.DoesLaws.{does-leave}
 use Rattle.solves.proofs.PlaceLaws.{lent-pushes}
 use Rattle.solves.proofs.operator.transpose.Goals as goal
 
@@ -8,4 +8,4 @@ new-requires c =
     let pre = c.requires.0 in record { table = pre.table; most = pre.most; bodies = pre.bodies; a-there = pre.a-there; b_there = pre.b_there }
 
 pub returns : goal.returns
-returns c = does-end _ c.transpose.result c.end_of.ensures (lent-pushes _ c.new.ensures _ _ c.transpose.ensures)
+returns c = does-leave _ c.transpose.result (lent-pushes _ c.new.ensures _ _ c.transpose.ensures)

@@ -1,5 +1,6 @@
 use Rattle.std.proofs.Common.{◌≤◌, arith, length}
 use Rattle.std.specs.Prelude.{leb}
+use Rattle.solves.specs.DoesLaws.{does-end}
 use Rattle.solves.specs.declared.Table.{Table}
 use Rattle.solves.specs.View.{START_ROWS}
 use Rattle.step.specs.declared.passes.Task.{Task}
@@ -12,16 +13,16 @@ use Rattle.step.proofs.integrator.run.Goals as goal
 pub returns-then-not-done : goal.returns-then-not-done
 returns-then-not-done c =
     let task : Task = record { dt = c.args.dt; cyclic = leb (count_of_bodies c.args.bodies.now) (length c.args.joints.now) } in
-    left_is _ c.run_ended.ensures (not-started _ _ c.row_bodies-n.ensures.1 _ c.start-started.result
-    (started-as c.row_bodies-n.ensures.1 _ c.start-started.result c.row_bodies-n.ensures.2
-    (c.start-started.ensures task _ _ c.row_bodies-n.ensures.1)) c.done.ensures c.if-not-done.true)
+    left_is _ c.run_ended.ensures (not-started _ _ c.row_bodies-n.ensures.1 _ c.end_of-started.result
+    (started-as c.row_bodies-n.ensures.1 _ c.end_of-started.result c.row_bodies-n.ensures.2
+    (does-end _ c.start.result c.end_of-started.ensures (c.start.ensures task _ _ c.row_bodies-n.ensures.1)).0) c.done.ensures c.if-not-done.true)
 
 pub returns-then-not-done-2 : goal.returns-then-not-done-2
 returns-then-not-done-2 c =
     let task : Task = record { dt = c.args.dt; cyclic = leb (count_of_bodies c.args.bodies.now) (length c.args.joints.now) } in
-    left_is _ c.run_ended-then-not-done-2.ensures (not-met _ _ c.row_bodies-n.ensures.1 _ c.start-started.result
-    (started-as c.row_bodies-n.ensures.1 _ c.start-started.result c.row_bodies-n.ensures.2
-    (c.start-started.ensures task _ _ c.row_bodies-n.ensures.1)) c.done.ensures c.if-not-done.false
+    left_is _ c.run_ended-then-not-done-2.ensures (not-met _ _ c.row_bodies-n.ensures.1 _ c.end_of-started.result
+    (started-as c.row_bodies-n.ensures.1 _ c.end_of-started.result c.row_bodies-n.ensures.2
+    (does-end _ c.start.result c.end_of-started.ensures (c.start.ensures task _ _ c.row_bodies-n.ensures.1)).0) c.done.ensures c.if-not-done.false
     (omega arith) (omega (arith, c.row_bodies-n.ensures.0.most, c.requires.1.few)) c.requires.1.small c.clear.ensures
     c.stage_loop-met.result c.stage_loop-met.ensures c.done-2.ensures c.if-not-done-2.true)
 
@@ -38,9 +39,9 @@ overflow_add-met c =
 pub returns : goal.returns
 returns c =
     let task : Task = record { dt = c.args.dt; cyclic = leb (count_of_bodies c.args.bodies.now) (length c.args.joints.now) } in
-    left_is _ c.run_ended-2.ensures (all-run _ _ c.row_bodies-n.ensures.1 _ c.start-started.result
-    (started-as c.row_bodies-n.ensures.1 _ c.start-started.result c.row_bodies-n.ensures.2
-    (c.start-started.ensures task _ _ c.row_bodies-n.ensures.1)) c.done.ensures c.if-not-done.false
+    left_is _ c.run_ended-2.ensures (all-run _ _ c.row_bodies-n.ensures.1 _ c.end_of-started.result
+    (started-as c.row_bodies-n.ensures.1 _ c.end_of-started.result c.row_bodies-n.ensures.2
+    (does-end _ c.start.result c.end_of-started.ensures (c.start.ensures task _ _ c.row_bodies-n.ensures.1)).0) c.done.ensures c.if-not-done.false
     (omega arith) (omega (arith, c.row_bodies-n.ensures.0.most, c.requires.1.few)) c.requires.1.small c.clear.ensures
     c.stage_loop-met.result c.stage_loop-met.ensures c.done-2.ensures c.if-not-done-2.false
     c.finish_run-last.result c.finish_run-last.ensures)

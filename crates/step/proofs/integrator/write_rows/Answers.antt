@@ -1,7 +1,6 @@
 -- The rows of a joint more, a joint whose rows fail, and the last.
-use Rattle.std.proofs.Common.{arith}
-use Rattle.rows.specs.AnswerLaws.{ended-by}
-use Rattle.solves.specs.DoesLaws.{does-eq}
+use Rattle.std.proofs.Common.{refl, arith}
+use Rattle.std.proofs.lemmas.Result.{err_from_is_err_and}
 use Rattle.step.proofs.RowLaws.{before-none, wrote_none, wrote-rows, wrote-again, wrote-stops, wrote-ends}
 use Rattle.step.proofs.StepLaws.{written-most}
 use Rattle.step.proofs.integrator.write_rows.Goals as goal
@@ -20,24 +19,25 @@ write_equality_rows-requires c = omega (arith, c.loop-joint.invariant.few, c.loo
 
 pub overflow_add-n : goal.overflow_add-n
 overflow_add-n c =
-    omega (arith, c.loop-joint.invariant.few, c.loop-joint-test.true, c.requires.2.few, written-most c.write_equality_rows.ensures _ c.in-Ok.is)
+    omega (arith, c.loop-joint.invariant.few, c.loop-joint-test.true, c.requires.2.few, written-most c.in_ok-n.ensures _ refl)
 
-pub returns-in-Err : goal.returns-in-Err
-returns-in-Err c body-count J ia ib S =
-    does-eq (ended-by _ _ c.ended_by.ensures)
+pub returns-in_err-n : goal.returns-in_err-n
+returns-in_err-n c body-count J ia ib S =
+    let error = err_from_is_err_and c.from_residual.result c.from_residual.ensures.1 in
+    rw (error.1, error.2)
     (wrote-stops _ _ c.args.moved _ _ body-count J ia ib S c.loop-joint.joint-index _ _ (c.loop-joint.invariant.wrote body-count J ia ib S)
     c.loop-joint-test.true (omega (arith, c.loop-joint.invariant.few, c.requires.2.few)) c.requires.1 c.loop-joint.invariant.counted
-    c.load_moved-a.ensures c.load_moved-b.ensures _ c.write_equality_rows.ensures c.in-Err.is)
+    c.load_moved-a.ensures c.load_moved-b.ensures _ c.in_err-n.ensures refl)
 
 pub loop-joint-preserved : goal.loop-joint-preserved
 loop-joint-preserved c =
     record {
-      few = omega (arith, c.loop-joint.invariant.few, written-most c.write_equality_rows.ensures _ c.in-Ok.is);
-      counted = wrote-rows _ _ _ c.loop-joint.invariant.counted c.write_equality_rows.ensures _ c.in-Ok.is;
+      few = omega (arith, c.loop-joint.invariant.few, written-most c.in_ok-n.ensures _ refl);
+      counted = wrote-rows _ _ _ c.loop-joint.invariant.counted c.in_ok-n.ensures _ refl;
       wrote = λ body-count J ia ib S.
           wrote-again _ _ c.args.moved _ _ body-count J ia ib S c.loop-joint.joint-index _ _ (c.loop-joint.invariant.wrote body-count J ia ib S)
           c.loop-joint-test.true (omega (arith, c.loop-joint.invariant.few, c.requires.2.few)) c.requires.1 c.loop-joint.invariant.counted
-          c.load_moved-a.ensures c.load_moved-b.ensures _ c.write_equality_rows.ensures c.in-Ok.is;
+          c.load_moved-a.ensures c.load_moved-b.ensures _ c.in_ok-n.ensures refl;
     }
 
 pub returns : goal.returns

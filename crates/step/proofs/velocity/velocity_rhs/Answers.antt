@@ -1,7 +1,6 @@
 -- A rate more, a rate that fails, and the last.
 use Rattle.std.proofs.Common.{arith}
-use Rattle.rows.specs.AnswerLaws.{ended-by}
-use Rattle.solves.specs.DoesLaws.{does-eq}
+use Rattle.std.proofs.lemmas.Result.{err_from_is_err_and}
 use Rattle.step.proofs.VelocityLaws.{rhs-none, row-a, row-b, no-body-remembered, motion-remembered, rhs-again, rhs-stops, rhs-ends}
 use Rattle.step.proofs.velocity.velocity_rhs.Goals as goal
 
@@ -26,16 +25,17 @@ motion_again-b-requires c = (
   c.loop-k.invariant.b,
 )
 
-pub returns-in-Err : goal.returns-in-Err
-returns-in-Err c =
-    does-eq (ended-by _ _ c.ended_by.ensures)
+pub returns-in_err-s : goal.returns-in_err-s
+returns-in_err-s c =
+    let error = err_from_is_err_and c.from_residual.result c.from_residual.ensures.1 in
+    rw (error.1, error.2)
     (rhs-stops c.requires.ready c.loop-k.invariant.made c.loop-k-test.true c.load_row-row.ensures
-    (c.in-Err.ensures _ _ c.motion_again-a.ensures.moves c.motion_again-b.ensures.moves))
+    (c.in_err-s.ensures _ _ c.motion_again-a.ensures.moves c.motion_again-b.ensures.moves))
 
 pub loop-k-preserved : goal.loop-k-preserved
 loop-k-preserved c = record {
   made = rhs-again c.requires.ready c.loop-k.invariant.made c.loop-k-test.true c.load_row-row.ensures
-      (c.in-Ok.ensures _ _ c.motion_again-a.ensures.moves c.motion_again-b.ensures.moves);
+      (c.in_ok-s.ensures _ _ c.motion_again-a.ensures.moves c.motion_again-b.ensures.moves);
   a = motion-remembered c.loop-k.k _ (omega arith) c.motion_again-a.ensures;
   b = motion-remembered c.loop-k.k _ (omega arith) c.motion_again-b.ensures;
 }
