@@ -1,4 +1,4 @@
--- Newton's iteration, the check of a guessed root, the cases of `sqrt` and of the remainder, and the ways through the other functions.
+-- Newton's iteration, the check of a guessed root, the cases of `sqrt` and of the remainder, and laws of the other functions.
 mod Newton
 mod NearOne
 mod RootCases

@@ -1,15 +1,15 @@
 -- The cases of `remainder::unsigned_remainder`: an x below TAU, a finite x from TAU on, and no finite x; and an x below 0.
 use mathlib.Core.Path.{◌≡◌, refl, sym, ap, ◌∙◌, subst}
-use mathlib.Core.Bool.{Bool, true, false, not, true≢false}
+use mathlib.Core.Bool.{true, false, true≢false}
 use Prim.Native.Nat.{ℕ, zero, suc, ◌+◌, ◌-◌, ◌*◌, ◌/◌, ◌%◌, ◌^◌, ◌≤◌, ◌<◌}
 use native.Mathlib.Nat.{le_trans, le_of_eq, le_of_lt, not-suc-le-zero, lt_of_lt_of_le, lt_of_le_of_lt, lt_of_not-le, not-le_of_lt}
 use native.Mathlib.Nat.{le_of_suc-le-suc, le-add_left, zero-lt-suc, zero-mul, mul-one, mul_assoc, mul_right_comm, mul-pos}
 use native.Mathlib.Nat.{mul-le-mul_right, mul-lt-mul_of_pos_right, le_of_mul-le-mul_right, mod-lt, div-lt_iff_lt-mul, add_comm}
 use native.Mathlib.Omega.{arith}
 use lib.IntN.{ℤ, pos, negsuc}
-use lib.Dec.{T, ltb, ltb→lt, nltb→le, le→leb, not_T, lit<, lit≤}
+use lib.Dec.{T, ltb, ltb→lt, not_T, lit<, lit≤}
 use lib.Pow.{pow-add, pow_pos, pow_mono, shl_lt}
-use lib.Ieee.{Float, nan, inf, fin, binary64, up, down, size, of_fields, of_bits, to_bits, fits, is_nan, in_float, of_int}
+use lib.Ieee.{Float, nan, inf, fin, binary64, up, down, size, of_fields, of_bits, to_bits, fits, of_int}
 use lib.Ieee.{round, lt, div, mul, neg, rem}
 use lib.Ieee.Digits.{size-le}
 use lib.Ieee.Fits.{down_pos, kept-lt}
@@ -17,11 +17,13 @@ use lib.Ieee.Exact.{HasValue}
 use lib.Ieee.Scale.{round_same}
 use lib.Ieee.Back.{round_whole}
 use lib.Ieee.Bits.{of_bits-to_bits, is_false}
+use Rattle.std.proofs.lemmas.Bool.{ltb-false}
 use Rattle.arith.specs.Real.{F}
 use Rattle.arith.specs.RealLaws.{zero_is, no, below-zero}
 use Rattle.arith.specs.Angle.{TAU}
 use Rattle.arith.specs.Laws.Rounding.{fits_below, mul-values, neg-neg}
 use Rattle.arith.specs.Laws.RootBits.{fields, exponent_lt, low_value, high_value}
+use Rattle.arith.proofs.Ways.{infinity_is}
 use Rattle.arith.proofs.RootCases.{invalid}
 use Rattle.arith.proofs.RemainderLaws.{mod-scale, rem-units, rem-small, rem-neg}
 
@@ -53,9 +55,6 @@ unit-value : HasValue unit false 1 (2 ^ 50)
 unfolding of_bits
 unit-value = (refl, refl)
 
-no_lt : (a b : ℕ) → ltb a b ≡ false → b ≤ a
-no_lt a b h = nltb→le a b (subst (λ (x : Bool). T (not x)) (sym h) tt)
-
 -- ---- below TAU
 tau-pos : (d : ℕ) → 0 < d → 0 < core * 1 * d
 tau-pos d h = mul-pos (lit< tt) h
@@ -83,17 +82,8 @@ nowhere-at nan h = refl
 nowhere-at (inf s) h = refl
 nowhere-at (fin s m e) h = absurd (true≢false h)
 
-pub no-finite : (x : Float) {big : Float} → big ≡ inf false → lt x big ≡ false → div binary64 (F 0) (F 0) ≡ rem binary64 x TAU
-no-finite x e h = invalid ∙ nowhere-at x (ap (lt x) (sym e) ∙ h)
-
-no-nan-at : (x : Float) → lt x (inf false) ≡ true → T (not (is_nan x))
-unfolding lt is_nan
-no-nan-at nan k = no k
-no-nan-at (inf s) k = tt
-no-nan-at (fin s m e) k = tt
-
-pub no_nan : (x : Float) {big : Float} → big ≡ inf false → lt x big ≡ true → T (not (is_nan x))
-no_nan x e h = no-nan-at x (ap (lt x) (sym e) ∙ h)
+pub no-finite : (x : Float) → lt x (F 0x7ff0_0000_0000_0000) ≡ false → div binary64 (F 0) (F 0) ≡ rem binary64 x TAU
+no-finite x h = invalid ∙ nowhere-at x (ap (lt x) (sym infinity_is) ∙ h)
 
 -- ---- finite, from TAU on: its bits
 bits-lt : (m : ℕ) (e : ℤ) → T (fits binary64 (fin false m e)) → to_bits binary64 (fin false m e) < 9218868437227405312
@@ -176,14 +166,14 @@ unfolding lt
 located-of nan f h k = no k
 located-of (inf true) f h k = absurd (true≢false h)
 located-of (inf false) f h k = no k
-located-of (fin false m e) f h k = located-bits m e f (no_lt (m * up e * 2 ^ 47) (core * 1 * down e) h)
+located-of (fin false m e) f h k = located-bits m e f (ltb-false (m * up e * 2 ^ 47) (core * 1 * down e) h)
 located-of (fin true m e) f h k =
     let a = m * up e * 2 ^ 47 in let b = core * 1 * down e in
-    absurd (not-le_of_lt (lt_of_lt_of_le (tau-pos (down e) (down_pos e)) (le-add_left b a)) (no_lt 0 (a + b) h))
+    absurd (not-le_of_lt (lt_of_lt_of_le (tau-pos (down e) (down_pos e)) (le-add_left b a)) (ltb-false 0 (a + b) h))
 
-pub located : {x big : Float} → big ≡ inf false → T (fits binary64 x) → lt x TAU ≡ false → lt x big ≡ true
+pub located : {x : Float} → T (fits binary64 x) → lt x TAU ≡ false → lt x (F 0x7ff0_0000_0000_0000) ≡ true
     → Located x (to_bits binary64 x)
-located {x} e f h k = located-of x f (ap (lt x) (sym tau-is) ∙ h) (ap (lt x) (sym e) ∙ k)
+located {x} f h k = located-of x f (ap (lt x) (sym tau-is) ∙ h) (ap (lt x) (sym infinity_is) ∙ k)
 
 -- ---- and its remainder
 digits-pos : 0 < digits
@@ -191,10 +181,6 @@ digits-pos = lit< tt
 
 remainder-lt : (n : ℕ) → n % digits ≤ 2 ^ 53
 remainder-lt n = le_trans (le_of_lt (mod-lt n digits-pos)) (lit≤ tt)
-
-pub in-float : (n : ℕ) {r : ℕ} → r ≡ n % digits → T (in_float binary64 (pos r))
-unfolding in_float
-in-float n {r} e = le→leb r (2 ^ 53) (subst (λ (z : ℕ). z ≤ 2 ^ 53) (sym e) (remainder-lt n))
 
 product : (r : ℕ) → r ≤ 2 ^ 53 → mul binary64 (of_int binary64 (pos r)) unit ≡ round binary64 false r (2 ^ 50)
 unfolding of_int
@@ -232,3 +218,8 @@ turned x h = ap (lt (neg x)) zero_is ∙ turned-at x (ap (lt x) (sym zero_is) �
 
 pub minus-remainder : (x r : Float) → r ≡ rem binary64 (neg x) TAU → neg r ≡ rem binary64 x TAU
 minus-remainder x r e = ap neg (e ∙ rem-neg binary64 x TAU) ∙ neg-neg (rem binary64 x TAU)
+
+-- ---- what the two functions use
+pub ruleset below = (turned, minus-remainder)
+
+pub ruleset above = (located, reduced, no-finite)

@@ -1,18 +1,21 @@
--- The cases of `root::sqrt`: which values pass the tests `0.0 < x` and `x == 0.0`, and what their bits are.
-use mathlib.Core.Path.{◌≡◌, refl, sym, ap, ◌∙◌, subst}
+-- The cases of `root::sqrt`: which values pass the tests `0.0 < x` and `x == 0.0`, and what their bits are; and the shift of `root::root_bits`.
+use mathlib.Core.Path.{◌≡◌, refl, sym, ap, ◌∙◌}
 use mathlib.Core.Bool.{Bool, true, false, not, cond, true≢false}
 use Prim.Native.Nat.{ℕ, zero, suc, ◌+◌, ◌*◌, ◌/◌, ◌%◌, ◌≤◌, ◌<◌}
-use native.Mathlib.Nat.{le_trans, lt_of_le_of_lt, not-le_of_lt, zero-lt-suc, zero-mul, mul-pos, mod-eq_of_lt, eq-zero-or-pos, mod-le, le-suc}
+use native.Mathlib.Nat.{zero-lt-suc, zero-mul, mul-pos, mod-eq_of_lt, eq-zero-or-pos, mod-lt}
 use mathlib.Core.Logic.{inl, inr}
 use native.Mathlib.Omega.{arith}
 use lib.IntN.{ℤ, pos}
-use lib.Dec.{T, leb, ltb, eqb, nleb→lt, ltb→lt, lt→ltb, not_T}
-use lib.Ieee.{Float, nan, inf, fin, binary64, top, ones, hid, up, down, odd, of_fields, of_bits, to_bits, fits, is_nan, nan_bits, lt, eq, div}
+use lib.Count.{count_leading_zeros}
+use lib.Dec.{T, leb, ltb, eqb, nleb→lt, lt→ltb, lit<}
+use lib.Ieee.{Float, nan, inf, fin, binary64, top, hid, up, down, odd, of_fields, of_bits, to_bits, fits, lt, eq, div}
 use lib.Ieee.Fits.{up_pos}
 use lib.Ieee.Bits.{of_bits-to_bits, nan_bits_above, is_true}
+use Rattle.std.proofs.lemmas.Float.{le_of_lt, le_right, not_nan_f64_bits}
 use Rattle.arith.specs.Root.{sqrt}
 use Rattle.arith.specs.RealLaws.{zero_is, zero_left, no}
-use Rattle.arith.specs.Laws.SquareRoot.{root-of-zero}
+use Rattle.arith.specs.Laws.SquareRoot.{root-of-zero, rooted}
+use Rattle.arith.specs.Laws.RootBits.{Shifted, shifted, sqrt-low, sqrt-high}
 
 -- the two tests, with 0.0 by its value
 above : (x : Float) → (b : Bool) → lt (of_bits binary64 0) x ≡ b → lt (fin false 0 (pos 0)) x ≡ b
@@ -22,12 +25,6 @@ same : (x : Float) → (b : Bool) → eq x (of_bits binary64 0) ≡ b → eq x (
 same x b h = ap (λ (z : Float). eq x z) (sym zero_is) ∙ h
 
 -- ---- above zero
-pub above_no_nan : (x : Float) → lt (of_bits binary64 0) x ≡ true → T (not (is_nan x))
-unfolding lt is_nan
-above_no_nan nan h = no (above nan true h)
-above_no_nan (inf s) h = tt
-above_no_nan (fin s m e) h = tt
-
 not-above-zero : lt (of_bits binary64 0) (of_bits binary64 0) ≡ false
 unfolding lt of_bits
 not-above-zero = refl
@@ -90,14 +87,6 @@ infinite-at (fin false m e) h p = absurd (true≢false p)
 pub infinite : {x : Float} → T (fits binary64 x) → lt (of_bits binary64 0) x ≡ true → 9218868437227405312 ≤ to_bits binary64 x → x ≡ sqrt binary64 x
 infinite {x} f h b = infinite-at x (above x true h) (ap plain (sym (of_bits-to_bits binary64 x f)) ∙ plain-high (to_bits binary64 x) b)
 
--- ---- the bits that `root_bits` gives are no NaN's
-pub no-nan-bits : {n : ℕ} → n < 9218868437227405312 → T (not (nan_bits binary64 n))
-no-nan-bits {n} h =
-    subst (λ (b : Bool). T (not b)) (sym (nan_bits_above binary64 n))
-    (not_T (ltb (ones binary64 * hid binary64) (n % top binary64)) (λ t.
-    not-le_of_lt (lt_of_le_of_lt (mod-le n (top binary64)) h)
-    (le_trans (le-suc 9218868437227405312) (ltb→lt (ones binary64 * hid binary64) (n % top binary64) t))))
-
 -- ---- zero, and what is left
 pub at_zero : {x : Float} → eq x (of_bits binary64 0) ≡ true → x ≡ sqrt binary64 x
 at_zero {x} h = root-of-zero x (same x true h)
@@ -124,3 +113,12 @@ nowhere-at (fin false (suc m) e) h k = absurd (true≢false (sym (above-left m e
 pub nowhere : (x : Float) → lt (of_bits binary64 0) x ≡ false → eq x (of_bits binary64 0) ≡ false
     → div binary64 (of_bits binary64 0) (of_bits binary64 0) ≡ sqrt binary64 x
 nowhere x h k = invalid ∙ nowhere-at x (above x false h) (same x false k)
+
+-- ---- root_bits
+pub lifted : (b : ℕ) → 0 < b → b / 4503599627370496 ≡ 0 → Shifted (b % 4503599627370496) (count_leading_zeros 64 (b % 4503599627370496))
+lifted b p e = shifted (b % 4503599627370496) (omega arith) (mod-lt b (lit< tt))
+
+pub ruleset shifts = (lifted, sqrt-low, sqrt-high)
+
+-- ---- sqrt
+pub ruleset roots = (le_of_lt, le_right, not_nan_f64_bits, bits_pos, infinite, at_zero, nowhere, rooted, of_bits-to_bits)

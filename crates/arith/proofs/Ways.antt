@@ -1,4 +1,4 @@
--- The code's expressions are the definitions: one law for each way through a function, over plain variables.
+-- Two literals of the code; which numbers `sin_cos` and `atan2` answer; `abs` and `is_finite` by their tests.
 use lib.Ieee as Ieee
 use lib.Ieee.{Float, nan, inf, fin, binary64, of_bits, round, neg, fits, up, down}
 use mathlib.Core.Path.{◌≡◌, refl, sym, ap, ◌∙◌}
@@ -12,63 +12,25 @@ use native.Mathlib.Omega.{arith}
 use Rattle.arith.specs.RealLaws.{finite-is, zero_left, not_zero_left, zero_is, no, no-below, below-zero}
 use Rattle.arith.specs.Laws.Rounding.{round-self}
 use Rattle.exact.specs.Compare.{lt_val, le_val}
-use Rattle.arith.specs.FlowLaws.{cond_yes, cond_no}
-use Prim.Native.Nat.{ℕ, zero, suc, ◌+◌, ◌-◌, ◌*◌}
-use Rattle.arith.specs.Real.{◌⊕◌, ◌⊖◌, ◌⊗◌, ◌⊘◌, F, is_finite, abs_of}
-use Rattle.arith.specs.Root.{sqrt}
-use Rattle.arith.specs.Hypot.{hypot_of, scaled_root}
+use Prim.Native.Nat.{ℕ, zero, suc, ◌+◌, ◌*◌}
+use Rattle.arith.specs.Real.{◌⊖◌, ◌⊘◌, F, ratio, is_finite, abs_of}
 use Rattle.std.specs.Prelude.{Result, Ok, Err}
 use Rattle.arith.specs.Fault.{CollisionError, number, refusal_number, ArithmeticOverflow}
-use Rattle.arith.specs.Angle.{PI, TAU, sine_sum, cosine_sum, sums_at, doubled, halved_of, sin_cos_of}
-use Rattle.arith.specs.Angle.{half_tangent, arc_sum, octant, quadrant, facing, angle_of, atan2_of, rem_tau_of}
+use Rattle.arith.specs.Angle.{PI, halved_of, sin_cos_of, atan2_of}
 use Rattle.arith.specs.Answered.{SinCosAnswered, Atan2Answered}
 use Rattle.arith.specs.declared.angle.SineCosine.{SineCosine}
 
--- ---- hypot
-pub scaled-zero : (a b : Float) → Ieee.eq a (F 0) ≡ true → F 0 ≡ scaled_root a b
-unfolding of_bits round scaled_root
-scaled-zero a b h = cond_yes _ _ h
+-- ---- literals
+pub infinity_is : F 0x7ff0_0000_0000_0000 ≡ inf false
+unfolding of_bits
+infinity_is = refl
 
-pub scaled-else : (a b : Float) {s : Float} → Ieee.eq a (F 0) ≡ false → s ≡ sqrt binary64 (F 0x3ff0_0000_0000_0000 ⊕ b ⊘ a ⊗ (b ⊘ a)) → a ⊗ s ≡ scaled_root a b
-unfolding of_bits round scaled_root
-scaled-else a b h e = ap (λ (s : Float). a ⊗ s) e ∙ cond_no _ _ h
+-- the nearest double to half of PI
+pub half_pi : F 0x3ff9_21fb_5444_2d18 ≡ PI ⊘ ratio 2 1
+unfolding of_bits round Ieee.div
+half_pi = refl
 
 -- ---- sine and cosine
-pub sums-at-is : (x : Float) {s c : Float} → s ≡ sine_sum x → c ≡ cosine_sum x → record { s = s; c = c } ≡ sums_at x
-unfolding sums_at
-sums-at-is x {c = c} e f = ap (λ (s : Float). record { s = s; c = c }) e ∙ ap (λ (c : Float). record { s = sine_sum x; c = c }) f
-
-module _ (x : Float) where
-  pub turn-none : {k : ℕ} → k ≡ 0 → sums_at x ≡ halved_of k x
-  unfolding halved_of
-  turn-none h = ap (λ (k : ℕ). halved_of k x) (sym h)
-
-  pub turn_small : {k : ℕ} → (k ≡ 0 → ⊥) → Ieee.le x (F 0x3fe0_0000_0000_0000) ≡ true → sums_at x ≡ halved_of k x
-  unfolding of_bits round halved_of
-  turn_small {k = zero} n h = absurd (n refl)
-  turn_small {k = suc k} n h = cond_yes _ _ h
-
-  pub turn-large : {k : ℕ} {t : SineCosine} → (k ≡ 0 → ⊥) → Ieee.le x (F 0x3fe0_0000_0000_0000) ≡ false
-      → t ≡ halved_of (k - 1) (x ⊗ F 0x3fe0_0000_0000_0000) → doubled t ≡ halved_of k x
-  unfolding of_bits round halved_of
-  turn-large {k = zero} n h e = absurd (n refl)
-  turn-large {k = suc k} n h e =
-      let one_less : suc k - 1 ≡ k = omega arith in
-      ap doubled (e ∙ ap (λ (j : ℕ). halved_of j (x ⊗ F 0x3fe0_0000_0000_0000)) one_less) ∙ cond_no _ _ h
-
-pub sines-low : (h : Float) → Ieee.lt h (F 0) ≡ true → Err ArithmeticOverflow ≡ sin_cos_of h
-unfolding of_bits round sin_cos_of
-sines-low h p = cond_yes _ _ p
-
-pub sines-in : (h : Float) {t : SineCosine} → Ieee.lt h (F 0) ≡ false → Ieee.le h (F 0x4010_0000_0000_0000) ≡ true → t ≡ halved_of 3 h
-    → Ok t ≡ sin_cos_of h
-unfolding of_bits round sin_cos_of
-sines-in h p q e = ap Ok e ∙ cond_yes _ _ q ∙ cond_no _ _ p
-
-pub sines-high : (h : Float) → Ieee.lt h (F 0) ≡ false → Ieee.le h (F 0x4010_0000_0000_0000) ≡ false → Err ArithmeticOverflow ≡ sin_cos_of h
-unfolding of_bits round sin_cos_of
-sines-high h p q = cond_no _ _ q ∙ cond_no _ _ p
-
 -- 0 ≤ h ≤ 4, as the code tests it
 within-four : (h : Float) → not (Ieee.lt h (F 0)) && Ieee.le h (F 0x4010_0000_0000_0000) ≡ Ieee.le (F 0) h && Ieee.le h (F 0x4010_0000_0000_0000)
 unfolding of_bits Ieee.le Ieee.lt Ieee.eq
@@ -86,9 +48,9 @@ numbered-turn true b t = refl
 numbered-turn false true t = refl
 numbered-turn false false t = refl
 
-pub sines-answered : {h : Float} {r : Result SineCosine CollisionError} → r ≡ sin_cos_of h → SinCosAnswered h r
+pub sin_cos_answered : {h : Float} {r : Result SineCosine CollisionError} → r ≡ sin_cos_of h → SinCosAnswered h r
 unfolding of_bits round sin_cos_of
-sines-answered {h} e = record {
+sin_cos_answered {h} e = record {
   is = e;
   numbered = ap refusal_number e
       ∙ numbered-turn (Ieee.lt h (F 0)) (Ieee.le h (F 0x4010_0000_0000_0000)) (halved_of 3 h)
@@ -162,114 +124,18 @@ abs-above-at (fin true (suc m) e) h =
 pub abs-above : {x : Float} → Ieee.le x (F 0) ≡ false → x ≡ abs_of x
 abs-above {x} h = abs-above-at x (ap (Ieee.le x) (sym zero_is) ∙ h)
 
-pub finite-yes : (x : Float) {big : Float} → big ≡ inf false → Ieee.lt (neg big) x ≡ true → Ieee.lt x big ≡ is_finite x
-finite-yes x {big} e h = ap (λ (b : Bool). b && Ieee.lt x big) (sym h) ∙ ap (λ (b : Float). Ieee.lt (neg b) x && Ieee.lt x b) e ∙ finite-is x
+pub ruleset abs_laws = (abs-below, abs-above)
 
-pub finite-no : (x : Float) {big : Float} → big ≡ inf false → Ieee.lt (neg big) x ≡ false → false ≡ is_finite x
-finite-no x {big} e h = ap (λ (b : Bool). b && Ieee.lt x big) (sym h) ∙ ap (λ (b : Float). Ieee.lt (neg b) x && Ieee.lt x b) e ∙ finite-is x
-
--- ---- hypot, by the tests on its arguments
-pub hypot-first : (x y : Float) {a : Bool} → a ≡ is_finite x → a ≡ false → inf false ≡ hypot_of x y
-unfolding hypot_of
-hypot-first x y e h =
-    ap (λ (b : Bool). cond (b && is_finite y) (cond (Ieee.lt (abs_of x) (abs_of y)) (scaled_root (abs_of y) (abs_of x)) (scaled_root (abs_of x) (abs_of y)))
-    (inf false)) (sym h ∙ e)
-
-pub hypot-second : (x y : Float) {a b : Bool} → a ≡ is_finite x → a ≡ true → b ≡ is_finite y → b ≡ false → inf false ≡ hypot_of x y
-unfolding hypot_of
-hypot-second x y e h f g = cond_no _ _ (ap (λ (b : Bool). b && is_finite y) (sym e ∙ h) ∙ sym f ∙ g)
-
-module _ (x y : Float) {a b : Bool} {p q : Float} (e : a ≡ is_finite x) (h : a ≡ true)
-    (f : b ≡ is_finite y) (g : b ≡ true) (i : p ≡ abs_of x) (j : q ≡ abs_of y) where
-  both : is_finite x && is_finite y ≡ true
-  both = ap (λ (b : Bool). b && is_finite y) (sym e ∙ h) ∙ sym f ∙ g
-
-  pub hypot-less : {r : Float} → Ieee.lt p q ≡ true → r ≡ scaled_root q p → r ≡ hypot_of x y
-  unfolding hypot_of
-  hypot-less t k =
-      k ∙ cond_yes _ _ t ∙ ap (λ (p : Float). cond (Ieee.lt p q) (scaled_root q p) (scaled_root p q)) i
-      ∙ ap (λ (q : Float). cond (Ieee.lt (abs_of x) q) (scaled_root q (abs_of x)) (scaled_root (abs_of x) q)) j ∙ cond_yes _ _ both
-
-  pub hypot-more : {r : Float} → Ieee.lt p q ≡ false → r ≡ scaled_root p q → r ≡ hypot_of x y
-  unfolding hypot_of
-  hypot-more t k =
-      k ∙ cond_no _ _ t ∙ ap (λ (p : Float). cond (Ieee.lt p q) (scaled_root q p) (scaled_root p q)) i
-      ∙ ap (λ (q : Float). cond (Ieee.lt (abs_of x) q) (scaled_root q (abs_of x)) (scaled_root (abs_of x) q)) j ∙ cond_yes _ _ both
+-- by the two tests of the code
+pub finite_by : (x : Float) → is_finite x ≡ Ieee.lt (F 0xfff0_0000_0000_0000) x && Ieee.lt x (F 0x7ff0_0000_0000_0000)
+unfolding of_bits neg
+finite_by x = sym (finite-is x)
 
 -- ---- arc tangent
-pub half-tangent-is : (q : Float) {s : Float} → s ≡ sqrt binary64 (F 0x3ff0_0000_0000_0000 ⊕ q ⊗ q) → q ⊘ (F 0x3ff0_0000_0000_0000 ⊕ s) ≡ half_tangent q
-unfolding of_bits round half_tangent
-half-tangent-is q e = ap (λ (s : Float). q ⊘ (F 0x3ff0_0000_0000_0000 ⊕ s)) e
-
-pub octant-is : (q : Float) {a b r : Float} → a ≡ half_tangent q → b ≡ half_tangent a → r ≡ arc_sum b → r ⊗ F 0x4010_0000_0000_0000 ≡ octant q
-unfolding of_bits round octant
-octant-is q e f g = ap (λ (s : Float). s ⊗ F 0x4010_0000_0000_0000) (g ∙ ap arc_sum (f ∙ ap half_tangent e))
-
-pub quadrant-steep : (y x : Float) {r : Float} → Ieee.lt x y ≡ true → r ≡ octant (x ⊘ y) → F 0x3ff9_21fb_5444_2d18 ⊖ r ≡ quadrant y x
-unfolding of_bits round Ieee.div quadrant
-quadrant-steep y x h e = ap (λ (r : Float). F 0x3ff9_21fb_5444_2d18 ⊖ r) e ∙ cond_yes _ _ h
-
-pub quadrant-flat : (y x : Float) {r : Float} → Ieee.lt x y ≡ false → r ≡ octant (y ⊘ x) → r ≡ quadrant y x
-unfolding quadrant
-quadrant-flat y x h e = e ∙ cond_no _ _ h
-
-pub facing-left : (v x : Float) → Ieee.lt x (F 0) ≡ true → PI ⊖ v ≡ facing v x
-unfolding of_bits round facing
-facing-left v x h = cond_yes _ _ h
-
-pub facing-right : {v : Float} (x : Float) → Ieee.lt x (F 0) ≡ false → v ≡ facing v x
-unfolding of_bits round facing
-facing-right {v} x h = cond_no _ _ h
-
-module _ (y x : Float) {a b v w : Float} (e : a ≡ abs_of y) (f : b ≡ abs_of x) (g : v ≡ quadrant a b) (h : w ≡ facing v x) where
-  around : w ≡ facing (quadrant (abs_of y) (abs_of x)) x
-  around = h ∙ ap (λ (v : Float). facing v x) (g ∙ ap (λ (a : Float). quadrant a b) e ∙ ap (λ (b : Float). quadrant (abs_of y) b) f)
-
-  pub angle-below : Ieee.lt y (F 0) ≡ true → neg w ≡ angle_of y x
-  unfolding of_bits round angle_of
-  angle-below t = ap neg around ∙ cond_yes _ _ t
-
-  pub angle-above : Ieee.lt y (F 0) ≡ false → w ≡ angle_of y x
-  unfolding of_bits round angle_of
-  angle-above t = around ∙ cond_no _ _ t
-
-pub atan-first : (y x : Float) {a : Bool} → a ≡ is_finite y → a ≡ false → Err ArithmeticOverflow ≡ atan2_of y x
-unfolding atan2_of
-atan-first y x e h = cond_no _ _ (ap (λ (b : Bool). b && is_finite x) (sym e ∙ h))
-
-pub atan-second : (y x : Float) {a b : Bool} → a ≡ is_finite y → a ≡ true → b ≡ is_finite x → b ≡ false → Err ArithmeticOverflow ≡ atan2_of y x
-unfolding atan2_of
-atan-second y x e h f g = cond_no _ _ (ap (λ (b : Bool). b && is_finite x) (sym e ∙ h) ∙ sym f ∙ g)
-
-module _ (y x : Float) {a b : Bool} (e : a ≡ is_finite y) (h : a ≡ true) (f : b ≡ is_finite x) (g : b ≡ true) where
-  finite : is_finite y && is_finite x ≡ true
-  finite = ap (λ (b : Bool). b && is_finite x) (sym e ∙ h) ∙ sym f ∙ g
-
-  pub atan-zero : Ieee.eq x (F 0) ≡ true → Ieee.eq y (F 0) ≡ true → Ok (F 0) ≡ atan2_of y x
-  unfolding of_bits round atan2_of
-  atan-zero i j = ap Ok (cond_yes _ _ (ap (λ (b : Bool). b && Ieee.eq y (F 0)) i ∙ j)) ∙ cond_yes _ _ finite
-
-  pub atan-axis : {r : Float} → Ieee.eq x (F 0) ≡ true → Ieee.eq y (F 0) ≡ false → r ≡ angle_of y x → Ok r ≡ atan2_of y x
-  unfolding of_bits round atan2_of
-  atan-axis i j k = ap Ok (k ∙ cond_no _ _ (ap (λ (b : Bool). b && Ieee.eq y (F 0)) i ∙ j)) ∙ cond_yes _ _ finite
-
-  pub atan-else : {r : Float} → Ieee.eq x (F 0) ≡ false → r ≡ angle_of y x → Ok r ≡ atan2_of y x
-  unfolding of_bits round atan2_of
-  atan-else i k = ap Ok (k ∙ cond_no _ _ (ap (λ (b : Bool). b && Ieee.eq y (F 0)) i)) ∙ cond_yes _ _ finite
-
 numbered-angle : (b : Bool) (v : Float) → refusal_number (cond b (Ok v) (Err ArithmeticOverflow)) ≡ cond b 0 (number ArithmeticOverflow)
 numbered-angle true v = refl
 numbered-angle false v = refl
 
-pub atan-answered : (y x : Float) {r : Result Float CollisionError} → r ≡ atan2_of y x → Atan2Answered y x r
+pub atan2_answered : (y x : Float) {r : Result Float CollisionError} → r ≡ atan2_of y x → Atan2Answered y x r
 unfolding atan2_of
-atan-answered y x e = record { is = e; numbered = ap refusal_number e ∙ numbered-angle (is_finite y && is_finite x) _ }
-
--- ---- remainder
-pub rem_below : (x : Float) {r : Float} → r ≡ Ieee.rem binary64 x TAU → Ieee.lt r (F 0) ≡ true → r ⊕ TAU ≡ rem_tau_of x
-unfolding of_bits round rem_tau_of
-rem_below x e h = cond_yes _ _ h ∙ ap (λ (r : Float). cond (Ieee.lt r (F 0)) (r ⊕ TAU) r) e
-
-pub rem-above : (x : Float) {r : Float} → r ≡ Ieee.rem binary64 x TAU → Ieee.lt r (F 0) ≡ false → r ≡ rem_tau_of x
-unfolding of_bits round rem_tau_of
-rem-above x e h = cond_no _ _ h ∙ ap (λ (r : Float). cond (Ieee.lt r (F 0)) (r ⊕ TAU) r) e
+atan2_answered y x e = record { is = e; numbered = ap refusal_number e ∙ numbered-angle (is_finite y && is_finite x) _ }

@@ -14,6 +14,7 @@ pub mod Answered
 pub mod FlowLaws
 pub mod RunLaws
 pub mod UpToLaws
+pub mod ChainLaws
 pub mod RealLaws
 pub mod Literals
 pub mod Laws

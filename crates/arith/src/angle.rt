@@ -23,6 +23,7 @@ pub struct SineCosine {
 }
 
 // Horner's sum in z: from the coefficient of the highest power, each time times z plus the next of `rest`.
+#[tactic(auto, unfolding(crate::specs::Angle::horner))]
 fn horner(z: f64, highest: f64, rest: &[f64]) -> f64
     ensures { result ≡ horner z highest rest.now }
 {
@@ -87,13 +88,11 @@ fn doubled(t: SineCosine) -> SineCosine
 }
 
 // The angle halved until it is at most 0.5, but at most `halvings` times; each halving is undone by a doubling.
+#[tactic(auto, using(crate::specs::Literals::literals), unfolding(crate::specs::Angle::halved_of))]
 fn halved(halvings: usize, x: f64) -> SineCosine
     ensures { result ≡ halved_of halvings x }
 {
-    if halvings == 0 {
-        return sums_at(x);
-    }
-    if x <= 0.5 {
+    if halvings == 0 || x <= 0.5 {
         return sums_at(x);
     }
     doubled(halved(halvings - 1, x * 0.5))
@@ -113,6 +112,7 @@ pub fn sin_cos(h: f64) -> Result<SineCosine, CollisionError>
 }
 
 // The tangent of half the angle whose tangent is q.
+#[tactic(auto, using(crate::specs::Literals::literals), unfolding(crate::specs::Angle::half_tangent))]
 fn half_tangent(q: f64) -> f64
     ensures { result ≡ half_tangent q }
 {
@@ -140,6 +140,7 @@ fn arc_sum(q: f64) -> f64
 }
 
 // The angle of the first octant whose tangent is q.
+#[tactic(auto, using(crate::specs::Literals::literals), unfolding(crate::specs::Angle::octant))]
 fn octant(q: f64) -> f64
     ensures { result ≡ octant q }
 {
@@ -147,6 +148,7 @@ fn octant(q: f64) -> f64
 }
 
 // The angle of the first quadrant of the magnitudes ay over ax, not both 0.
+#[tactic(auto, using(crate::specs::Literals::literals, crate::proofs::Ways::half_pi), unfolding(crate::specs::Angle::quadrant))]
 fn quadrant(ay: f64, ax: f64) -> f64
     ensures { result ≡ quadrant ay ax }
 {
@@ -164,6 +166,7 @@ fn facing(v: f64, x: f64) -> f64
 }
 
 // The angle of (x, y), one of them not 0. A zero counts as +0.
+#[tactic(auto, using(crate::specs::Literals::literals), unfolding(crate::specs::Angle::angle_of))]
 fn angle_of(y: f64, x: f64) -> f64
     ensures { result ≡ angle_of y x }
 {
@@ -172,6 +175,7 @@ fn angle_of(y: f64, x: f64) -> f64
 }
 
 // An argument that is not finite is refused: refusal 11.
+#[tactic(auto, using(crate::specs::Literals::literals, crate::proofs::Ways::atan2_answered), unfolding(crate::specs::Angle::atan2_of))]
 pub fn atan2(y: f64, x: f64) -> Result<f64, CollisionError>
     ensures { Atan2Answered y x result }
 {
@@ -185,6 +189,7 @@ pub fn atan2(y: f64, x: f64) -> Result<f64, CollisionError>
 }
 
 // `rem_euclid` by TAU.
+#[tactic(auto, using(crate::specs::Literals::literals), unfolding(crate::specs::Angle::rem_tau_of))]
 pub fn rem_tau(x: f64) -> f64
     ensures { result ≡ rem_tau_of x }
 {

@@ -9,6 +9,7 @@ use crate::root::sqrt;
 
 // That q is the whole number nearest to the root of m * 2^52, where this says so. With q = a * 2^26 + b,
 // m * 2^52 - q * q = ((m - a * a) * 2^25 - a * b) * 2^27 - b * b, which must lie above -q and at most at q.
+#[tactic(auto, using(crate::proofs::NearOne::checked))]
 fn is_nearest(m: u64, q: u64) -> bool
     requires { q < 2 ^ 53 }
     ensures { result ≡ true → NearRoot (m * 2 ^ 52) q }
@@ -34,10 +35,7 @@ fn is_nearest(m: u64, q: u64) -> bool
     }
     let w = u * 134217728;
     let z = b * b + 9007199254740992;
-    if z < w + q {
-        return w <= z + q;
-    }
-    false
+    z < w + q && w <= z + q
 }
 
 // A guess at the root of x = 1 + u, u from 0 to 1, which is nearly always the nearest f64. r is a polynomial near the
@@ -59,6 +57,7 @@ fn guess(u: f64, x: f64) -> f64 {
 }
 
 // The root of x, which is 1 + u for the guess to be good. A double from 1 to 2 has 1023 in its exponent's field.
+#[tactic(auto, using(std::proofs::lemmas::Float::le_right))]
 pub(crate) fn root_near_one(u: f64, x: f64) -> f64
     ensures { result ≡ Root.sqrt binary64 x }
 {
@@ -68,10 +67,10 @@ pub(crate) fn root_near_one(u: f64, x: f64) -> f64
             let b = f64::to_bits(x);
             if b / 4503599627370496 == 1023 {
                 let n = f64::to_bits(s);
-                if n / 4503599627370496 == 1023 {
-                    if is_nearest(b - 4602678819172646912, n - 4602678819172646912) {
-                        return s;
-                    }
+                if n / 4503599627370496 == 1023
+                    && is_nearest(b - 4602678819172646912, n - 4602678819172646912)
+                {
+                    return s;
                 }
             }
         }

@@ -1,26 +1,16 @@
 // Finiteness, magnitude and the larger of two doubles.
-ghost use Rattle.std.specs.Prelude.{◌≡◌, false};
-ghost use Rattle.std.specs.Float.{inf};
+ghost use Rattle.std.specs.Prelude.{◌≡◌};
 ghost use Rattle.arith.specs.Real.{is_finite, abs_of, max_of};
 
-// +infinity, by its bits.
-pub(crate) fn infinity() -> f64
-    ensures { result ≡ inf false }
-{
-    f64::from_bits(0x7ff0_0000_0000_0000)
-}
-
+#[tactic(auto, using(crate::proofs::Ways::finite_by))]
 pub fn is_finite(x: f64) -> bool
     ensures { result ≡ is_finite x }
 {
-    let big = infinity();
-    if -big < x {
-        return x < big;
-    }
-    false
+    f64::NEG_INFINITY < x && x < f64::INFINITY
 }
 
 // The magnitude: +0 for both zeros. One test, since 0 - x is exact and gives +0 for both zeros too.
+#[tactic(auto, using(crate::proofs::Ways::abs_laws))]
 pub fn abs(x: f64) -> f64
     ensures { result ≡ abs_of x }
 {

@@ -8,10 +8,11 @@ ghost use Rattle.arith.specs.SquareRoot.{Rooted};
 ghost use Rattle.arith.specs.Hypot.{hypot_of, scaled_root};
 
 use crate::near_one::root_near_one;
-use crate::number::{abs, infinity, is_finite};
+use crate::number::{abs, is_finite};
 
 // The whole square root of m, by Newton's iteration from above. The first guess is a step of it
 // from 2^26 * √2, the middle of the range.
+#[tactic(auto, using(crate::proofs::Newton::guesses))]
 fn whole_root(m: u64) -> u64
     requires { (2 ^ 52 ≤ m) × (m < 2 ^ 54) }
     ensures { (result * result ≤ m) × (m < (result + 1) * (result + 1)) }
@@ -52,6 +53,7 @@ fn join(m: u64, h: u64) -> u64
 
 // The bits of the root of the f64 with the bits b, which is finite and above 0. A subnormal is first
 // shifted up by the count of its leading zeros.
+#[tactic(auto, using(crate::proofs::RootCases::shifts))]
 fn root_bits(b: u64) -> u64
     requires { (0 < b) × (b < 9218868437227405312) }
     ensures { (result < 9218868437227405312) × (of_bits binary64 result ≡ Root.sqrt binary64 (of_bits binary64 b)) }
@@ -68,6 +70,7 @@ fn root_bits(b: u64) -> u64
 
 // IEEE 754's square root of x: the nearest f64, and there never is a tie. A NaN and what is below 0 give
 // a NaN, and -0, 0 and +infinity themselves.
+#[tactic(auto, using(crate::proofs::RootCases::roots))]
 pub fn sqrt(x: f64) -> f64
     ensures { Rooted x result }
 {
@@ -86,14 +89,12 @@ pub fn sqrt(x: f64) -> f64
 }
 
 // The length of (x, y): the larger magnitude times the root of 1 + r * r, r the smaller over the larger.
+#[tactic(auto, using(crate::proofs::Ways::infinity_is), unfolding(crate::specs::Hypot::hypot_of))]
 pub fn hypot(x: f64, y: f64) -> f64
     ensures { result ≡ hypot_of x y }
 {
-    if !is_finite(x) {
-        return infinity();
-    }
-    if !is_finite(y) {
-        return infinity();
+    if !is_finite(x) || !is_finite(y) {
+        return f64::INFINITY;
     }
     let p = abs(x);
     let q = abs(y);
@@ -105,6 +106,7 @@ pub fn hypot(x: f64, y: f64) -> f64
 }
 
 // `hypot` for magnitudes, b at most a.
+#[tactic(auto, using(crate::specs::Literals::literals), unfolding(crate::specs::Hypot::scaled_root))]
 fn scaled_root(a: f64, b: f64) -> f64
     ensures { result ≡ scaled_root a b }
 {

@@ -3,9 +3,10 @@ use Prim.Native.Nat.{ℕ, zero, suc, ◌+◌, ◌-◌, ◌*◌, ◌^◌, ◌≤�
 use mathlib.Core.Path.{◌≡◌, refl, sym, ◌∙◌, ap, subst}
 use mathlib.Core.List.{List}
 use native.Mathlib.Omega.{arith}
-use native.Mathlib.Decide.{ℕ_discrete}
-use lib.ListN.{length, get_or, set, take, drop, length-drop, length-set, length-replicate}
-use lib.Seq.{paste, take_all, drop-drop, get_or-set_same, get_or-set_other}
+use Rattle.std.proofs.Common.{below_more}
+use Rattle.std.proofs.lemmas.List.{take_rest}
+use lib.ListN.{length, get_or, set, take, drop, length-take, length-drop, length-set, length-replicate}
+use lib.Seq.{paste, drop-drop, get_or-set_same, get_or-set_other, get_or-take}
 use lib.Ieee.{Float}
 use Rattle.std.specs.Prelude.{Option, None, Some, is_some, Result, Ok, Err, ok_or}
 use Rattle.std.specs.Result.{result_ok}
@@ -20,9 +21,9 @@ use Rattle.plan.specs.declared.reader.Record.TheVariants as found
 use Rattle.plan.specs.declared.reader.Places.{Places}
 use Rattle.plan.specs.declared.reader.Notes.{Notes}
 use Rattle.plan.specs.File as File
-use Rattle.plan.specs.File.{Head, Reading, refused, ended_of, double, body_of, joint_of, JointThere, TIME_STEP, BODY, NUMBERS, head_of}
+use Rattle.plan.specs.File.{Head, refused, ended_of, double, body_of, joint_of, JointThere, TIME_STEP, BODY, NUMBERS, head_of}
 use Rattle.plan.specs.File.{next_of, read_on, read_of, empty_of}
-use Rattle.plan.specs.FileLaws.{there, room-time-step, room-body, room-joint, length-joint}
+use Rattle.plan.specs.FileLaws.{room-time-step, room-body, room-joint, length-joint}
 use Rattle.plan.specs.Noting.{no_places, with_place, with_time_step, with_body, with_joint}
 use Rattle.plan.specs.Noting.{body_turn, bodies_from, joint_turn, joints_from, filled_of, reading_of}
 use Rattle.plan.specs.Noting.{BodyAt, JointAt, There, ThereIf, Reaches, Reads, Noted}
@@ -32,7 +33,7 @@ abbrev pub rest : ℕ → List ℕ → List ℕ
 rest k s = take (length s - k) (drop k s)
 
 pub rest-is : (k : ℕ) (s : List ℕ) → rest k s ≡ drop k s
-rest-is k s = take_all (length s - k) (drop k s) (simp length-drop (omega arith))
+rest-is k s = take_rest s k
 
 rest-length : (k : ℕ) (s : List ℕ) → length (rest k s) ≡ length s - k
 rest-length k s = ap length (rest-is k s) ∙ length-drop k s
@@ -45,30 +46,29 @@ rest-asked {k} s t {u = u} some long eu place pre =
     (omega (arith, rest-length k s), omega (arith, rest-length k s))
 
 -- ---- the tables, from the places
-module _ (file : List ℕ) (p : ℕ) where
-  pub joint-there : JointAt file p → JointThere (rest p file)
-  joint-there h = subst JointThere (sym (rest-is p file)) h
+-- the loops go over the first n of them
+module _ (file places : List ℕ) (n k : ℕ) (noted : k < length (take n places)) where
+  at-place : rest (get_or (take n places) k 0) file ≡ drop (get_or places k 0) file
+  at-place = rest-is _ file ∙ ap (λ (p : ℕ). drop p file) (get_or-take n places k 0 (omega (arith, length-take n places)))
 
-module _ (file places : List ℕ) where
-  pub bodies-more : (k : ℕ) (table : List Float) {before after : List Float} → before ≡ turns (λ j. body_turn file j (get_or places j 0)) k table
-      → after ≡ paste before (26 * k) (body_of (rest (get_or places k 0) file)) 26 → after ≡ turns (λ j. body_turn file j (get_or places j 0)) (k + 1) table
-  bodies-more k table {before} e h =
-      h ∙ ap (λ (x : List ℕ). paste before (26 * k) (body_of x) 26) (rest-is (get_or places k 0) file)
-      ∙ turns_more (λ j. body_turn file j (get_or places j 0)) k table e
+  pub bodies-more : (table : List Float) {before after : List Float} → before ≡ turns (λ j. body_turn file j (get_or places j 0)) k table
+      → after ≡ paste before (26 * k) (body_of (rest (get_or (take n places) k 0) file)) 26
+      → after ≡ turns (λ j. body_turn file j (get_or places j 0)) (k + 1) table
+  bodies-more table {before} e h =
+      h ∙ ap (λ (x : List ℕ). paste before (26 * k) (body_of x) 26) at-place ∙ turns_more (λ j. body_turn file j (get_or places j 0)) k table e
 
-  pub joints-more : (k : ℕ) (table : List Joint) {before : List Joint} {j : Joint} → before ≡ turns (λ i. joint_turn file i (get_or places i 0)) k table
-      → j ≡ joint_of (rest (get_or places k 0) file) → set before k j ≡ turns (λ i. joint_turn file i (get_or places i 0)) (k + 1) table
-  joints-more k table {before} e h =
-      ap (set before k) (h ∙ ap joint_of (rest-is (get_or places k 0) file)) ∙ turns_more (λ j. joint_turn file j (get_or places j 0)) k table e
+  pub joints-more : (table : List Joint) {before : List Joint} {j : Joint} → before ≡ turns (λ i. joint_turn file i (get_or places i 0)) k table
+      → j ≡ joint_of (rest (get_or (take n places) k 0) file) → set before k j ≡ turns (λ i. joint_turn file i (get_or places i 0)) (k + 1) table
+  joints-more table {before} e h =
+      ap (set before k) (h ∙ ap joint_of at-place) ∙ turns_more (λ j. joint_turn file j (get_or places j 0)) k table e
 
 -- ---- one more place
 module _ (places : List ℕ) (n p : ℕ) (room : n < length places) where
   pub all_more : (P : ℕ → Type 0) → ((k : ℕ) → k < n → P (get_or places k 0)) → P p → (k : ℕ) → k < n + 1 → P (get_or (set places n p) k 0)
-  all_more P h q k l = by (ℕ_discrete k n)
-    where
-      by : Dec (k ≡ n) → P (get_or (set places n p) k 0)
-      by (yes e) = subst P (sym (ap (λ (j : ℕ). get_or (set places n p) j 0) e ∙ get_or-set_same places n p 0 room)) q
-      by (no r) = subst P (sym (get_or-set_other places n k p 0 r)) (h k (omega arith))
+  all_more P h q =
+      below_more (λ k. P (get_or (set places n p) k 0)) n
+      (λ k l. subst P (sym (get_or-set_other places n k p 0 (λ e. omega arith))) (h k l))
+      (subst P (sym (get_or-set_same places n p 0 room)) q)
 
   module _ {A : Type 0} (f : ℕ → ℕ → A → A) (a : A) where
     turns-before : (m : ℕ) → m ≤ n → turns (λ k. f k (get_or (set places n p) k 0)) m a ≡ turns (λ k. f k (get_or places k 0)) m a

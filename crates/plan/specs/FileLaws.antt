@@ -1,8 +1,8 @@
 -- Laws of the plan file: how long a record is, what a record at the head of a file leaves room for, and what a reading keeps.
 use Prim.Native.Nat.{ℕ, zero, suc, ◌+◌, ◌*◌, ◌≤◌, ◌<◌}
-use Rattle.std.specs.Prelude.{◌≡◌, Bool, true, false, cond, List, [], ◌∷◌, ltb, leb, eqb, set, drop, Float, Option, None, Some, is_some, Ok, Err}
+use Rattle.std.specs.Prelude.{◌≡◌, Bool, true, false, cond, List, ltb, leb, eqb, drop, Float, Option, None, Some, is_some, Ok, Err}
 use Rattle.std.proofs.Math.Path.{refl, subst}
-use Rattle.std.proofs.Common.{sym, ◌∙◌, ap, add-one, drop-drop}
+use Rattle.std.proofs.Common.{sym, ◌∙◌, ap, drop-drop, drop-set-lt}
 use native.Mathlib.Omega.{arith}
 use Rattle.std.proofs.Math.ListN.{length, length-set}
 use Rattle.std.proofs.lemmas.List.{length-replicate}
@@ -146,11 +146,6 @@ Kept-or-same tables (Err refusal) = refusal.tables ≡ tables
 drop-on : {A : Type 0} (a b : ℕ) (x y : List A) → drop a x ≡ drop a y → drop (a + b) x ≡ drop (a + b) y
 drop-on a b x y e = sym (drop-drop b a x) ∙ ap (drop b) e ∙ drop-drop b a y
 
-drop-set : {A : Type 0} (l : List A) (i : ℕ) (a : A) → drop (suc i) (set l i a) ≡ drop (suc i) l
-drop-set [] i a = refl
-drop-set (x ∷ xs) zero a = refl
-drop-set (x ∷ xs) (suc i) a = drop-set xs i a
-
 body-of-length : (s : List ℕ) → length (body_of s) ≡ 26
 unfolding body_of tab
 body-of-length s = refl
@@ -184,7 +179,7 @@ module _ (tables : Tables) where
         body-length = k.body-length;
         joint-length = length-set t.joints n (joint_of s) ∙ k.joint-length;
         bodies-after = k.bodies-after;
-        joints-after = rw (add-one n) (drop-set t.joints n (joint_of s)) ∙ drop-on n 1 t.joints tables.joints k.joints-after;
+        joints-after = drop-set-lt (n + 1) t.joints n (joint_of s) (omega arith) ∙ drop-on n 1 t.joints tables.joints k.joints-after;
       }
 
   kept-end : (dt : Option Float) (t : Tables) → Kept tables t → Kept-or-same tables (ended_of tables dt t)

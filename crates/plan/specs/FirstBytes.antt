@@ -7,7 +7,7 @@ use Rattle.std.proofs.Math.Bool.{cond}
 use native.Mathlib.Omega.{arith}
 use Rattle.std.proofs.Math.Decide.{dec_lt}
 use Rattle.std.proofs.Math.Dec.{ltb, eqb}
-use Rattle.std.proofs.Math.Seq.{take-nil}
+use Rattle.std.proofs.lemmas.Slice.{between_is}
 use borrow.Author.Tests.{le-ltb, leb-false, ne_eqb}
 use Rattle.rows.specs.Region.{tab-ext}
 use Rattle.plan.specs.declared.reader.Tables.{Tables}
@@ -28,12 +28,6 @@ split a b = by (dec_lt a b)
     by : Dec (a < b) → (a < b) ⊎ (b ≤ a)
     by (yes h) = inl h
     by (no h) = inr (omega arith)
-
-drop-take : {A : Type 0} (k m : ℕ) (s : List A) → drop k (take m s) ≡ take (m - k) (drop k s)
-drop-take zero m s = let e : m ≡ m - 0 = omega arith in ap (λ (j : ℕ). take j s) e
-drop-take (suc k) m [] = ap (drop (suc k)) (take-nil m) ∙ sym (take-nil (m - suc k))
-drop-take (suc k) zero (x ∷ xs) = let e : 0 ≡ 0 - suc k = omega arith in ap (λ (j : ℕ). take j (drop k xs)) e
-drop-take (suc k) (suc m) (x ∷ xs) = let e : m - k ≡ suc m - suc k = omega arith in drop-take k m xs ∙ ap (λ (j : ℕ). take j (drop k xs)) e
 
 -- ---- what stands before the cut
 module _ (m : ℕ) (s : List ℕ) where
@@ -209,7 +203,7 @@ unfolding needed needed_by
 mark-needed dt t h = omega arith
 
 rest-shorter : (k m a : ℕ) (s : List ℕ) → 1 ≤ k → 1 ≤ length (take m s) → length (take m s) < suc a → length (take (m - k) (drop k s)) < a
-rest-shorter k m a s one some h = omega (arith, ap length (drop-take k m s), length-drop k (take m s))
+rest-shorter k m a s one some h = omega (arith, ap length (sym (between_is s k m)), length-drop k (take m s))
 
 on-cut : (tables : Tables) (a b m : ℕ) (s : List ℕ) (dt : Option Float) (t : Tables) → needed_by dt t ≤ m → length (take m s) < a → length s < b
     → read_on a (take m s) tables dt t ≡ read_on b s tables dt t
@@ -224,7 +218,7 @@ on-cut tables (suc a) (suc b) m s dt t h la lb =
     (either (λ x. head_of x seen bodies joints) m s (λ l. head-cut m s l seen bodies joints h))
     ∙ next-cut tables m s dt t h (λ k x u. read_on a (drop k (take m s)) tables x u) (λ k x u. read_on b (drop k s) tables x u)
     (λ k x u one there less.
-    ap (λ (y : List ℕ). read_on a y tables x u) (drop-take k m s)
+    ap (λ (y : List ℕ). read_on a y tables x u) (sym (between_is s k m))
     ∙ on-cut tables a b (m - k) (drop k s) x u less
     (rest-shorter k m a s one (cut-some m s (omega (arith, mark-needed dt t h)) (omega arith)) la) (omega (arith, length-drop k s)))
     (head_of s seen bodies joints)

@@ -309,9 +309,8 @@ fn put_bodies(table: &mut [f64], file: &[u8], places: Places)
     requires all { Noting.All (Noting.BodyAt file.now) places }
     ensures { table.new ≡ Noting.bodies_from file.now places table.old }
 {
-    for k in 0..places.count {
-        let at = places.bytes[k];
-        put_body(table, layout::DOUBLES * k, &file[at..]);
+    for (k, at) in places.bytes[..places.count].iter().enumerate() {
+        put_body(table, layout::DOUBLES * k, &file[*at..]);
     }
 }
 
@@ -322,9 +321,8 @@ fn joints_from(table: [Joint; 16], file: &[u8], places: Places) -> [Joint; 16]
     ensures { result ≡ Noting.joints_from file.now places table }
 {
     let mut joints = table;
-    for k in 0..places.count {
-        let at = places.bytes[k];
-        joints[k] = joint_at(&file[at..]);
+    for (k, at) in places.bytes[..places.count].iter().enumerate() {
+        joints[k] = joint_at(&file[*at..]);
     }
     joints
 }

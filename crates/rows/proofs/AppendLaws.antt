@@ -5,7 +5,6 @@ use mathlib.Core.Bool.{Bool, true, false}
 use mathlib.Core.List.{List, [], ◌∷◌, ◌++◌, append-nil}
 use native.Mathlib.Omega.{arith}
 use lib.Ieee.{Float}
-use lib.ListN.{length}
 use Rattle.std.specs.Prelude.{Option, Some, None, Ok, Err, IsErrAnd, option_to_list}
 use Rattle.arith.specs.Flow.{Turn, go, stop, and_then, ◌>>=◌, tab}
 use Rattle.rows.specs.declared.geometry.Joint.{Joint}
@@ -13,8 +12,7 @@ use Rattle.rows.specs.declared.geometry.EqualityRow.{EqualityRow}
 use Rattle.rows.specs.Fault.{CollisionError, Result}
 use Rattle.rows.specs.Geometry.{row_if}
 use Rattle.rows.specs.View.{row_at, rows_at, Out, Kept}
-use Rattle.rows.specs.Answer.{written_as}
-use Rattle.rows.specs.Append.{listed, count_in, Appends, span_of, Adds}
+use Rattle.rows.specs.Append.{listed, count_in, Appends, Adds}
 use Rattle.rows.specs.Region.{kept_refl, kept_then, kept_more, kept_row, tab-ext, tab-more}
 
 -- the error that a `?` hands on
@@ -22,21 +20,7 @@ pub error-is : {A E : Type 0} {r : Turn A E} {e : E} → IsErrAnd r (λ y. y ≡
 error-is {r = Ok x} h = absurd h
 error-is {r = Err y} h = ap Err h
 
--- ---- one row
-pub append-some : {i n : ℕ} {s t : List Float} {o : Option EqualityRow} {row : EqualityRow} → o ≡ Some row
-    → (Kept (λ k. Out (i + 14 * n) 14 k) s t) × (row_at t (i + 14 * n) row.a row.b ≡ row) → Appends i n o s t (n + 1)
-append-some {i} {n} {s} {t} {row = row} e p =
-    subst (λ (o : Option EqualityRow). Appends i n o s t (n + 1)) (sym e) (record { kept = p.0; there = λ x h. there x h; is = refl })
-  where
-    there : (x : EqualityRow) → Some row ≡ Some x → row_at t (i + 14 * n) x.a x.b ≡ x
-    there x h = let same : row ≡ x = cc in subst (λ (y : EqualityRow). row_at t (i + 14 * n) y.a y.b ≡ y) same p.1
-
-pub append-none : {i n : ℕ} {s : List Float} {o : Option EqualityRow} → o ≡ None → Appends i n o s s n
-append-none {i} {n} {s} e =
-    subst (λ (o : Option EqualityRow). Appends i n o s s n) (sym e)
-    (record { kept = kept_refl _ s; there = λ x h. let z : ◌≡◌ {A = ℕ} 0 1 = cc in absurd (omega arith); is = omega arith })
-
--- at most one
+-- ---- at most one row
 pub grown : {i n r : ℕ} {s t : List Float} {o : Option EqualityRow} → Appends i n o s t r → r ≤ n + 1
 grown {n = n} {r} {o = o} p = let most = count-most o in omega (arith, p.is)
   where

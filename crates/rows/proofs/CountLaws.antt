@@ -1,7 +1,7 @@
 -- How many rows a joint has: the definition's list is as long as `row_count` says, and so the code counts.
 use Rattle.std.specs.Int.{from_bool}
 use Prim.Native.Nat.{ℕ, ◌+◌, ◌≤◌}
-use mathlib.Core.Path.{◌≡◌, refl, sym, ◌∙◌, ap}
+use mathlib.Core.Path.{◌≡◌, refl, ◌∙◌, ap}
 use mathlib.Core.Bool.{Bool, true, false}
 use mathlib.Core.List.{List, [], ◌∷◌, ◌++◌}
 use native.Mathlib.Omega.{arith}
@@ -13,7 +13,6 @@ use Rattle.arith.specs.Flow.{go, stop, and_then, ◌>>=◌}
 use Rattle.vectors.specs.Vector.{axis_x, axis_y, axis_z}
 use Rattle.rows.specs.declared.body.MomentumBody.{MomentumBody}
 use Rattle.rows.specs.declared.geometry.Joint.{Joint}
-use Rattle.rows.specs.declared.geometry.Kind.{Kind}
 use Rattle.rows.specs.declared.geometry.Linear.{Linear}
 use Rattle.rows.specs.declared.geometry.Linear.TheVariants.{Point, Line, Plane}
 use Rattle.rows.specs.declared.geometry.Turning.{Turning}
@@ -22,11 +21,10 @@ use Rattle.rows.specs.declared.geometry.Motions.{Motions}
 use Rattle.rows.specs.declared.geometry.Motions.TheVariants.{Rod, Frame}
 use Rattle.rows.specs.declared.geometry.EqualityRow.{EqualityRow}
 use Rattle.rows.specs.declared.geometry.Ends.{Ends}
-use Rattle.rows.specs.declared.geometry.Cone.{Cone}
 use Rattle.rows.specs.Fault.{CollisionError, Result}
 use Rattle.rows.specs.Motions.{motions_of}
 use Rattle.rows.specs.Geometry.{linear_row, row_if, linear_rows}
-use Rattle.rows.specs.Geometry.{swing_locked, twist_locked, cone_rows, align_rows, turning_rows}
+use Rattle.rows.specs.Geometry.{swing_locked, cone_rows, align_rows, turning_rows}
 use Rattle.rows.specs.Geometry.{frame_rows, motion_rows, write_equality_rows}
 use Rattle.rows.specs.Count.{one_if, linear_count, turning_count, motion_count, row_count}
 use Rattle.arith.specs.Laws.Constants.{zero_is}

@@ -1,5 +1,4 @@
 -- Laws that the proofs of this crate cite, each file over those above it; Starred has the examples of SPECIFICATION §15.
-pub mod PlaceLaws
 pub mod AppendLaws
 pub mod UnitLaws
 pub mod FiniteLaws

@@ -2,7 +2,7 @@
 -- answer and the bits that SPECIFICATION gives.
 use Rattle.std.specs.Prelude.{Option, Some, None}
 use Prim.Native.Nat.{ℕ, ◌^◌}
-use mathlib.Core.Bool.{Bool, true, false, cond, ◌&&◌}
+use mathlib.Core.Bool.{Bool, true, false, ◌&&◌}
 use mathlib.Core.List.{List, [], ◌∷◌, ◌++◌}
 use lib.Dec.{T, eqb}
 use lib.Ieee.{Float, binary64, add, sub, mul, div, neg, lt, le, eq, round, to_bits, of_bits}

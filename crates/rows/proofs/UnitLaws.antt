@@ -1,17 +1,18 @@
 -- Where a rotation normalizes to `unit`, the definitions of `Unit` are those of `Body`; where it does not normalize, every turn by it fails.
 -- So a definition of `Body` whose turns normalize one by one is the chain of the code, which normalizes once.
 use lib.Ieee.{Float}
-use mathlib.Core.Path.{◌≡◌, refl, sym, ap, ◌∙◌}
-use Rattle.std.specs.Prelude.{Option, Some, None, ok_or, cond, ◌&&◌}
+use mathlib.Core.Path.{◌≡◌, refl, sym, ap}
+use Rattle.std.specs.Prelude.{Option, Some, None, ok_or, cond, not, ◌&&◌}
 use Rattle.arith.specs.Real.{◌⊘◌}
-use Rattle.arith.specs.Flow.{stop, go, and_then, ◌>>=◌, loop}
-use Rattle.arith.specs.FlowLaws.{then-go, then-stop, then-then}
+use Rattle.arith.specs.Flow.{stop, go, and_then, ◌>>=◌, return_if, loop}
+use Rattle.arith.specs.Literals.{literals}
+use Rattle.arith.specs.FlowLaws.{then-stop, then-then}
 use Rattle.vectors.specs.declared.vector.Vec3.{Vec3}
 use Rattle.vectors.specs.declared.matrix.Mat3.{Mat3}
 use Rattle.vectors.specs.declared.quaternion.Quat.{Quat}
-use Rattle.vectors.specs.Vector.{add_of, scale_of, div_of}
+use Rattle.vectors.specs.Vector.{add_of, sub_of, scale_of, div_of}
 use Rattle.vectors.specs.Matrix.{apply_of}
-use Rattle.vectors.specs.Quaternion.{conjugate_of, quat_try_normalize_of}
+use Rattle.vectors.specs.Quaternion.{conjugate_of, is_normalized_of, quat_try_normalize_of}
 use Rattle.vectors.specs.Laws.AsUnit.{rotates-as-unit, conjugate-rotates-as-unit, integrates-as-unit, no-unit-no-rotation, conjugate-no-rotation}
 use Rattle.rows.specs.declared.body.RigidBody.{RigidBody}
 use Rattle.rows.specs.declared.body.BodyState.{BodyState}
@@ -38,6 +39,23 @@ module _ {q unit : Quat} (n : UnitOf q unit) where
   pub center_is : (origin local : Vec3) → world_center_as_unit origin unit local ≡ world_center_of_mass_of origin q local
   unfolding world_center_as_unit world_center_of_mass_of
   center_is origin local = simp rotate_is
+
+-- a turn by it beside the code's numbers, and a half step's
+pub ruleset turns = (rotate_is, literals)
+
+pub ruleset halves = (integrate_is, literals)
+
+-- the origin with its centre of mass written out
+pub origin_is : (self : MomentumBody) → origin_of self ≡ (do
+  turned ← try_rotate self.rotation self.center_of_mass
+  origin ← try_finite (sub_of self.center turned)
+  _ ← return_if (not (is_normalized_of self.rotation)) ArithmeticOverflow
+  _ ← try_rotate self.rotation self.center_of_mass >>= λ turned. try_finite (add_of turned origin)
+  go origin)
+unfolding origin_of world_center_of_mass_of
+origin_is self = refl
+
+pub ruleset origins = (rotate_is, origin_is)
 
 module _ (q : Quat) (n : quat_try_normalize_of q ≡ None) where
   pub no-back : (v : Vec3) → stop ArithmeticOverflow ≡ try_rotate (conjugate_of q) v

@@ -6,7 +6,7 @@ use mathlib.Core.List.{List, [], ◌∷◌, ◌++◌}
 use native.Mathlib.Omega.{arith}
 use lib.Ieee.{Float}
 use Rattle.std.specs.Prelude.{Option, Some, None, Ok, Err, ok_or, is_err}
-use Rattle.arith.specs.Real.{F, ratio}
+use Rattle.arith.specs.Real.{F}
 use Rattle.arith.specs.Flow.{go, stop, and_then, ◌>>=◌, return_if, tab}
 use Rattle.arith.specs.FlowLaws.{then-go, then-stop}
 use Rattle.vectors.specs.declared.vector.Vec3.{Vec3}
@@ -20,26 +20,25 @@ use Rattle.rows.specs.declared.geometry.Linear.{Linear}
 use Rattle.rows.specs.declared.geometry.Linear.TheVariants.{Point, Line, Plane}
 use Rattle.rows.specs.declared.geometry.Turning.{Turning}
 use Rattle.rows.specs.declared.geometry.Motions.{Motions}
-use Rattle.rows.specs.declared.geometry.Motions.TheVariants.{Rod, Frame}
 use Rattle.rows.specs.declared.geometry.EqualityRow.{EqualityRow}
 use Rattle.rows.specs.declared.geometry.Ends.{Ends}
 use Rattle.rows.specs.declared.geometry.Axes.{Axes}
 use Rattle.rows.specs.declared.geometry.Relative.{Relative}
 use Rattle.rows.specs.declared.geometry.Swing.{Swing}
-use Rattle.rows.specs.Fault.{CollisionError, ArithmeticOverflow, Result, try_finite, try_length, try_rotate}
+use Rattle.rows.specs.Fault.{CollisionError, ArithmeticOverflow, refusal_number, Result, try_finite, try_length, try_rotate}
 use Rattle.rows.specs.Unit.{unit_of}
 use Rattle.rows.specs.Motions.{motions_of}
 use Rattle.rows.specs.Geometry.{ends_of, tolerance_of, distance_row, linear_row, row_if, axes_of, linear_rows, gradient_row}
-use Rattle.rows.specs.Geometry.{swing_row, twist_row, aligned_of, align_row, align_rows, turning_rows, finite_values}
+use Rattle.rows.specs.Geometry.{swing_row, twist_row, aligned_of, align_row, align_rows, finite_values}
 use Rattle.rows.specs.Geometry.{frame_rows, motion_rows, write_equality_rows}
 use Rattle.rows.specs.Count.{row_count}
 use Rattle.rows.specs.View.{rows_at, row_at, Out, Kept}
-use Rattle.rows.specs.Answer.{written_as, Writes}
-use Rattle.rows.specs.Append.{span_of, Adds, Filled}
-use Rattle.rows.specs.Region.{kept_refl, kept_then, kept_more, kept_row, tab-length, tab-ext, tab-append}
+use Rattle.rows.specs.Answer.{Writes}
+use Rattle.rows.specs.Append.{span_of, Adds}
+use Rattle.rows.specs.Region.{kept_then, kept_more, kept_row, tab-length, tab-ext, tab-append}
 use Rattle.rows.proofs.UnitLaws.{no-turn}
 use Rattle.rows.proofs.CountLaws.{rows-sized}
-use Rattle.rows.proofs.AppendLaws.{Mine, mine-go, mine-stop, mine-then}
+use Rattle.rows.proofs.AppendLaws.{Mine, mine-go, mine-then}
 
 abbrev Rows : Type 0
 Rows = Result (List EqualityRow)
@@ -323,19 +322,8 @@ writes-rows joint a b {i} {s} {t} (Ok n) p h = record {
   kept = kept_more p.kept (λ k x. omega (arith, p.within n refl));
   count = λ m e. let same : m ≡ n = cc in same ∙ rows_of joint a b p;
   is = p.is;
+  numbered = ap refusal_number p.is;
   behind = λ m e. let same : n ≡ m = cc in subst (λ (m : ℕ). Kept (λ k. Out i (14 * m) k) s t) same p.kept;
   cleared = λ f e. absurd (clash (p.is ∙ e));
 }
 writes-rows joint a b (Err f) p h = absurd (let z : ◌≡◌ {A = ℕ} 0 1 = cc in omega arith)
-
--- a failed write is cleared
-pub writes-cleared : (joint : Joint) (a b : MomentumBody) {i : ℕ} {s t u : List Float} (r : Result ℕ) → AddsAll joint a b i s t r → is_err r ≡ true
-    → Filled i 84 (λ _. ratio 0 1) t u → Writes joint a b i s u r
-writes-cleared joint a b (Ok n) p h z = absurd (let z : ◌≡◌ {A = ℕ} 0 1 = cc in omega arith)
-writes-cleared joint a b (Err f) p h z = record {
-  kept = kept_then p.kept z.kept (λ k x. x);
-  count = λ m e. absurd (let y : ◌≡◌ {A = ℕ} 0 1 = cc in omega arith);
-  is = p.is;
-  behind = λ m e. absurd (let y : ◌≡◌ {A = ℕ} 0 1 = cc in omega arith);
-  cleared = λ g e. z.there;
-}

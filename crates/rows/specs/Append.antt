@@ -1,7 +1,6 @@
 -- What the functions that make rows and write them one behind the other promise of each other.
 -- Only contracts of private functions cite this file.
 use Rattle.std.specs.Prelude.{ℕ, ◌+◌, ◌*◌, ◌≤◌, ◌<◌, ◌≡◌, List, Float, Option, Some, None, Ok, Err, option_to_list}
-use Rattle.arith.specs.Flow.{go, stop}
 use Rattle.rows.specs.declared.geometry.Joint.{Joint}
 use Rattle.rows.specs.declared.geometry.EqualityRow.{EqualityRow}
 use Rattle.rows.specs.Fault.{Result}

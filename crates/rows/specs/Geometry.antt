@@ -1,7 +1,7 @@
 -- geometry.rs: the equality rows of a joint between two bodies.
 use Rattle.std.specs.Prelude.{◌^◌, List, [], ◌∷◌, Bool, cond, not, ◌&&◌, ◌||◌, true, false, Float, ◌++◌, ok_or}
 use Rattle.rows.specs.Words.{binary64, neg, eq, le, ◌⊕◌, ◌⊖◌, ◌⊗◌, ◌⊘◌, ratio}
-use Rattle.rows.specs.Words.{is_finite, abs_of, max_of, sqrt, go, stop, ◌>>=◌, return_if, PI, atan2_of, rem_tau_of, Vec3, Quat, add_of, sub_of}
+use Rattle.rows.specs.Words.{is_finite, abs_of, max_of, sqrt, go, ◌>>=◌, return_if, PI, atan2_of, rem_tau_of, Vec3, Quat, add_of, sub_of}
 use Rattle.rows.specs.Words.{scale_of, vec, zero_vec, axis_x, axis_y, axis_z, neg_of, dot_of, cross_of, try_normalize_of, conjugate_of, product_of}
 use Rattle.rows.specs.Words.{quat_try_normalize_of, MomentumBody, Linear, Turning, Motions, Joint, EqualityRow, Ends, Axes, Cone, Relative, Swing}
 use Rattle.rows.specs.Fault.{NonConvergent, ArithmeticOverflow, Result, try_finite, try_length, try_rotate}

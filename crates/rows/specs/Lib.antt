@@ -10,7 +10,6 @@ pub mod Geometry
 pub mod Count
 pub mod View
 pub mod Answer
-pub mod AnswerLaws
 pub mod Append
 pub mod Region
 pub mod ExactGeometry

@@ -47,6 +47,14 @@ pub struct MomentumBody {
     pub inverse_inertia: Mat3,
 }
 
+// A body, and what its rotation normalizes to.
+#[derive(Clone, Copy)]
+struct Oriented {
+    body: MomentumBody,
+    unit: Quat,
+    ghost unit_is: { UnitOf body.rotation unit },
+}
+
 // The vector, if it is finite.
 #[tactic(auto, unfolding(crate::specs::Fault::try_finite))]
 pub(crate) fn finite(value: Vec3) -> Result<Vec3, CollisionError>
@@ -187,44 +195,6 @@ impl MomentumBody {
         }
     }
 
-    // One pass of the search for the half-step angular velocity, from the rotation at entry: the next one, or the rotation at
-    // the end of the step.
-    #[tactic(auto, using(crate::proofs::UnitLaws::integrate_is, arith::specs::Literals::literals), unfolding(crate::specs::Body::pass_of, arith::specs::Flow::and_then))]
-    fn pass(
-        self,
-        unit: Quat,
-        omega: Vec3,
-        dt: f64,
-    ) -> Result<ControlFlow<Quat, Vec3>, CollisionError>
-        requires { UnitOf self.rotation unit }
-        ensures { flow_as result ≡ pass_of self dt omega }
-    {
-        let half = integrate_as_unit(unit, omega, dt * 0.5)?;
-        let next = self.placed_at(self.center, half).omega()?;
-        let residual = length(next.sub(omega))?;
-        let size = length(next)?;
-        if residual <= 1.0e-14 * (1.0 + size) {
-            let rotation = integrate_as_unit(unit, next, dt)?;
-            return Ok(ControlFlow::Break(rotation));
-        }
-        Ok(ControlFlow::Continue(next))
-    }
-
-    // Implicit rotational midpoint with constant world spin momentum: at most 32 passes.
-    fn settle(self, unit: Quat, start: Vec3, dt: f64) -> Result<Quat, CollisionError>
-        requires { UnitOf self.rotation unit }
-        ensures { result ≡ settled (loop 32 (λ k. pass_of self dt) start) }
-    {
-        let mut omega = start;
-        for _ in 0..MAX_ITERATIONS {
-            match self.pass(unit, omega, dt)? {
-                ControlFlow::Continue(next) => omega = next,
-                ControlFlow::Break(rotation) => return Ok(rotation),
-            }
-        }
-        Err(CollisionError::NonConvergent)
-    }
-
     #[tactic(auto, using(crate::proofs::UnitLaws::drift_by_unit), unfolding(arith::specs::Flow::and_then))]
     pub fn drift(self, dt: f64) -> Result<MomentumBody, CollisionError>
         ensures { result ≡ drift_of self dt }
@@ -232,23 +202,8 @@ impl MomentumBody {
         let center = finite(self.center.add(self.momentum.scale(dt / self.mass)))?;
         let unit = unit_of(self.rotation)?;
         let omega = in_frame(unit, self.inverse_inertia, self.spin)?;
-        let rotation = self.settle(unit, omega, dt)?;
+        let rotation = Oriented { body: self, unit }.settle(omega, dt)?;
         Ok(self.placed_at(center, rotation))
-    }
-
-    // The origin of the body, where `Transform::new` and `set_transform` take it.
-    #[tactic(auto, using(crate::proofs::UnitLaws::rotate_is), unfolding(crate::specs::Body::origin_of, crate::specs::Body::world_center_of_mass_of, arith::specs::Flow::and_then))]
-    fn origin(self, unit: Quat) -> Result<Vec3, CollisionError>
-        requires { UnitOf self.rotation unit }
-        ensures { result ≡ origin_of self }
-    {
-        let turned = rotate_as_unit(unit, self.center_of_mass)?;
-        let origin = finite(self.center.sub(turned))?;
-        if !self.rotation.is_normalized() {
-            return Err(CollisionError::ArithmeticOverflow);
-        }
-        finite(turned.add(origin))?;
-        Ok(origin)
     }
 
     // The state that the body hands back. The transform keeps its old bits where the new one compares equal.
@@ -257,7 +212,7 @@ impl MomentumBody {
         ensures { result ≡ state_of self old }
     {
         let unit = unit_of(self.rotation)?;
-        let origin = self.origin(unit)?;
+        let origin = Oriented { body: self, unit }.origin()?;
         let linear_velocity = finite(self.momentum.div(self.mass))?;
         let angular_velocity = in_frame(unit, self.inverse_inertia, self.spin)?;
         if origin == old.origin && self.rotation == old.rotation {
@@ -273,5 +228,52 @@ impl MomentumBody {
             linear_velocity,
             angular_velocity,
         })
+    }
+}
+
+impl Oriented {
+    // One pass of the search for the half-step angular velocity, from the rotation at entry: the next one, or the rotation at
+    // the end of the step.
+    #[tactic(auto, using(crate::proofs::UnitLaws::halves), unfolding(crate::specs::Body::pass_of, arith::specs::Flow::and_then))]
+    fn pass(self, omega: Vec3, dt: f64) -> Result<ControlFlow<Quat, Vec3>, CollisionError>
+        ensures { flow_as result ≡ pass_of self.body dt omega }
+    {
+        let half = integrate_as_unit(self.unit, omega, dt * 0.5)?;
+        let next = self.body.placed_at(self.body.center, half).omega()?;
+        let residual = length(next.sub(omega))?;
+        let size = length(next)?;
+        if residual <= 1.0e-14 * (1.0 + size) {
+            let rotation = integrate_as_unit(self.unit, next, dt)?;
+            return Ok(ControlFlow::Break(rotation));
+        }
+        Ok(ControlFlow::Continue(next))
+    }
+
+    // Implicit rotational midpoint with constant world spin momentum: at most 32 passes.
+    fn settle(self, start: Vec3, dt: f64) -> Result<Quat, CollisionError>
+        ensures { result ≡ settled (loop 32 (λ k. pass_of self.body dt) start) }
+    {
+        let mut omega = start;
+        for _ in 0..MAX_ITERATIONS {
+            match self.pass(omega, dt)? {
+                ControlFlow::Continue(next) => omega = next,
+                ControlFlow::Break(rotation) => return Ok(rotation),
+            }
+        }
+        Err(CollisionError::NonConvergent)
+    }
+
+    // The origin of the body, where `Transform::new` and `set_transform` take it.
+    #[tactic(auto, using(crate::proofs::UnitLaws::origins), unfolding(arith::specs::Flow::and_then))]
+    fn origin(self) -> Result<Vec3, CollisionError>
+        ensures { result ≡ origin_of self.body }
+    {
+        let turned = rotate_as_unit(self.unit, self.body.center_of_mass)?;
+        let origin = finite(self.body.center.sub(turned))?;
+        if !self.body.rotation.is_normalized() {
+            return Err(CollisionError::ArithmeticOverflow);
+        }
+        finite(turned.add(origin))?;
+        Ok(origin)
     }
 }

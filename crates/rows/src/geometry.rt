@@ -249,7 +249,7 @@ fn ends_of(joint: Joint, a: MomentumBody, b: MomentumBody) -> Result<Ends, Colli
 }
 
 // 32 epsilon times the anchors' lengths, at least 1e-13.
-#[tactic(auto, using(arith::specs::Literals::literals), unfolding(crate::specs::Geometry::tolerance_of, arith::specs::Flow::and_then))]
+#[tactic(auto, unfolding(crate::specs::Geometry::tolerance_of, arith::specs::Flow::and_then))]
 fn tolerance(pa: Vec3, pb: Vec3) -> Result<f64, CollisionError>
     ensures { result ≡ tolerance_of pa pb }
 {
@@ -444,7 +444,7 @@ impl Basis {
     }
 
     // The Z axis of frame b. The aligning kinds refuse where the Z axes lead apart.
-    #[tactic(auto, using(crate::proofs::UnitLaws::rotate_is, arith::specs::Literals::literals), unfolding(crate::specs::Geometry::aligned_of, arith::specs::Flow::and_then))]
+    #[tactic(auto, using(crate::proofs::UnitLaws::turns), unfolding(crate::specs::Geometry::aligned_of, arith::specs::Flow::and_then))]
     fn aligned(self) -> Result<Vec3, CollisionError>
         ensures { result ≡ aligned_of self.ends.frame_a self.ends.frame_b }
     {
@@ -597,12 +597,7 @@ fn values_finite(s: &[f64], at: usize, count: usize) -> bool
     requires { at + 14 * count ≤ length s.now }
     ensures { (a b : ℕ) → result ≡ finite_values (rows_at s.now at a b count) }
 {
-    for k in 0..count {
-        if !is_finite(s[at + ROW * k + VALUE]) {
-            return false;
-        }
-    }
-    true
+    (0..count).all(|k| is_finite(s[at + ROW * k + VALUE]))
 }
 
 // All rows but a rod's: the linear ones, then those on rotations. What every row wants is taken once: the tolerance, and frame a
@@ -655,13 +650,12 @@ fn write_kind(
     }
 }
 
+#[tactic(auto, using(std::proofs::lemmas::List::places, arith::specs::Literals::literals))]
 pub fn clear(s: &mut [f64], at: usize, size: usize)
     requires { at + size ≤ length s.old }
     ensures { Filled at size (λ _. ratio 0 1) s.old s.new }
 {
-    for k in 0..size {
-        s[at + k] = 0.0;
-    }
+    s[at..at + size].fill(0.0);
 }
 
 // The rows of a joint, at a place of the scratch: the caller shows that it is there. A fault leaves zeros, and no row that

@@ -22,7 +22,8 @@ use Rattle.solves.specs.declared.order.RowBlock.{RowBlock}
 use Rattle.solves.specs.Path.{index, no_block, block_at, on_pair, to_row, note_row, path_blocks}
 use Rattle.solves.specs.Path.{no_ends, full_ends, ends_at, with_block, add_edge, block_edges, path_edges}
 use Rattle.solves.specs.Answer.{left_as}
-use Rattle.solves.specs.View.{list_of_first}
+use Rattle.solves.specs.declared.joined.Rows.{Rows}
+use Rattle.solves.specs.View.{list_of_first, count_of}
 use Rattle.solves.specs.PathView.{Bodies, size_of, rows_of, BlockIn, Blocked, Noted, Linked, EndsIn, Linking}
 
 -- an element of the first n
@@ -152,6 +153,13 @@ module _ {i : ℕ} {blocks : List RowBlock} (so : BlocksSo i blocks) where
           some : (n : ℕ) → eqb n 0 ≡ false → 0 < n
           some zero f = cc
           some (suc n) f = omega arith
+
+-- the rows of a table are on bodies below 16
+pub few-a : (rows : Rows) → Bodies rows.a.now (count_of rows)
+few-a rows k h = omega (arith, rows.a_there k h, rows.few_bodies)
+
+pub few_b : (rows : Rows) → Bodies rows.b.now (count_of rows)
+few_b rows k h = omega (arith, rows.b_there k h, rows.few_bodies)
 
 -- a table at row i
 pub record BlocksAt (a b : List ℕ) (i : ℕ) (table : List RowBlock) (number : ℕ) : Type 0 where

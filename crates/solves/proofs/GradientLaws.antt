@@ -8,8 +8,8 @@ use lib.ListN.{length, set}
 use lib.Ieee as Ieee
 use lib.Ieee.{Float}
 use Rattle.arith.specs.Real.{ratio, is_finite, ◌⊕◌, ◌⊗◌, ◌⊘◌}
-use Rattle.arith.specs.Flow.{Turn, go, stop, turns, loop, tab}
-use Rattle.arith.specs.FlowLaws.{turns_more, turns-end, then-go, then-stop, loop-none, loop-more, loop-stop, loop-end}
+use Rattle.arith.specs.Flow.{Turn, go, stop, loop, tab}
+use Rattle.arith.specs.FlowLaws.{then-go, then-stop, loop-none, loop-more, loop-stop, loop-end}
 use Rattle.arith.specs.Run.{ran, again, leave, fail, up_to}
 use Rattle.arith.specs.RunLaws.{ticks, try-go, try-stop, leave-yes, leave-no}
 use Rattle.rows.specs.declared.geometry.EqualityRow.{EqualityRow}
@@ -17,7 +17,7 @@ use Rattle.rows.specs.Fault.{CollisionError, NonConvergent, Result}
 use Rattle.rows.specs.View.{at, Out, Kept}
 use Rattle.rows.specs.Region.{tab-length, tab-ext, kept_refl, kept_then, kept_more, kept_set}
 use Rattle.solves.specs.declared.places.MassResponse.{MassResponse}
-use Rattle.solves.specs.declared.Table.{Table}
+use Rattle.solves.specs.View.{Table}
 use Rattle.solves.specs.System.{System, Counting}
 use Rattle.solves.specs.Region.{vec_at, Filled, Does}
 use Rattle.solves.specs.RegionLaws.{vec-at, vec_in, kept-vec, vec-more, filled-vec, filled_more}
@@ -148,21 +148,6 @@ module _ {z : List Float} {ia ib : List ℕ} {place n body-count : ℕ} (pre : R
             ap (λ (m : ℕ). go (prepared_at s m rho)) (sym same) ∙ loop-end (prepare_row S E) nothing a b inv.is
             ∙ ap (λ (m : ℕ). loop m (prepare_row S E) nothing) (sym (tab-length n (row_on ia ib s₀ place)));
       }
-
--- scaled_square
-abbrev pub square_turn : List Float → List Float → ℕ → Float → Float
-square_turn residual diagonal k sum = sum ⊕ at residual k ⊗ at residual k ⊘ at diagonal k
-
-pub square-more : (s : List Float) (a b n k : ℕ) {total : Float} → k < n → total ≡ turns (square_turn (vec_at s a n) (vec_at s b n)) k (ratio 0 1)
-    → total ⊕ at s (a + k) ⊗ at s (a + k) ⊘ at s (b + k) ≡ turns (square_turn (vec_at s a n) (vec_at s b n)) (k + 1) (ratio 0 1)
-square-more s a b n k {total} h e =
-    (λ j. total ⊕ vec-at s a n k h j ⊗ vec-at s a n k h j ⊘ vec-at s b n k h j) ∙ turns_more (square_turn (vec_at s a n) (vec_at s b n)) k (ratio 0 1) e
-
-pub square-ends : (s : List Float) (a b n k : ℕ) {total : Float} → k ≤ n → n ≤ k
-    → total ≡ turns (square_turn (vec_at s a n) (vec_at s b n)) k (ratio 0 1) → total ≡ scaled_square (vec_at s a n) (vec_at s b n)
-unfolding scaled_square
-square-ends s a b n k l m e =
-    turns-end _ _ l m e ∙ ap (λ (i : ℕ). turns (square_turn (vec_at s a n) (vec_at s b n)) i (ratio 0 1)) (sym (tab-length n (λ j. at s (a + j))))
 
 -- next_direction
 module _ (s : List Float) (beta : Float) where

@@ -15,7 +15,7 @@ use Rattle.arith.specs.RunLaws.{ticks, try-go, try-stop, fail-yes, fail-no, leav
 use Rattle.rows.specs.Fault.{CollisionError, NonConvergent}
 use Rattle.rows.specs.View.{Kept}
 use Rattle.rows.specs.Region.{tab-length, kept_refl, kept_then, kept_more}
-use Rattle.solves.specs.declared.Table.{Table}
+use Rattle.solves.specs.View.{Table}
 use Rattle.solves.specs.System.{System, Counting}
 use Rattle.solves.specs.Region.{vec_at, Does}
 use Rattle.solves.specs.RegionLaws.{kept-vec}

@@ -1,6 +1,6 @@
--- Laws that the proofs of this crate cite, each file over those above it: of places and vectors, of the operator, of the searches, of the path, and
+-- Laws that the proofs of this crate cite, each file over those above it: of sums, of vectors, of the operator, of the searches, of the path, and
 -- of `linear_solve`.
-pub mod PlaceLaws
+pub mod SumLaws
 pub mod VectorLaws
 pub mod CheckedLaws
 pub mod OperatorLaws

@@ -8,9 +8,10 @@ use lib.Dec.{eqb}
 use borrow.Author.Tests.{eq-eqb}
 use lib.ListN.{length, set, replicate}
 use lib.Ieee.{Float}
-use Rattle.arith.specs.Real.{ratio, ◌⊕◌, ◌⊗◌}
+use Rattle.arith.specs.Real.{ratio, ◌⊕◌}
 use Rattle.arith.specs.Flow.{go, stop, ◌>>=◌, tab, loop, each, every}
-use Rattle.arith.specs.FlowLaws.{turns_more, loop-none, each_none, each_more, each-stop, each-end, then-then}
+use Rattle.arith.specs.FlowLaws.{loop-none, each_none, each_more, each-stop, each-end, then-then}
+use Rattle.arith.specs.ChainLaws.{every-ext}
 use Rattle.vectors.specs.declared.vector.Vec3.{Vec3}
 use Rattle.rows.specs.declared.geometry.EqualityRow.{EqualityRow}
 use Rattle.rows.specs.Fault.{CollisionError, Result}
@@ -18,9 +19,9 @@ use Rattle.rows.specs.View.{at, Out, Kept}
 use Rattle.rows.specs.Region.{tab-length, tab-at, kept_set, kept_refl, kept_then, kept_more}
 use Rattle.solves.specs.declared.places.Generalized.{Generalized}
 use Rattle.solves.specs.declared.places.MassResponse.{MassResponse}
-use Rattle.solves.specs.declared.Table.{Table}
+use Rattle.solves.specs.View.{Table}
 use Rattle.solves.specs.Region.{vec_at, Filled, Does}
-use Rattle.solves.specs.RegionLaws.{vec-at, vec_in, kept-vec, vec-more}
+use Rattle.solves.specs.RegionLaws.{vec_in, kept-vec, vec-more}
 use Rattle.solves.specs.Solver.{row_in, generalized_in, mass_in, try_number, sum_products, dot, push_into, push_row, transpose}
 use Rattle.solves.specs.Solver.{scaled, scale_all, rate, rates, operator, no_share, through, add_through, cross_end, cross_mass}
 use Rattle.solves.specs.Checked.{added, finite_share, all_finite, checked}
@@ -32,15 +33,6 @@ use Rattle.solves.specs.ViewLaws.{out_within, kept-rows, kept-masses, row-in, sh
 use Rattle.solves.proofs.CheckedLaws.{loop-next, push-is, zeros-checked}
 
 -- dot
-abbrev pub dot_turn : List Float → List Float → ℕ → Float → Float
-dot_turn a b k sum = sum ⊕ at a k ⊗ at b k
-
-pub products-more : (s : List Float) (a b n k : ℕ) {total : Float} → k < n → total ≡ sum_products (vec_at s a n) (vec_at s b n) k
-    → total ⊕ at s (a + k) ⊗ at s (b + k) ≡ sum_products (vec_at s a n) (vec_at s b n) (k + 1)
-products-more s a b n k {total} h e =
-    ap (λ (x : Float). total ⊕ x ⊗ at s (b + k)) (vec-at s a n k h) ∙ ap (λ (x : Float). total ⊕ at (vec_at s a n) k ⊗ x) (vec-at s b n k h)
-    ∙ turns_more (dot_turn (vec_at s a n) (vec_at s b n)) k (ratio 0 1) e
-
 pub dot-is : (s : List Float) (a b n : ℕ) {total : Float} {r : Result Float} → total ≡ sum_products (vec_at s a n) (vec_at s b n) n → r ≡ try_number total
     → r ≡ dot (vec_at s a n) (vec_at s b n)
 unfolding dot
@@ -79,19 +71,15 @@ module _ (body-count : ℕ) (row : EqualityRow) (value : Float) (s : List Float)
   }
 
 -- shares_finite
-module _ (s : List Float) (body-count : ℕ) where
+module _ (s : List Float) where
   abbrev pub share_test : ℕ → Bool
-  share_test k = finite_share (generalized_in (shares_in s body-count) k)
+  share_test k = finite_share (generalized_at s GENERALIZED k)
 
-  module _ {k : ℕ} {g : Generalized} (h : k < body-count) (eg : g ≡ generalized_at s GENERALIZED k) where
-    share-is : finite_share g ≡ share_test k
-    share-is = ap finite_share (eg ∙ sym (tab-at body-count (generalized_at s GENERALIZED) no_generalized k h))
-
-    pub share-tested : {b : Bool} → b ≡ finite_share g → share_test k ≡ b
-    share-tested e = sym share-is ∙ sym e
-
-  pub all_of : {r : Bool} → r ≡ every body-count share_test → r ≡ all_finite (shares_in s body-count)
-  all_of e = e ∙ ap (λ (m : ℕ). every m share_test) (sym (tab-length body-count (generalized_at s GENERALIZED)))
+  pub shares-are : (body-count : ℕ) → every body-count share_test ≡ all_finite (shares_in s body-count)
+  shares-are n =
+      every-ext share_test (λ k. finite_share (generalized_in (shares_in s n) k)) n
+      (λ k h. ap finite_share (sym (tab-at n (generalized_at s GENERALIZED) no_generalized k h)))
+      ∙ ap (λ (m : ℕ). every m (λ k. finite_share (generalized_in (shares_in s n) k))) (sym (tab-length n (generalized_at s GENERALIZED)))
 
 -- transpose
 abbrev pub row_turn : List EqualityRow → List Float → ℕ → List Generalized → Result (List Generalized)
@@ -232,10 +220,6 @@ module _ {z : List Float} {ia ib : List ℕ} {place n body-count : ℕ} (pre : R
       record { kept = inv.kept; is = ap (λ (m : ℕ). go (vec_at s out m)) (sym same) ∙ each-end rating a b inv.is }
 
 -- operator
-pub rows-kept : {s t : List Float} {ia ib : List ℕ} {place n body-count : ℕ} → Rows s ia ib place n body-count
-    → length t ≡ length s → Rows t ia ib place n body-count
-rows-kept pre e = record { whole = omega arith; table = pre.table; most = pre.most; bodies = pre.bodies; a-there = pre.a-there; b_there = pre.b_there }
-
 -- a vector before the shares is a place for the operator
 pub place_of : {s : List Float} (place : ℕ) → RHS ≤ place → place + VECTOR ≤ GENERALIZED → END ≤ length s → VectorPlace s place
 place_of place h l w = record { low = h; apart = omega arith; there = omega arith }

@@ -13,7 +13,7 @@ use Rattle.arith.specs.RunLaws.{run_is, Reached, reached-none, reached-again, re
 use Rattle.rows.specs.Fault.{CollisionError, NonConvergent, Result}
 use Rattle.rows.specs.View.{Kept}
 use Rattle.rows.specs.Region.{kept_refl, kept_then}
-use Rattle.solves.specs.declared.Table.{Table}
+use Rattle.solves.specs.View.{Table}
 use Rattle.solves.specs.declared.joined.Rows.{Rows as Joins}
 use Rattle.solves.specs.declared.joined.Path.{Path}
 use Rattle.solves.specs.System.{Counting}

@@ -7,19 +7,16 @@ use native.Mathlib.Omega.{arith}
 use lib.ListN.{length, replicate, length-replicate, get_or-replicate}
 use lib.Ieee.{Float}
 use Rattle.arith.specs.Real.{ratio}
-use Rattle.arith.specs.Flow.{Turn, go, stop, leaving, tab}
+use Rattle.arith.specs.Flow.{Turn, go, stop, tab}
 use Rattle.arith.specs.FlowLaws.{then-go, then-stop, cond_yes, cond_no}
 use Rattle.arith.specs.Run.{ran, after, fail, up_to}
-use Rattle.arith.specs.RunLaws.{after_none, ticks, try-go, try-stop, leave-yes, leave-no}
+use Rattle.arith.specs.RunLaws.{ticks, try-go, try-stop, leave-yes, leave-no}
 use Rattle.rows.specs.declared.geometry.EqualityRow.{EqualityRow}
 use Rattle.rows.specs.Fault.{CollisionError, NonConvergent, Result}
 use Rattle.rows.specs.View.{Kept}
 use Rattle.rows.specs.Region.{tab-length, is-tab, kept_then, kept_more}
-use Rattle.rows.specs.declared.End.{End}
-use Rattle.solves.specs.declared.Ended.{Ended}
-use Rattle.solves.specs.declared.Table.{Table}
+use Rattle.solves.specs.View.{Table}
 use Rattle.solves.specs.declared.order.NoPath.{NoPath}
-use Rattle.solves.specs.declared.joined.Rows.{Rows as Joins}
 use Rattle.solves.specs.System.{System, side_of, Counting}
 use Rattle.solves.specs.Region.{vec_at, Filled, Does}
 use Rattle.solves.specs.RegionLaws.{kept-vec, filled-vec}
@@ -27,12 +24,8 @@ use Rattle.solves.specs.Solver.{operator, difference, within, tolerance_for}
 use Rattle.solves.specs.Path.{Factor, forward, backward, Refined, refine, path_order, path_factored}
 use Rattle.solves.specs.Search.{least_squares, gradients, refinement, path_along, Choice, by_least_squares, by_path, by_gradients, ordered, choose}
 use Rattle.solves.specs.Search.{solve_by, linear_solve}
-use Rattle.rows.specs.Answer.{ran_as}
-use Rattle.solves.specs.Answer.{end_of, ended_with, ended_as, SolvesNumbered}
-use Rattle.solves.specs.DoesLaws.{ran-end, solves-numbered}
-use Rattle.solves.proofs.PlaceLaws.{lent-is}
 use Rattle.solves.specs.View.{row_on, rows_on, system_on, list_of_first, band_at, factor_at, refined_at, Rows, RowsAlong, Beside, Operating, Factoring}
-use Rattle.solves.specs.View.{Refining, Work, Lends, system_at, rhs_at, rhs_on, solution_at}
+use Rattle.solves.specs.View.{Refining, Work}
 use Rattle.solves.specs.View.{RHS, SOLUTION, RESIDUAL, PRODUCT, PATH_BAND, PATH_SCALE, PATH_RHS}
 use Rattle.solves.specs.ViewLaws.{system-kept, passing-vector, passing-moves}
 use Rattle.solves.proofs.SearchLaws.{work-system, Came, came-again, came-over, came-out}
@@ -315,17 +308,3 @@ module _ {s : List Float} {ia ib : List ℕ} (table : Table) (pre : Rows s ia ib
         → Does Work s₂ t y (path_along (system_on ia ib s₂ table) (vec_at s₂ RHS n₂) (vec_at s₂ SOLUTION n₂) (list_of_first order n₂)) → Does Work s t y Linear
     unfolding solve_by
     linear-path order o e = chosen-from (by_path (list_of_first order n₂)) (chosen o) e
-
--- what the step takes of the solve
-pub lent-solves : {s s' : List Float} {ia ib : List ℕ} {rows : Joins} (t : Table) (cyclic : Bool) → Lends ia ib t rows → (r : Result (Unit {0}))
-    (l : ℕ) {end : End} {ended : Ended} → end ≡ end_of r → ended ≡ ended_with end l
-    → Does Work s s' (ran (leaving r (solution_at s' rows)) 0 l) (after 0 0 (linear_solve cyclic (system_at s rows) (rhs_at s rows)))
-    → SolvesNumbered s s' ia ib t ended (λ system. linear_solve cyclic system (rhs_on s t))
-lent-solves {s} {s'} t cyclic e r l {end} {ended} ee en d =
-    let x : List Float = vec_at s' SOLUTION t.rows in
-    solves-numbered x ended (record {
-      kept = d.kept;
-      is = ap (λ (q : Ended). ended_as q x) en ∙ (λ i. ran (ran_as (ee i) x) 0 l) ∙ (λ i. ran (ran-end x r i) 0 l)
-          ∙ (λ i. ran (leaving r (vec_at s' SOLUTION (sym e.count i))) 0 l) ∙ d.is ∙ after_none _
-          ∙ λ i. linear_solve cyclic (lent-is s e.of t e.place e.bodies e.count i) (vec_at s RHS (e.count i));
-    })

@@ -15,17 +15,11 @@ use Rattle.solves.specs.Region.{vec_at, Does}
 use Rattle.solves.specs.RegionLaws.{vec-at, vec_in, kept-vec, vec-set, vec-more}
 use Rattle.solves.specs.Path.{index, band_cell, less_products, reduced, forward_sum, forward_turn, forward, backward_sum, Back, backward_turn, backward}
 use Rattle.solves.specs.View.{list_of_first, band_at, Along, SOLUTION, RESIDUAL, PATH_BAND, PATH_SCALE, PATH_RHS, END, Beside}
-use Rattle.solves.specs.PathView.{place_of, line_at, InLine, LinesIn, row_line, column_line, side_line}
+use Rattle.solves.specs.PathView.{line_at, InLine, LinesIn, row_line, column_line, side_line}
 use Rattle.solves.proofs.BlockLaws.{list_at}
 use Rattle.solves.proofs.FactorLaws.{cell_at, cell-first}
 
 -- ---- the sums
--- a turn of less_products, whose places are p and q
-pub products-more : (s : List Float) (start : Float) (a b : Line) (t : ℕ) {value : Float} {p q : ℕ} → value ≡ less_products (line_at s a) (line_at s b) t start
-    → p ≡ place_of a t → q ≡ place_of b t → value ⊖ at s p ⊗ at s q ≡ less_products (line_at s a) (line_at s b) (t + 1) start
-products-more s start a b t {value} e ep eq =
-    (λ j. value ⊖ at s (ep j) ⊗ at s (eq j)) ∙ turns_more (λ t value. value ⊖ line_at s a t ⊗ line_at s b t) t start e
-
 -- two sums of the same products
 products-same : (x y v w : ℕ → Float) (terms : ℕ) (value : Float) → ((t : ℕ) → t < terms → x t ≡ v t) → ((t : ℕ) → t < terms → y t ≡ w t)
     → less_products x y terms value ≡ less_products v w terms value

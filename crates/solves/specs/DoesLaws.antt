@@ -3,22 +3,14 @@ use Rattle.std.specs.Prelude.{ℕ, ◌≡◌, refl, Bool, true, false, List, Flo
 use Rattle.std.proofs.Common.{sym, ◌∙◌, ap}
 use Rattle.arith.specs.Real.{is_finite}
 use Rattle.arith.specs.Flow.{go, stop, leaving, ◌>>=◌, return_if}
-use Rattle.arith.specs.Fault.{refusal_number}
+use Rattle.arith.specs.Fault.{number, refusal_number}
+use Rattle.arith.specs.Run.{ran, after}
 use Rattle.arith.specs.FlowLaws.{then-go, then-stop}
-use Rattle.arith.specs.RunLaws.{over}
-use Rattle.rows.specs.Fault.{CollisionError, NonConvergent, ArithmeticOverflow, Result}
-use Rattle.rows.specs.declared.End.{End}
-use Rattle.rows.specs.Answer.{ran_as, is_done, Numbered}
-use Rattle.rows.specs.AnswerLaws.{fault_of, ran-number, end_goes, end-stops}
-pub use Rattle.rows.specs.AnswerLaws.{ran-done, fails}
+use Rattle.rows.specs.Fault.{CollisionError, ArithmeticOverflow, Result}
 use Rattle.rows.specs.Region.{kept_then, kept_more}
-use Rattle.solves.specs.declared.Sum.{Sum}
-use Rattle.solves.specs.declared.Sum.TheVariants as Sums
-use Rattle.solves.specs.declared.Ended.{Ended}
 use Rattle.solves.specs.System.{Counting}
 use Rattle.solves.specs.Region.{Does}
 use Rattle.solves.specs.Solver.{try_number}
-use Rattle.solves.specs.Answer.{sum_as, end_of, ended_as}
 
 -- tests
 pub number-yes : {v w : Float} {b : Bool} → w ≡ v → b ≡ is_finite w → b ≡ true → go w ≡ try_number v
@@ -34,56 +26,23 @@ goes_on {E} e h = ap (λ (x : Bool). return_if {E = E} x e) (sym h)
 pub returns-if : {E : Type 0} {b : Bool} (e : E) → b ≡ true → stop e ≡ return_if b e
 returns-if {E} e h = ap (λ (x : Bool). return_if {E = E} x e) (sym h)
 
--- an answer's case
-pub sum-there : {r : Sum} {v : Float} {x : Result Float} → sum_as r ≡ x → r ≡ Sums.Value v → go v ≡ x
-sum-there e h = sym (ap sum_as h) ∙ e
+-- ---- an answer, and its number
+leaving-number : {A : Type 0} (r : Result (Unit {0})) (x : A) → refusal_number r ≡ refusal_number (leaving r x)
+leaving-number (go _) x = refl
+leaving-number (stop _) x = refl
 
-pub sum_over : {r : Sum} {x : Result Float} → sum_as r ≡ x → r ≡ Sums.ArithmeticOverflow → stop ArithmeticOverflow ≡ x
-sum_over e h = sym (ap sum_as h) ∙ e
+pub does-go : {A : Type 0} {P : ℕ → Type 0} {s t : List Float} {x : A} {R : Result A} → Does P s t (go x) R → (Does P s t (go x) R) × (0 ≡ refusal_number R)
+does-go d = (d, ap refusal_number d.is)
 
--- a solve that the step takes, and its number
-pub solves-numbered : {A : Type 0} {P : ℕ → Type 0} {s t : List Float} (x : A) (r : Ended) {R : Counting A} → Does P s t (ended_as r x) R
-    → (Does P s t (ended_as r x) R) × (Numbered r.end R.ends)
-solves-numbered {A} x r d = (d, ran-number x r.end (ap (λ (c : Counting A). c.ends) d.is))
+pub does-fail : {A : Type 0} {P : ℕ → Type 0} {s t : List Float} {e : CollisionError} {R : Result A} → Does P s t (stop e) R
+    → (Does P s t (stop e) R) × (number e ≡ refusal_number R)
+does-fail d = (d, ap refusal_number d.is)
 
--- a call that left x, and its number
-pub does-leave : {A : Type 0} {P : ℕ → Type 0} {s t : List Float} (x : A) (r : Result (Unit {0})) {R : Result A} → Does P s t (leaving r x) R
-    → (Does P s t (leaving r x) R) × (refusal_number r ≡ refusal_number R)
-does-leave {A} x r d = (d, here r ∙ ap refusal_number d.is)
-  where
-    here : (r : Result (Unit {0})) → refusal_number r ≡ refusal_number (leaving r x)
-    here (go _) = refl
-    here (stop _) = refl
-
--- what the step takes of a call that ended as r
-pub ran-end : {A : Type 0} (x : A) (r : Result (Unit {0})) → ran_as (end_of r) x ≡ leaving r x
-ran-end x (go _) = refl
-ran-end x (stop NonConvergent) = refl
-ran-end x (stop ArithmeticOverflow) = refl
-
-pub does-end : {A : Type 0} {P : ℕ → Type 0} {s t : List Float} (x : A) (r : Result (Unit {0})) {e : End} {R : Result A} → e ≡ end_of r
-    → Does P s t (leaving r x) R → (Does P s t (ran_as e x) R) × (Numbered e R)
-does-end x r {e} h d =
-    let is = ap (λ (y : End). ran_as y x) h ∙ ran-end x r ∙ d.is in
-    (record { kept = d.kept; is = is }, ran-number x e is)
-
--- the code asked `done`, which answered b
-module _ {A : Type 0} (x : A) (r : End) {b : Bool} (eb : b ≡ is_done r)
-    {P : ℕ → Type 0} {s t : List Float} {R : Result A} (d : Does P s t (ran_as r x) R) where
-  pub went : b ≡ true → Does P s t (go x) R
-  went h = record { kept = d.kept; is = end_goes x r eb d.is h }
-
-  pub failed : b ≡ false → Does P s t (stop (fault_of r)) R
-  failed h = record { kept = d.kept; is = end-stops x r eb d.is h }
-
--- the same fault, in the answer of the caller
-pub fails-over : {A B : Type 0} (x : A) (r : End) {b : Bool} → b ≡ is_done r → b ≡ false → over {A = B} (ran_as r x) ≡ stop (fault_of r)
-fails-over {A} {B} x r eb h = ap (over {A = B}) (fails x r eb h)
-
--- the caller's answer is that end: a result, one with its passes, or one of a search's pass
-module _ {A : Type 0} {P : ℕ → Type 0} {s t : List Float} (x : A) (r : End) {b : Bool} (eb : b ≡ is_done r) (h : b ≡ false) where
-  pub does-fails : {R : Result A} → Does P s t (stop (fault_of r)) R → Does P s t (ran_as r x) R
-  does-fails d = record { kept = d.kept; is = fails x r eb h ∙ d.is }
+-- the same of a call that counted on and left x
+pub counted-number : {A : Type 0} {P : ℕ → Type 0} {s t : List Float} (x : A) (r : Result (Unit {0})) (n l m k : ℕ) (R : Counting A)
+    → Does P s t (ran (leaving r x) n l) (after m k R)
+    → (Does P s t (ran (leaving r x) n l) (after m k R)) × (refusal_number r ≡ refusal_number R.ends)
+counted-number {A} x r n l m k R d = (d, leaving-number r x ∙ ap (λ (c : Counting A). refusal_number c.ends) d.is)
 
 -- ---- calls one after the other, each under its frame
 module _ {A B : Type 0} {P Q : ℕ → Type 0} {s t : List Float} {R : Result A} (f : A → Result B) (w : (i : ℕ) → Q i → P i) where

@@ -7,7 +7,6 @@ use Rattle.rows.specs.declared.geometry.EqualityRow.{EqualityRow}
 use Rattle.rows.specs.View.{at, vec3_at, row_at, Out}
 use Rattle.solves.specs.declared.places.Generalized.{Generalized}
 use Rattle.solves.specs.declared.places.MassResponse.{MassResponse}
-use Rattle.solves.specs.declared.Table.{Table}
 use Rattle.solves.specs.declared.joined.Rows.{Rows as Joins}
 use Rattle.solves.specs.declared.joined.Path.{Path}
 pub use Rattle.solves.specs.Layout.{ROWS_MOST, BODIES_MOST, VECTOR, SHARES, BAND, START_ROWS, ROWS, MASSES, RHS, SOLUTION, RESIDUAL, DIRECTION}
@@ -53,6 +52,12 @@ mass_at s place i = mass_of (at s (place + 10 * i)) (vec3_at s (place + 10 * i +
 abbrev pub masses_at : List Float → ℕ → ℕ → List MassResponse
 masses_at s place body-count = tab body-count (mass_at s place)
 
+-- rows in the scratch: where they stand, how many, and on how many bodies
+pub record Table : Type 0 where
+  pub place : ℕ
+  pub rows : ℕ
+  pub bodies : ℕ
+
 -- the system that stands in a table of rows
 abbrev pub system_on : List ℕ → List ℕ → List Float → Table → System
 system_on ia ib s t = record { rows = rows_on ia ib s t.place t.rows; masses = masses_at s MASSES t.bodies }
@@ -78,16 +83,6 @@ solution_at s rows = vec_at s SOLUTION (count_of rows)
 
 abbrev pub residual_at : List Float → Joins → List Float
 residual_at s rows = vec_at s RESIDUAL (count_of rows)
-
--- the same of a table, for the step
-abbrev pub system_in : List Float → List ℕ → List ℕ → Table → System
-system_in s ia ib t = system_on ia ib s t
-
-abbrev pub rhs_on : List Float → Table → List Float
-rhs_on s t = vec_at s RHS t.rows
-
-abbrev pub solution_on : List Float → Table → List Float
-solution_on s t = vec_at s SOLUTION t.rows
 
 -- the most that a caller may have counted before a solve
 abbrev pub COUNT_MOST : ℕ
@@ -157,28 +152,6 @@ pub record Rows (s : List Float) (ia ib : List ℕ) (place n body-count : ℕ) :
   pub a-there : (k : ℕ) → k < n → get_or ia k 0 < body-count
   pub b_there : (k : ℕ) → k < n → get_or ib k 0 < body-count
 
--- what every solve requires
-abbrev pub Ready : List Float → List ℕ → List ℕ → Table → Type 0
-Ready s ia ib t = Rows s ia ib t.place t.rows t.bodies
-
--- rows of a table that can be lent with their bodies, and what is lent of them
-pub record Fits (ia ib : List ℕ) (t : Table) : Type 0 where
-  pub table : t.place ≤ ROWS
-  pub most : t.rows ≤ ROWS_MOST
-  pub bodies : t.bodies ≤ BODIES_MOST
-  pub a-there : (k : ℕ) → k < t.rows → get_or ia k 0 < t.bodies
-  pub b_there : (k : ℕ) → k < t.rows → get_or ib k 0 < t.bodies
-
-pub record LentOf (ia ib : List ℕ) (rows : Joins) : Type 0 where
-  pub a : (k : ℕ) → k < count_of rows → get_or rows.a.now k 0 ≡ get_or ia k 0
-  pub b : (k : ℕ) → k < count_of rows → get_or rows.b.now k 0 ≡ get_or ib k 0
-
-pub record Lends (ia ib : List ℕ) (t : Table) (rows : Joins) : Type 0 where
-  pub place : rows.place ≡ t.place
-  pub bodies : rows.bodies ≡ t.bodies
-  pub count : count_of rows ≡ t.rows
-  pub of : LentOf ia ib rows
-
 -- a vector's place: behind rows and masses, and apart from the bodies' shares
 pub record VectorPlace (s : List Float) (place : ℕ) : Type 0 where
   pub low : RHS ≤ place
@@ -201,6 +174,13 @@ Filling g x a b n s t = Does (Beside x) s t (vec_at t x n) (tab (length (vec_at 
 -- the first n of an array
 abbrev pub list_of_first : List ℕ → ℕ → List ℕ
 list_of_first l n = tab n (λ k. get_or l k 0)
+
+-- the bodies of the rows, on one side and on the other
+abbrev pub side_a : Joins → List ℕ
+side_a rows = list_of_first rows.a.now (count_of rows)
+
+abbrev pub side_b : Joins → List ℕ
+side_b rows = list_of_first rows.b.now (count_of rows)
 
 -- the first n of an order are rows below n
 abbrev pub Along : List ℕ → ℕ → Type 0

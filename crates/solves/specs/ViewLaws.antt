@@ -10,7 +10,7 @@ use Rattle.rows.specs.View.{at, Out, Kept}
 use Rattle.rows.specs.Region.{tab-ext, tab-at, is-tab, tab-set, tab-more, Over, kept-vec3, kept_row}
 use Rattle.solves.specs.declared.places.Generalized.{Generalized}
 use Rattle.solves.specs.declared.places.MassResponse.{MassResponse}
-use Rattle.solves.specs.declared.Table.{Table}
+use Rattle.solves.specs.View.{Table}
 use Rattle.solves.specs.Region.{Filled}
 use Rattle.solves.specs.Solver.{no_share, row_in, generalized_in, mass_in}
 use Rattle.solves.specs.View.{row_on, rows_on, generalized_at, generalizeds_at, mass_at, masses_at, system_on, Beside, Operating, Passing, Testing}

@@ -67,12 +67,10 @@ fn scaled_square(s: &[f64], n: usize) -> f64
     requires { (END ≤ length s.now) × (n ≤ ROWS_MOST) }
     ensures { result ≡ scaled_square (vec_at s.now RESIDUAL n) (vec_at s.now DIAGONAL n) }
 {
-    let mut total = 0.0;
-    for k in 0..n {
-        let r = s[RESIDUAL + k];
-        total = total + r * r / s[DIAGONAL + k];
-    }
-    total
+    s[RESIDUAL..RESIDUAL + n]
+        .iter()
+        .zip(&s[DIAGONAL..DIAGONAL + n])
+        .fold(0.0, |total, (r, d)| total + r * r / d)
 }
 
 fn next_direction(s: &mut [f64], beta: f64, n: usize)

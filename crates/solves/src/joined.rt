@@ -5,7 +5,7 @@ ghost use Rattle.solves.specs.Layout.{ROWS, BODIES_MOST, ROWS_MOST};
 
 // A table of rows: its place in the scratch, how many bodies there are, and of each row the two that it joins.
 #[derive(Clone, Copy)]
-pub(crate) struct Rows<'a> {
+pub struct Rows<'a> {
     pub place: usize,
     pub bodies: usize,
     pub a: &'a [usize],

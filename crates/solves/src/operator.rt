@@ -8,13 +8,12 @@ ghost use Rattle.solves.specs.Solver.{try_number, sum_products, dot as dot_of, t
 ghost use Rattle.solves.specs.Checked.{added, all_finite, checked, checked_then};
 ghost use Rattle.solves.specs.Solver.{scaled as scaled_of, scale_all, rate as rate_of, rates as rates_of, operator as operator_of};
 ghost use Rattle.solves.specs.Solver.{through as through_of, add_through, cross_end, cross_mass};
-ghost use Rattle.solves.specs.View.{shares_in, masses_at, count_of, system_at, Ready, VectorPlace, Shares, Beside, Operating};
+ghost use Rattle.solves.specs.View.{shares_in, masses_at, count_of, system_at, VectorPlace, Shares, Beside, Operating};
 ghost use Rattle.solves.specs.View.{ROWS_MOST, BODIES_MOST, MASSES, RHS, END};
 
 use crate::joined::Rows;
 use crate::layout::{GENERALIZED, MASSES, RHS, SHARE};
 use crate::places::{Generalized, MassResponse, load_generalized, load_mass, store_generalized};
-use crate::{PerRow, Table};
 use arith::fault::CollisionError;
 use arith::number;
 use arith::root::sqrt;
@@ -46,11 +45,10 @@ fn products(s: &[f64], a: usize, b: usize, n: usize) -> f64
     requires { (a + n ≤ length s.now) × (b + n ≤ length s.now) }
     ensures { result ≡ sum_products (vec_at s.now a n) (vec_at s.now b n) n }
 {
-    let mut total = 0.0;
-    for k in 0..n {
-        total = total + s[a + k] * s[b + k];
-    }
-    total
+    s[a..a + n]
+        .iter()
+        .zip(&s[b..b + n])
+        .fold(0.0, |total, (x, y)| total + x * y)
 }
 
 pub(crate) fn dot(s: &[f64], a: usize, b: usize, n: usize) -> Result<f64, CollisionError>
@@ -110,12 +108,7 @@ fn shares_finite(s: &[f64], body_count: usize) -> bool
     requires { (END ≤ length s.now) × (body_count ≤ BODIES_MOST) }
     ensures { result ≡ all_finite (shares_in s.now body_count) }
 {
-    for k in 0..body_count {
-        if !load_generalized(s, GENERALIZED, k).is_finite() {
-            return false;
-        }
-    }
-    true
+    (0..body_count).all(|k| load_generalized(s, GENERALIZED, k).is_finite())
 }
 
 // A share through the mass response of its body.
@@ -156,10 +149,9 @@ fn rate(row: EqualityRow, a: Generalized, b: Generalized) -> f64
 
 impl Rows<'_> {
     // Each body's share of the rows times their values.
-    pub(crate) fn transpose(&self, s: &mut [f64], values: usize) -> Result<(), CollisionError>
+    pub fn transpose(&self, s: &mut [f64], values: usize) -> Result<(), CollisionError>
         requires { (END ≤ length s.old) × (VectorPlace s.old values) }
-        ensures { Does Shares s.old s.new (leaving result (shares_in s.new self.now.bodies))
-            (transpose_of (system_at s.old self.now).rows (vec_at s.old values (count_of self.now)) self.now.bodies) }
+        ensures { Pushes s.old s.new self.now result (λ rows. transpose_of rows (vec_at s.old values (count_of self.now)) self.now.bodies) }
     {
         clear(s, GENERALIZED, SHARE * self.bodies);
         for k in 0..self.count() {
@@ -202,20 +194,6 @@ impl Rows<'_> {
         scale_all(s, self.bodies)?;
         self.rates(s, out)
     }
-}
-
-// The rows' `transpose`, as the step calls it.
-pub fn transpose(
-    s: &mut [f64],
-    ia: &PerRow,
-    ib: &PerRow,
-    t: Table,
-    values: usize,
-) -> Result<(), CollisionError>
-    requires { (Ready s.old ia.now ib.now t) × (VectorPlace s.old values) }
-    ensures { Pushes s.old s.new ia.now ib.now t result (λ rows. transpose_of rows (vec_at s.old values t.rows) t.bodies) }
-{
-    Rows::new(ia, ib, t).transpose(s, values)
 }
 
 // The share of one body in the entry of two rows that both touch it.

@@ -4,10 +4,13 @@ ghost use Rattle.std.specs.Prelude.{◌≡◌, ◌≤◌, ◌<◌, ◌+◌, ◌-
 ghost use Rattle.solves.specs.Path.{with_block, other_block, neighbors, follows as follows_of, next_at, none_seen, visit, walk, is_end, path_walks};
 ghost use Rattle.solves.specs.Path.{note_row, path_blocks, path_edges, path_order};
 ghost use Rattle.solves.specs.Answer.{left_as};
-ghost use Rattle.solves.specs.PathView.{Bodies, Blocked, Sound, Linking, Noted, rows_of, Appended, Ordered};
-ghost use Rattle.solves.specs.View.{list_of_first, Blank};
+ghost use Rattle.solves.specs.PathView.{Blocked, Sound, Linking, Noted, rows_of, Appended, Ordered};
+ghost use Rattle.solves.specs.View.{count_of, side_a, side_b, Blank};
 
-use crate::PerRow;
+use crate::joined::Rows;
+
+// The rows at their places in an order. There are at most 96.
+pub(crate) type Order = [usize; 96];
 
 // The rows lie along no path: a body joins a third block, or blocks close a ring.
 #[derive(Drop)]
@@ -40,7 +43,7 @@ struct Graph<'a> {
 // The rows that a walk has listed, at the head of a table that is 0 behind them, and the blocks that it has visited.
 #[derive(Drop)]
 struct Seen {
-    rows: PerRow,
+    rows: Order,
     listed: usize,
     visited: [bool; 96],
     ghost whole: { (length rows ≡ 96) × (length visited ≡ 96) },
@@ -99,7 +102,7 @@ fn follows(block: Option<usize>, previous: Option<usize>) -> bool
 }
 
 // The rows of a block at the end of the order, and how many stand there then.
-fn append(rows: &mut PerRow, listed: usize, block: RowBlock) -> usize
+fn append(rows: &mut Order, listed: usize, block: RowBlock) -> usize
     requires { (block.start ≤ block.end) × (listed + (block.end - block.start) ≤ 96) }
     ensures { Appended rows.old listed block.start block.end rows.new result }
 {
@@ -229,14 +232,13 @@ fn note_row(blocks: &mut [RowBlock; 96], number: usize, a: usize, b: usize, i: u
 }
 
 // How many blocks there are, at the head of the table.
-fn path_blocks(ia: &PerRow, ib: &PerRow, n: usize, blocks: &mut [RowBlock; 96]) -> usize
-    requires { (n ≤ 96) × (Bodies ia.now n) × (Bodies ib.now n) }
-    ensures { (Noted blocks.new result (path_blocks (list_of_first ia.now n) (list_of_first ib.now n) n))
-        × (Blocked (take result blocks.new)) × (rows_of (take result blocks.new) ≡ n) }
+fn path_blocks(rows: &Rows, blocks: &mut [RowBlock; 96]) -> usize
+    ensures { (Noted blocks.new result (path_blocks (side_a rows.now) (side_b rows.now) (count_of rows.now)))
+        × (Blocked (take result blocks.new)) × (rows_of (take result blocks.new) ≡ count_of rows.now) }
 {
     let mut number = 0;
-    for i in 0..n {
-        number = note_row(blocks, number, ia[i], ib[i], i);
+    for i in 0..rows.count() {
+        number = note_row(blocks, number, rows.a[i], rows.b[i], i);
     }
     number
 }
@@ -255,12 +257,11 @@ fn path_edges(blocks: &[RowBlock]) -> Result<[Ends; 16], NoPath>
 }
 
 // The rows along the path, if the graph is one.
-pub(crate) fn path_order(ia: &PerRow, ib: &PerRow, n: usize) -> Result<PerRow, NoPath>
-    requires { (n ≤ 96) × (Bodies ia.now n) × (Bodies ib.now n) }
-    ensures { Ordered n result (path_order (list_of_first ia.now n) (list_of_first ib.now n) n) }
+pub(crate) fn path_order(rows: &Rows) -> Result<Order, NoPath>
+    ensures { Ordered (count_of rows.now) result (path_order (side_a rows.now) (side_b rows.now) (count_of rows.now)) }
 {
     let mut room = [RowBlock::NONE; 96];
-    let number = path_blocks(ia, ib, n, &mut room);
+    let number = path_blocks(rows, &mut room);
     let blocks = &room[..number];
     let edges = path_edges(blocks)?;
     let mut seen = Seen::new();
@@ -269,7 +270,7 @@ pub(crate) fn path_order(ia: &PerRow, ib: &PerRow, n: usize) -> Result<PerRow, N
         edges: &edges,
     };
     graph.walks(&mut seen)?;
-    if seen.listed != n {
+    if seen.listed != rows.count() {
         return Err(NoPath);
     }
     Ok(seen.rows)

@@ -87,11 +87,7 @@ fn less_products(s: &[f64], start: f64, a: Line, b: Line, terms: usize) -> f64
     requires { LinesIn s.now a b terms }
     ensures { result ≡ less_products (line_at s.now a) (line_at s.now b) terms start }
 {
-    let mut value = start;
-    for k in 0..terms {
-        value = value - s[a.place(k)] * s[b.place(k)];
-    }
-    value
+    (0..terms).fold(start, |value, k| value - s[a.place(k)] * s[b.place(k)])
 }
 
 // The first column of row i's band.

@@ -2,11 +2,10 @@
 ghost use Rattle.std.specs.Prelude.{◌≡◌, ◌+◌, ◌*◌, ◌≤◌, ◌<◌, length};
 ghost use Rattle.rows.specs.View.{Out, Kept};
 ghost use Rattle.solves.specs.Checked.{finite_share};
-ghost use Rattle.solves.specs.View.{row_on, generalized_at, mass_at, mass_of, Fits, Lends};
+ghost use Rattle.solves.specs.View.{row_on, generalized_at, mass_at, mass_of};
 
 use crate::joined::Rows;
 use crate::layout::{MASS, SHARE};
-use crate::{PerRow, Table};
 use rows::geometry::{EqualityRow, ROW, load3, store3};
 use vectors::matrix::Mat3;
 use vectors::vector::Vec3;
@@ -32,38 +31,19 @@ pub struct MassResponse {
     pub angular: Mat3,
 }
 
-impl<'a> Rows<'a> {
-    pub(crate) fn new(ia: &'a PerRow, ib: &'a PerRow, t: Table) -> Rows<'a>
-        requires { Fits ia.now ib.now t }
-        ensures { Lends ia.now ib.now t result }
-    {
-        Rows {
-            place: t.place,
-            bodies: t.bodies,
-            a: &ia[..t.rows],
-            b: &ib[..t.rows],
-        }
-    }
-
-    pub(crate) fn count(&self) -> usize
+impl Rows<'_> {
+    pub fn count(&self) -> usize
         ensures { result ≡ length self.now.a.now }
     {
         self.a.len()
     }
 
-    pub(crate) fn load(&self, s: &[f64], k: usize) -> EqualityRow
+    pub fn load(&self, s: &[f64], k: usize) -> EqualityRow
         requires { (self.now.place + 14 * k + 14 ≤ length s.now) × (k < length self.now.a.now) }
         ensures { result ≡ row_on self.now.a.now self.now.b.now s.now self.now.place k }
     {
         EqualityRow::load(s, self.place + ROW * k, self.a[k], self.b[k])
     }
-}
-
-pub fn load_row(s: &[f64], ia: &PerRow, ib: &PerRow, place: usize, k: usize) -> EqualityRow
-    requires { (place + 14 * k + 14 ≤ length s.now) × (k < 96) }
-    ensures { result ≡ row_on ia.now ib.now s.now place k }
-{
-    EqualityRow::load(s, place + ROW * k, ia[k], ib[k])
 }
 
 pub fn load_generalized(s: &[f64], place: usize, k: usize) -> Generalized

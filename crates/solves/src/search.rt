@@ -1,5 +1,5 @@
 // The loop of both searches: a pass goes on with the number that the last one left, until it leaves none.
-ghost use Rattle.std.specs.Prelude.{ℕ, ◌≡◌, ◌≤◌, length, List, Float};
+ghost use Rattle.std.specs.Prelude.{ℕ, ◌≡◌, ◌≤◌, length, Float};
 ghost use Rattle.arith.specs.Flow.{leaving};
 ghost use Rattle.arith.specs.Run.{ran, after, up_to};
 ghost use Rattle.rows.specs.Fault.{NonConvergent, Result};

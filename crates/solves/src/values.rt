@@ -1,6 +1,5 @@
 // Loops over whole vectors of the scratch.
-ghost use Rattle.std.specs.Prelude.{ℕ, ◌≡◌, ◌+◌, Float};
-ghost use Rattle.arith.specs.Flow.{tab};
+ghost use Rattle.std.specs.Prelude.{◌≡◌, ◌+◌, Float};
 ghost use Rattle.solves.specs.Solver.{plus, difference as difference_of};
 ghost use Rattle.solves.specs.Region.{vec_at, Does};
 ghost use Rattle.solves.specs.View.{Beside, Onto, Filling};

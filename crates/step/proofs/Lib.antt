@@ -1,6 +1,5 @@
 -- Laws that the proofs of this crate's functions cite, each file over those above it: from the loads and stores of bodies.rt to `solve` as a whole.
 pub mod StepLaws
-pub mod EveryLaws
 pub mod BodyLaws
 pub mod AnsweredLaws
 pub mod MotionLaws

@@ -1,214 +1,207 @@
--- The passes of both stages and their loop: links of a Run from the calls' contracts; what differs by the stage; the loop by `Reached`.
-use Prim.Native.Nat.{ℕ, ◌+◌, ◌<◌}
-use mathlib.Core.Path.{◌≡◌, refl, sym, ◌∙◌, ap, subst}
-use mathlib.Core.Bool.{Bool, true, false}
-use mathlib.Core.List.{List}
-use native.Mathlib.Omega.{arith}
-use native.Mathlib.Nat.{zero-add}
-use lib.Ieee.{Float}
-use Rattle.arith.specs.Flow.{Turn, go, stop, leaving}
-use Rattle.arith.specs.Run.{ran, after, try, begin, again, leave_if, ◌>>=◌}
-use Rattle.arith.specs.RunLaws.{run_is, then-go, then-stop, try-go, try-stop, leave-yes, leave-no, over}
+-- The passes of both stages and their loop: links of a Run that counts on, from the calls' contracts; what differs by the stage; the loop by `Reached`.
+use Rattle.std.specs.Prelude.{ℕ, ◌+◌, ◌*◌, ◌≤◌, ◌<◌, ◌≡◌, refl, Bool, true, false, List, Float}
+use Rattle.std.specs.declared.ops.ControlFlow.TheVariants.{Continue, Break}
+use Rattle.std.proofs.Common.{◌∙◌, ap, arith}
+use Rattle.arith.specs.Flow.{Turn, go, stop}
+use Rattle.arith.specs.Run.{ran, after, onward, try, begin, leave_if, up_to, ◌>>=◌}
+use Rattle.arith.specs.RunLaws.{run_is, after-after, try-go, try-stop, leave-yes, leave-no, over}
 use Rattle.arith.specs.RunLaws.{Reached, reached-none, reached-again, reached-over, reached-spent}
-use Rattle.rows.specs.declared.geometry.Joint.{Joint}
-use Rattle.rows.specs.Fault.{NonConvergent, Result}
+use Rattle.rows.specs.Fault.{CollisionError, NonConvergent, Result}
 use Rattle.rows.specs.View.{Kept}
-use Rattle.rows.specs.Region.{kept_refl, kept_then}
-use Rattle.rows.specs.declared.End.{End}
-use Rattle.rows.specs.declared.End.TheVariants as Ends
-use Rattle.solves.specs.declared.Ended.{Ended}
-use Rattle.solves.specs.declared.Pass.{Pass}
-use Rattle.solves.specs.declared.Table.{Table}
+use Rattle.rows.specs.Region.{kept_refl, kept_then, kept_more}
+use Rattle.solves.specs.declared.joined.Rows.{Rows}
 use Rattle.solves.specs.Region.{Does}
 use Rattle.solves.specs.RegionLaws.{kept-vec}
 use Rattle.solves.specs.System.{Counting}
-use Rattle.solves.specs.Answer.{ran_as, pass_as, is_done, ended_as}
-use Rattle.solves.specs.DoesLaws.{ran-done, fails, fails-over, went, failed}
-use Rattle.solves.specs.View.{Work}
+use Rattle.solves.specs.View.{Work, count_of, table_of}
 use Rattle.solves.specs.ViewLaws.{kept-rows, system-kept}
-use Rattle.arith.specs.FlowLaws.{cond_yes, cond_no}
-use Rattle.step.specs.declared.passes.Passed.{Passed}
-use Rattle.step.specs.declared.passes.Looped.{Looped}
-use Rattle.step.specs.declared.passes.Ran.{Ran}
-use Rattle.step.specs.declared.passes.Stage.{Stage}
-use Rattle.step.specs.declared.passes.Stage.TheVariants as Stages
+use Rattle.step.specs.declared.passes.Counts.{Counts}
 use Rattle.step.specs.Layout.{IMPULSES}
 use Rattle.step.specs.ViewLaws.{kept-candidates}
 use Rattle.step.specs.Bodies.{Job, add_impulses, reaction_of}
-use Rattle.step.specs.TurnLaws.{correction}
 use Rattle.step.specs.Step.{nonlinear_pass, velocity_pass}
-use Rattle.step.specs.RunView.{Ours, passed_as, passed_after, left_as, Given, given_at, gained_at, pass_at, make_at, nonlinear_of, Outside, Besides}
+use Rattle.step.specs.RunView.{Which, Nonlinear, Velocity, Given, given_at, Gained, gained_at, pass_at, make_at, Apart, Outside, Goes, LIMIT}
 use Rattle.step.specs.Says.{Passes, Loops}
 use Rattle.step.proofs.LoopLaws.{kept-started}
+use Rattle.step.proofs.CountLaws.{pass-few}
 
 -- ---- links
--- a pass counts itself, and then does the rest
-pub begun : {A : Type 0} {P : ℕ → Type 0} {s u : List Float} {t : Result A} {l : ℕ} {rest : Counting A} → Does P s u (ran t 0 l) rest
-    → Does P s u (ran t 1 l) (begin >>= λ _. rest)
+-- with so many passes before, of what counts none
+stays : {B : Type 0} (n l : ℕ) (t : Result B) → ran t n l ≡ after n l (try t)
+stays n l t = run_is (omega arith) (omega arith)
+
+-- through a link that counted: the rest goes on after its passes
+through : {A B : Type 0} {t : Result A} (n l m k : ℕ) (R : Counting A) (f : A → Counting B) → ran t m k ≡ after n l R
+    → after m k (onward f t) ≡ after n l (R >>= f)
 unfolding ◌>>=◌
-begun {A} {t = t} {l} d = record { kept = d.kept; is = run_is refl (sym (zero-add l)) ∙ ap (λ (r : Counting A). begin >>= λ _. r) d.is }
+through {A} {B} n l m k R f e =
+    ap (λ (q : Counting A). after q.nonlinear q.linear (onward f q.ends)) e ∙ after-after n l R.nonlinear R.linear (onward f R.ends)
 
--- what was not done fails alike, whatever it was to leave
-pub failed-as : {A B : Type 0} (x : A) (y : B) (end : End) {b : Bool} → b ≡ is_done end → b ≡ false → {R : Result A} → ran_as end x ≡ R
-    → (f : A → Counting B)
-    → ran (ran_as end y) 0 0 ≡ (try R >>= f)
-failed-as x y end eb h e f = ap (λ (t : Result _). ran t 0 0) (fails y end eb h) ∙ try-stop f (sym (fails x end eb h) ∙ e)
+module _ {B : Type 0} {P : ℕ → Type 0} {s u : List Float} {c : Counts} where
+  pub goes-here : {t : Result B} → Kept P s u → Goes P s u c c t (try t)
+  goes-here {t} kept = record { kept = kept; is = stays c.nonlinear c.linear t }
 
--- ---- a correction: `solve` answered r and left x, and `make` made something of it
-module _ {A B : Type 0} {P : ℕ → Type 0} {s s₁ : List Float} {solve : Counting (List Float)} (make : List Float → Result A) (r : Ended) (x : List Float)
-    (d : Does P s s₁ (ended_as r x) solve) {b : Bool} (eb : b ≡ is_done r.end) {p : Passed} (y : B) where
-  pub unsolved : (a : A) → b ≡ false → p ≡ passed_after r.end r.linear → Does P s s₁ (passed_as 0 p a y) (correction solve make)
-  unsolved a h ep =
-      record { kept = d.kept; is = ap (λ (p : Passed). passed_as 0 p a y) ep ∙ here r.end (sym eb ∙ h) r.linear d.is }
-    where
-      here : (q : End) → is_done q ≡ false → (l : ℕ) → ran (ran_as q x) 0 l ≡ solve → passed_as 0 (passed_after q l) a y ≡ correction solve make
-      here Ends.Done f l e = absurd (let z : ◌≡◌ {A = ℕ} 0 1 = cc in omega arith)
-      here Ends.NonConvergent f l e = then-stop _ e
-      here Ends.ArithmeticOverflow f l e = then-stop _ e
+  -- the definition by another name
+  pub goes-is : {now : Counts} {y : Result B} {d e : Counting B} → Goes P s u c now y d → d ≡ e → Goes P s u c now y e
+  goes-is g h = record { kept = g.kept; is = g.is ∙ ap (after c.nonlinear c.linear) h }
 
-  pub made : b ≡ true → {s₂ : List Float} (a : A) (q : End) → Does P s₁ s₂ (ran_as q a) (make x) → p ≡ passed_after q r.linear
-      → Does P s s₂ (passed_as 0 p a y) (correction solve make)
-  made h a q e ep = record {
-    kept = kept_then d.kept e.kept (λ i x. x);
-    is = ap (λ (p : Passed). passed_as 0 p a y) ep ∙ run_is refl (let z : r.linear ≡ r.linear + 0 = omega arith in z)
-        ∙ ap (after 0 r.linear) (here q e.is) ∙ then-go (λ solution. try (make solution) >>= λ next. again next) solved;
+  -- under a wider frame
+  pub goes-more : {Q : ℕ → Type 0} {now : Counts} {y : Result B} {d : Counting B} → ((i : ℕ) → P i → Q i) → Goes Q s u c now y d → Goes P s u c now y d
+  goes-more w g = record { kept = kept_more g.kept w; is = g.is }
+
+  module _ {A : Type 0} (f : A → Counting B) where
+    -- a call that counts nothing failed, and so does the block
+    pub fails : {R : Result A} {e : CollisionError} → Does P s u (stop e) R → Goes P s u c c (stop e) (try R >>= f)
+    fails {e = e} d = record { kept = d.kept; is = stays c.nonlinear c.linear (stop e) ∙ ap (after c.nonlinear c.linear) (try-stop f d.is) }
+
+    -- or it went through at r, and the rest goes on from there
+    pub goes-then : {R : Result A} {x : A} {r : List Float} {now : Counts} {y : Result B} → Does P s r (go x) R → Goes P r u c now y (f x)
+        → Goes P s u c now y (try R >>= f)
+    goes-then d g = record { kept = kept_then d.kept g.kept (λ i x. x); is = g.is ∙ ap (after c.nonlinear c.linear) (try-go f d.is) }
+
+    -- the same of a call that counts
+    pub run-fails : {R : Counting A} {now : Counts} {e : CollisionError} → Goes P s u c now (stop e) R → Goes P s u c now (stop e) (R >>= f)
+    run-fails {R} {now} {e} g = record {
+      kept = g.kept;
+      is = stays now.nonlinear now.linear (stop e) ∙ through c.nonlinear c.linear now.nonlinear now.linear R f g.is;
+    }
+
+    pub run-then : {R : Counting A} {x : A} {r : List Float} {between now : Counts} {y : Result B} → Goes P s r c between (go x) R
+        → Goes P r u between now y (f x) → Goes P s u c now y (R >>= f)
+    run-then {R} {between = between} d g = record {
+      kept = kept_then d.kept g.kept (λ i x. x);
+      is = g.is ∙ through c.nonlinear c.linear between.nonlinear between.linear R f d.is;
+    }
+
+  -- a pass counts itself, and then does the rest
+  pub begins : {now : Counts} {y : Result B} {rest : Counting B} → Goes P s u (record { nonlinear = c.nonlinear + 1; linear = c.linear }) now y rest
+      → Goes P s u c now y (begin >>= λ _. rest)
+  begins {rest = rest} g = record {
+    kept = g.kept;
+    is = g.is ∙ through c.nonlinear c.linear (c.nonlinear + 1) c.linear begin (λ _. rest) (run_is refl (omega arith));
   }
-    where
-      here : (q : End) → ran_as q a ≡ make x → passed_as 0 (passed_after q 0) a y ≡ (try (make x) >>= λ next. again next)
-      here Ends.Done e = try-go (λ next. again next) e
-      here Ends.NonConvergent e = try-stop (λ next. again next) e
-      here Ends.ArithmeticOverflow e = try-stop (λ next. again next) e
 
-      solved : ran (go x) 0 r.linear ≡ solve
-      solved = sym (ap (λ (t : Result (List Float)). ran t 0 r.linear) (ran-done x r.end (sym eb ∙ h))) ∙ d.is
-
--- ---- a pass: what it looks for is not found, or meets its test, or is corrected
-module _ {X A B : Type 0} {P : ℕ → Type 0} {s s₁ : List Float} {R : Result X} (test : X → Bool) (out : X → B) (rest : X → Counting (Turn A B))
-    (x : X) (r : End) (d : Does P s s₁ (ran_as r x) R) {b : Bool} (eb : b ≡ is_done r) where
-  abbrev pass : Counting (Turn A B)
-  pass = try R >>= λ found. leave_if (test found) (out found) (rest found)
-
-  pub pass-fails : (y : B) → b ≡ false → Does P s s₁ (ran (over (ran_as r y)) 0 0) pass
-  pass-fails y h = record {
+  -- a solve, which counts no nonlinear pass
+  pub solved : {y : Result B} {R : Counting B} {l : ℕ} → Does P s u (ran y 0 l) (after 0 c.linear R)
+      → Goes P s u c (record { nonlinear = c.nonlinear; linear = l }) y R
+  solved {y} {R} {l} d = record {
     kept = d.kept;
-    is = ap (λ (t : Result (Turn A B)). ran t 0 0) (fails-over y r eb h) ∙ try-stop _ (failed x r eb d h).is;
+    is = (λ i. ran (ap (λ (q : Counting B). q.ends) d.is i) c.nonlinear l)
+        ∙ run_is (omega (arith, ap (λ (q : Counting B). q.nonlinear) d.is)) (ap (λ (q : Counting B). q.linear) d.is);
   }
 
-  module _ (h : b ≡ true) {c : Bool} (ec : c ≡ test x) where
-    pub pass-met : c ≡ true → Does P s s₁ (ran (go (stop (out x))) 0 0) pass
-    pass-met k = record { kept = d.kept; is = leave-yes _ _ (sym ec ∙ k) ∙ try-go _ (went x r eb d h).is }
+-- ---- a test that ends a loop
+module _ {A B : Type 0} {P : ℕ → Type 0} {s u : List Float} {c : Counts} {test : Bool} (out : B) (rest : Counting (Turn A B)) where
+  pub leaves : test ≡ true → Kept P s u → Goes P s u c c (go (stop out)) (leave_if test out rest)
+  leaves h kept = goes-is (goes-here kept) (leave-yes out rest h)
 
-    pub pass-corrects : c ≡ false → {u : List Float} {y : Counting (Turn A B)} → Does P s₁ u y (rest x) → Does P s u y pass
-    pass-corrects k e = record { kept = kept_then d.kept e.kept (λ i x. x); is = e.is ∙ leave-no _ _ (sym ec ∙ k) ∙ try-go _ (went x r eb d h).is }
-
--- ---- an answer that was put together
-module _ (end : End) {linear : ℕ} {b : Bool} (e : b ≡ is_done end) {r : Passed} where
-  pub after-done : b ≡ true → r ≡ record { pass = Pass.Again; linear = linear } → r ≡ passed_after end linear
-  after-done h q = q ∙ ap (λ (p : Pass). record { pass = p; linear = linear }) (cond_yes _ _ (sym e ∙ h))
-
-  pub after-fault : b ≡ false → r ≡ record { pass = Pass.Over end; linear = linear } → r ≡ passed_after end linear
-  after-fault h q = q ∙ ap (λ (p : Pass). record { pass = p; linear = linear }) (cond_no _ _ (sym e ∙ h))
-
-module _ {A B : Type 0} {P : ℕ → Type 0} {s t : List Float} where
-  pub passed_is : (n : ℕ) (x : A) (y : B) {r q : Passed} {d : Counting (Turn A B)} → r ≡ q → Does P s t (passed_as n q x y) d
-      → Does P s t (passed_as n r x y) d
-  passed_is n x y e f = record { kept = f.kept; is = ap (λ (r : Passed). passed_as n r x y) e ∙ f.is }
-
-module _ {A : Type 0} {P : ℕ → Type 0} {s t : List Float} where
-  pub ended_is : (x : A) {r q : Ended} {d : Counting A} → r ≡ q → Does P s t (ended_as q x) d → Does P s t (ended_as r x) d
-  ended_is x e f = record { kept = f.kept; is = ap (λ (r : Ended). ended_as r x) e ∙ f.is }
-
-  pub left_is : (x : A) {r q : Ran} {d : Counting A} → r ≡ q → Does P s t (left_as q x) d → Does P s t (left_as r x) d
-  left_is x e f = record { kept = f.kept; is = ap (λ (r : Ran). left_as r x) e ∙ f.is }
+  pub goes-on : test ≡ false → {now : Counts} {y : Result (Turn A B)} → Goes P s u c now y rest → Goes P s u c now y (leave_if test out rest)
+  goes-on h g = goes-is g (leave-no out rest h)
 
 -- ---- by the stage
--- an answer of the stage that it is: of `stage_pass`, of `use_solution`
-pub staged : {stage : Stage} (job : Job) (ia ib : List ℕ) (table : Table) {s u : List Float} (r : Passed) {q : Stage} → stage ≡ q
-    → Passes q ia ib table s u job r → Passes stage ia ib table s u job r
-staged {stage} job ia ib table {s} {u} r e = subst (λ (q : Stage). Passes q ia ib table s u job r) (sym e)
-
-pub used : (stage : Stage) (ia ib : List ℕ) (table : Table) {s u : List Float} (r : Result (Unit {0})) (x : List Float) {q : Stage} → stage ≡ q
-    → Does (Outside q) s u (leaving r (given_at q u table)) (make_at q ia ib table s x)
-    → Does (Outside stage) s u (leaving r (given_at stage u table)) (make_at stage ia ib table s x)
-used stage ia ib table {s} {u} r x e =
-    subst (λ (q : Stage). Does (Outside q) s u (leaving r (given_at q u table)) (make_at q ia ib table s x)) (sym e)
-
 -- a solve leaves what is made of its solution
-pub solve-inside : (stage : Stage) (i : ℕ) → Outside stage i → Work i
-solve-inside Stages.Nonlinear i x = omega (arith, x.1)
-solve-inside Stages.Velocity i x = omega (arith, x.0)
+pub solve-inside : (which : Which) (i : ℕ) → Outside which i → Work i
+solve-inside Nonlinear i x = omega (arith, x.1)
+solve-inside Velocity i x = omega (arith, x.0)
 
-pub same-make : (stage : Stage) {S : List Float} {IA IB : List ℕ} {table : Table} → Ours S IA IB table → {s u : List Float} → Kept Work s u
-    → (x : List Float) → make_at stage IA IB table u x ≡ make_at stage IA IB table s x
-same-make Stages.Nonlinear {table = table} pre kept x =
-    ap (λ (v : List Float). add_impulses v x) (kept-vec kept IMPULSES table.rows (λ i a b. omega (arith, pre.ready.most)))
-same-make Stages.Velocity {IA = IA} {IB} {table} pre kept x = λ j. reaction_of
-    (kept-rows kept IA IB table.place table.rows (λ i a b. omega (arith, pre.ready.table, pre.ready.most)) j)
-    (kept-candidates kept table.bodies (λ i a b. omega (arith, pre.ready.bodies)) (λ i a b. omega (arith, pre.ready.bodies)) j) x
+pub same-make : (which : Which) (rows : Rows) {s u : List Float} → Kept Work s u → (x : List Float) → make_at which u rows x ≡ make_at which s rows x
+same-make Nonlinear rows kept x =
+    ap (λ (v : List Float). add_impulses v x) (kept-vec kept IMPULSES (count_of rows) (λ i a b. omega (arith, rows.few_rows)))
+same-make Velocity rows kept x = λ j. reaction_of
+    (kept-rows kept rows.a.now rows.b.now rows.place (count_of rows) (λ i a b. omega (arith, rows.in_table, rows.few_rows)) j)
+    (kept-candidates kept rows.bodies (λ i a b. omega (arith, rows.few_bodies)) (λ i a b. omega (arith, rows.few_bodies)) j) x
 
 -- a pass is over the same, however far the loop has come
-same-pass : (stage : Stage) (job : Job) (joints : List Joint) (count : ℕ) {S : List Float} {IA IB : List ℕ} {table : Table} → Ours S IA IB table
-    → Besides stage joints count IA IB table → {s t : List Float} → Kept (Outside stage) s t
-    → (x : Given stage) → pass_at stage job IA IB table t x ≡ pass_at stage job IA IB table s x
-same-pass Stages.Nonlinear job joints count {IA = IA} {IB} {table} pre also kept x = λ j. nonlinear_pass job
-    (kept-started kept IA IB table also.apart pre.ready.most pre.ready.bodies (λ i x. x) j) x
-same-pass Stages.Velocity job joints count {IA = IA} {IB} {table} pre also kept x = λ j. velocity_pass job
-    (system-kept IA IB table (λ i a b. omega arith) pre.ready.table pre.ready.most pre.ready.bodies kept j) x
-
-none-begun : (stage : Stage) → 0 ≡ nonlinear_of stage 0
-none-begun Stages.Nonlinear = refl
-none-begun Stages.Velocity = refl
-
-one_more : (stage : Stage) (k : ℕ) → nonlinear_of stage k + nonlinear_of stage 1 ≡ nonlinear_of stage (k + 1)
-one_more Stages.Nonlinear k = refl
-one_more Stages.Velocity k = refl
+same-pass : (which : Which) (job : Job) (rows : Rows) → Apart which rows → {s t : List Float} → Kept (Outside which) s t
+    → (x : Given which) → pass_at which job rows t x ≡ pass_at which job rows s x
+same-pass Nonlinear job rows apart kept x = λ j. nonlinear_pass job (kept-started kept rows apart (λ i x. x) j) x
+same-pass Velocity job rows apart kept x = λ j. velocity_pass job
+    (system-kept rows.a.now rows.b.now (table_of rows) (λ i a b. omega arith) rows.in_table rows.few_rows rows.few_bodies kept j) x
 
 -- ---- the loop of both stages: each turn takes one pass over what stands in the scratch, and leaves its frame
-module _ (stage : Stage) (job : Job) (ia ib : List ℕ) (table : Table) (most : ℕ) (s₀ : List Float) where
-  abbrev Reaches : ℕ → List Float → ℕ → ℕ → Type 0
-  Reaches k s n l = Reached most NonConvergent (pass_at stage job ia ib table s₀) (given_at stage s₀ table) k (given_at stage s table) n l
+module _ (which : Which) (job : Job) (rows : Rows) (most : ℕ) (s₀ : List Float) (c₀ : Counts) where
+  abbrev Whole : ℕ → List Float → ℕ → ℕ → Type 0
+  Whole k s n l = Reached most NonConvergent (pass_at which job rows s₀) (given_at which s₀ rows) k (given_at which s rows) n l
 
-  -- what stands before turn k, after l linear passes
-  pub record Looping (s : List Float) (k l : ℕ) : Type 0 where
-    pub kept : Kept (Outside stage) s₀ s
-    pub reached : Reaches k s (nonlinear_of stage k) l
+  -- what stands before turn k
+  pub record Looping (s : List Float) (k : ℕ) (c : Counts) : Type 0 where
+    pub kept : Kept (Outside which) s₀ s
+    -- the passes counted in the loop
+    pub nonlinear-passes : ℕ
+    pub linear-passes : ℕ
+    pub nonlinear-is : c.nonlinear ≡ c₀.nonlinear + nonlinear-passes
+    pub linear-is : c.linear ≡ c₀.linear + linear-passes
+    pub few : (nonlinear-passes ≤ k) × (linear-passes ≤ LIMIT * k)
+    pub reached : Whole k s nonlinear-passes linear-passes
 
-  pub loop-none : Looping s₀ 0 0
+  pub loop-none : Looping s₀ 0 c₀
   loop-none = record {
-    kept = kept_refl (Outside stage) s₀;
-    reached = subst (λ (n : ℕ). Reaches 0 s₀ n 0) (none-begun stage) (reached-none most NonConvergent (pass_at stage job ia ib table s₀) _);
+    kept = kept_refl (Outside which) s₀;
+    nonlinear-passes = 0;
+    linear-passes = 0;
+    nonlinear-is = omega arith;
+    linear-is = omega arith;
+    few = (omega arith, omega arith);
+    reached = reached-none most NonConvergent (pass_at which job rows s₀) _;
   }
 
-  pub loop-spent : {s : List Float} {k l : ℕ} → Looping s k l → most ≡ k → {r : Looped} → r ≡ record { end = Ends.NonConvergent; passes = most; linear = l }
-      → Loops stage ia ib table s₀ s job most r
-  loop-spent {s} inv e f = subst (Loops stage ia ib table s₀ s job most) (sym f) (record {
-    kept = inv.kept;
-    is = run_is (ap (nonlinear_of stage) e) refl ∙ reached-spent most NonConvergent _ _ inv.reached (omega arith);
-  })
+  pub loop-spent : {s : List Float} {k : ℕ} {c : Counts} → Looping s k c → k ≤ most → most ≤ k → Loops which rows s₀ s job most c₀ c (stop NonConvergent)
+  loop-spent {s} {k} {c} inv a b = (
+    record {
+      kept = inv.kept;
+      is = run_is inv.nonlinear-is inv.linear-is
+          ∙ ap (after c₀.nonlinear c₀.linear) (reached-spent most NonConvergent (pass_at which job rows s₀) (given_at which s₀ rows) inv.reached b);
+    },
+    omega (arith, inv.nonlinear-is, inv.few.0),
+  )
 
-module _ (stage : Stage) (job : Job) (joints : List Joint) (count : ℕ) {S : List Float} {IA IB : List ℕ} {table : Table} (pre : Ours S IA IB table)
-    (also : Besides stage joints count IA IB table) {most : ℕ} {s₀ s t : List Float} {k l : ℕ}
-    (inv : Looping stage job IA IB table most s₀ s k l) (r : Passed) (d : Passes stage IA IB table s t job r) (h : k < most) where
-  keeps : Kept (Outside stage) s₀ t
-  keeps = kept_then inv.kept d.kept (λ i x. x)
+  abbrev pass : List Float → Counting (Turn (Given which) (Gained which))
+  pass s = pass_at which job rows s (given_at which s rows)
 
-  case : {q : Pass} → r.pass ≡ q
-      → ran (pass_as q (given_at stage t table) (gained_at stage IA IB t table)) (nonlinear_of stage 1) r.linear
-      ≡ pass_at stage job IA IB table s₀ (given_at stage s table)
-  case e =
-      sym (ap (λ (q : Pass). ran (pass_as q (given_at stage t table) (gained_at stage IA IB t table)) (nonlinear_of stage 1) r.linear) e)
-      ∙ d.is ∙ same-pass stage job joints count pre also inv.kept (given_at stage s table)
+  module _ (apart : Apart which rows) {s t : List Float} {k : ℕ} {c c' : Counts} (inv : Looping s k c) (h : k < most) where
+    -- what the pass counted, and how it ended
+    module _ {y : Result (Turn (Given which) (Gained which))} (g : Goes (Outside which) s t c c' y (pass s)) where
+      keeps : Kept (Outside which) s₀ t
+      keeps = kept_then inv.kept g.kept (λ i x. x)
 
-  pub loop-again : r.pass ≡ Pass.Again → Looping stage job IA IB table most s₀ t (k + 1) (l + r.linear)
-  loop-again e = record {
-    kept = keeps;
-    reached = subst (λ (n : ℕ). Reaches stage job IA IB table most s₀ (k + 1) t n (l + r.linear)) (one_more stage k)
-        (reached-again most NonConvergent _ _ inv.reached h (case e));
-  }
+      nonlinear-more : c'.nonlinear ≡ c₀.nonlinear + (inv.nonlinear-passes + (pass s).nonlinear)
+      nonlinear-more = omega (arith, ap (λ (q : Counting _). q.nonlinear) g.is, inv.nonlinear-is)
 
-  pub loop-over : {end : End} → r.pass ≡ Pass.Over end → {a : Looped} → a ≡ record { end = end; passes = k + 1; linear = l + r.linear }
-      → Loops stage IA IB table s₀ t job most a
-  loop-over {end} e f = subst (Loops stage IA IB table s₀ t job most) (sym f) (record {
-    kept = keeps;
-    is = run_is (sym (one_more stage k)) refl ∙ reached-over most NonConvergent _ _ inv.reached h (ran_as end _) (case e);
-  })
+      linear-more : c'.linear ≡ c₀.linear + (inv.linear-passes + (pass s).linear)
+      linear-more = omega (arith, ap (λ (q : Counting _). q.linear) g.is, inv.linear-is)
+
+      ends : ran y (pass s).nonlinear (pass s).linear ≡ pass_at which job rows s₀ (given_at which s rows)
+      ends =
+          (λ i. ran (ap (λ (q : Counting (Turn (Given which) (Gained which))). q.ends) g.is i) (pass s).nonlinear (pass s).linear)
+          ∙ same-pass which job rows apart inv.kept (given_at which s rows)
+
+      few-more : c'.nonlinear ≤ c.nonlinear + 1 → c'.nonlinear ≤ c₀.nonlinear + most
+      few-more d = omega (arith, inv.nonlinear-is, inv.few.0)
+
+    pub loop-again : Passes which rows s t job c c' (go (Continue tt)) → Looping t (k + 1) c'
+    loop-again d = record {
+      kept = keeps d.0;
+      nonlinear-passes = inv.nonlinear-passes + (pass s).nonlinear;
+      linear-passes = inv.linear-passes + (pass s).linear;
+      nonlinear-is = nonlinear-more d.0;
+      linear-is = linear-more d.0;
+      few = (
+        omega (arith, nonlinear-more d.0, inv.nonlinear-is, inv.few.0, d.1),
+        omega (arith, inv.few.1, pass-few which job rows s (given_at which s rows)),
+      );
+      reached = reached-again most NonConvergent _ _ inv.reached h (ends d.0);
+    }
+
+    over-by : (y : Result (Gained which)) → Goes (Outside which) s t c c' (over y) (pass s)
+        → Goes (Outside which) s₀ t c₀ c' y (up_to most NonConvergent (pass_at which job rows s₀) (given_at which s₀ rows))
+    over-by y g = record {
+      kept = keeps g;
+      is = run_is (nonlinear-more g) (linear-more g)
+          ∙ ap (after c₀.nonlinear c₀.linear) (reached-over most NonConvergent _ _ inv.reached h y (ends g));
+    }
+
+    pub loop-over : Passes which rows s t job c c' (go (Break tt)) → Loops which rows s₀ t job most c₀ c' (go tt)
+    loop-over d = (over-by (go (gained_at which t rows)) d.0, few-more d.0 d.1)
+
+    pub loop-fails : {e : CollisionError} → Passes which rows s t job c c' (stop e) → Loops which rows s₀ t job most c₀ c' (stop e)
+    loop-fails {e} d = (over-by (stop e) d.0, few-more d.0 d.1)

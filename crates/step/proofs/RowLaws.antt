@@ -5,7 +5,8 @@ use mathlib.Core.Bool.{Bool, cond}
 use mathlib.Core.List.{List, [], ◌∷◌, ◌++◌}
 use native.Mathlib.Omega.{arith}
 use native.Mathlib.Decide.{ℕ_discrete}
-use lib.ListN.{get_or}
+use lib.ListN.{get_or, take}
+use Rattle.std.proofs.lemmas.List.{get_or-take}
 use lib.Ieee.{Float}
 use Rattle.std.specs.Prelude.{Ok, Err}
 use Rattle.arith.specs.Flow.{go, stop, ◌>>=◌, turns, loop, tab}
@@ -78,6 +79,16 @@ module _ (joints : List Joint) where
 
   pub sides-end : {k count : ℕ} {ia ib : List ℕ} → k ≤ count → count ≤ k → Sides joints k ia ib → Sides joints count ia ib
   sides-end a b s = record { a-is = λ j i h l. s.a-is j i (omega arith) l; b-is = λ j i h l. s.b-is j i (omega arith) l }
+
+  -- in the lists of all rows
+  pub sides-taken : (count n : ℕ) {ia ib : List ℕ} → Sides joints count ia ib → n ≡ rows_before joints count → Sides joints count (take n ia) (take n ib)
+  sides-taken count n {ia} {ib} s e = record {
+    a-is = λ k i h l. get_or-take n ia _ 0 (inside k i h l) ∙ s.a-is k i h l;
+    b-is = λ k i h l. get_or-take n ib _ 0 (inside k i h l) ∙ s.b-is k i h l;
+  }
+    where
+      inside : (k i : ℕ) → k < count → i < rows_of k → rows_before joints k + i < n
+      inside k i h l = omega (arith, before-rise count k i h l)
 
 -- ---- lists one behind the other
 tab-append : {A : Type 0} (n m : ℕ) (f : ℕ → A) → tab (n + m) f ≡ tab n f ++ tab m (λ i. f (n + i))

@@ -4,7 +4,7 @@ use mathlib.Core.Path.{◌≡◌, sym, subst}
 use mathlib.Core.List.{List}
 use native.Mathlib.Omega.{arith}
 use native.Mathlib.Decide.{dec_le}
-use lib.ListN.{length, get_or, take, length-take}
+use lib.ListN.{get_or}
 use lib.Ieee.{Float}
 use Rattle.rows.specs.declared.body.MomentumBody.{MomentumBody}
 use Rattle.rows.specs.declared.geometry.Joint.{Joint}
@@ -14,9 +14,7 @@ use Rattle.rows.specs.Fault.{Result}
 use Rattle.rows.specs.Answer.{Writes}
 use Rattle.rows.specs.Region.{count_most}
 use Rattle.rows.specs.Count.{row_count}
-use Rattle.solves.specs.View.{ROWS, Rows}
-use Rattle.step.specs.Layout.{USED}
-use Rattle.step.specs.Joined.{Joined, RowBodies, Spread}
+use Rattle.step.specs.Joined.{Spread}
 
 -- a joint has at most six rows
 pub kind-most : (kind : Kind) {m : ℕ} → m ≡ row_count kind → m ≤ 6
@@ -34,18 +32,3 @@ spread-less {from} {n} {body} {body-count} {s} {t} p h b j l = case (dec_le from
     case : Dec (from ≤ j) → get_or t j 0 < body-count
     case (yes q) = subst (λ (x : ℕ). x < body-count) (sym (p.here j q l)) b
     case (no q) = subst (λ (x : ℕ). x < body-count) (sym (p.before j (omega arith))) (h j (omega arith))
-
--- the rows of a run
-pub rows_of : {joints : List Joint} {count n body-count : ℕ} {s : List Float} {ia ib : List ℕ} (place : ℕ) → place ≤ ROWS → USED ≤ length s
-    → Joined joints count body-count → RowBodies joints count n ia ib → Rows s ia ib place n body-count
-rows_of {joints} {count} {n} {body-count} place t w j b = record {
-  whole = omega arith;
-  table = t;
-  most = omega (arith, b.most, j.few);
-  bodies = j.small;
-  a-there = b.a-there body-count j;
-  b_there = b.b_there body-count j;
-}
-
-pub take_long : (n : ℕ) (s : List Float) → n ≤ length s → length (take n s) ≡ n
-take_long n s h = simp length-take (omega arith)

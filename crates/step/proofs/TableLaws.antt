@@ -32,7 +32,7 @@ use Rattle.solves.specs.DoesLaws.{number-yes, number-no}
 use Rattle.solves.specs.Layout.{MASS_TABLE}
 use Rattle.solves.specs.View.{ROWS, MASSES, RHS, SOLUTION, GENERALIZED, row_on, rows_on, generalized_at, generalizeds_at, mass_of, mass_at, masses_at, Beside}
 use Rattle.solves.specs.View.{no_row}
-use Rattle.step.proofs.EveryLaws.{every-ext}
+use Rattle.arith.specs.ChainLaws.{every-ext}
 use Rattle.step.specs.Layout.{IMPULSES, START, CANDIDATE, BODIES, STATES}
 use Rattle.solves.specs.ViewLaws.{share_in, masses-more}
 use Rattle.step.specs.Records.{record_at, records_of, count_of_bodies}

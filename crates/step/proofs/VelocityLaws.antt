@@ -1,18 +1,11 @@
 -- The velocity loop: from reads of the scratch and the calls' contracts to the definitions over lists.
-use Prim.Native.Nat.{ℕ, ◌+◌, ◌*◌, ◌^◌, ◌-◌, ◌≤◌, ◌<◌}
-use mathlib.Core.Path.{◌≡◌, refl, sym, ◌∙◌, ap, subst}
-use mathlib.Core.Bool.{Bool, true, false}
-use mathlib.Core.List.{List}
-use native.Mathlib.Omega.{arith}
-use lib.ListN.{length, set}
+use Rattle.std.specs.Prelude.{ℕ, ◌+◌, ◌*◌, ◌^◌, ◌≤◌, ◌<◌, ◌≡◌, refl, Bool, true, false, Option, Some, List, length, set, Float}
+use Rattle.std.proofs.Common.{sym, ◌∙◌, ap, subst, arith}
 use lib.Ieee as Ieee
-use lib.Ieee.{Float}
 use Rattle.arith.specs.Real.{ratio, is_finite, abs_of, ◌⊕◌}
 use Rattle.arith.specs.Flow.{Turn, go, stop, ◌>>=◌, each, every}
 use Rattle.arith.specs.FlowLaws.{then-go, then-stop}
-use Rattle.step.proofs.EveryLaws.{every-ext}
-use Rattle.arith.specs.Run.{ran, leave}
-use Rattle.arith.specs.RunLaws.{over}
+use Rattle.arith.specs.Run.{try, again, leave_if, ◌>>=◌ as ◌>>=ʳ◌}
 use Rattle.vectors.specs.declared.vector.Vec3.{Vec3}
 use Rattle.vectors.specs.Vector.{dot_of, div_of}
 use Rattle.rows.specs.declared.body.MomentumBody.{MomentumBody}
@@ -21,30 +14,30 @@ use Rattle.rows.specs.Fault.{CollisionError, ArithmeticOverflow, Result}
 use Rattle.rows.specs.Body.{omega_of, kick_of}
 use Rattle.rows.specs.View.{at, Out, Kept}
 use Rattle.rows.specs.Region.{tab-length, kept_refl, kept_set}
+use Rattle.solves.specs.declared.joined.Rows.{Rows}
 use Rattle.solves.specs.declared.places.Generalized.{Generalized}
 use Rattle.solves.specs.Solver.{row_in, generalized_in, transpose}
-use Rattle.rows.specs.declared.End.{End}
-use Rattle.solves.specs.declared.Table.{Table}
-use Rattle.solves.specs.System.{Counting}
 use Rattle.solves.specs.Search.{linear_solve}
-use Rattle.solves.specs.Answer.{ran_as, is_done}
 use Rattle.solves.specs.Region.{vec_at, Does}
-use Rattle.solves.specs.View.{RHS, SOLUTION, GENERALIZED, Rows, Shares, Beside, row_on, rows_on, generalized_at, generalizeds_at, shares_in, system_on}
+use Rattle.solves.specs.RegionLaws.{vec-at}
+use Rattle.solves.specs.View.{RHS, GENERALIZED, Shares, Beside, row_on, generalized_at, generalizeds_at, shares_in}
+use Rattle.solves.specs.View.{count_of, table_of, system_at, rhs_at, solution_at}
 use Rattle.solves.specs.ViewLaws.{row-in, share_in, system-kept}
-use Rattle.solves.specs.DoesLaws.{number-yes, number-no, does-stop, does-then, does-eq, does-is, does-more}
-use Rattle.step.specs.Layout.{IMPULSES, CANDIDATE, STATES}
+use Rattle.solves.specs.DoesLaws.{number-yes, number-no, does-stop, does-then, does-is, does-more}
+use Rattle.step.specs.declared.passes.Counts.{Counts}
+use Rattle.step.specs.declared.velocity.Motion.{Motion}
+use Rattle.step.specs.Layout.{CANDIDATE, STATES}
 use Rattle.step.specs.Bodies.{Job, body_in, velocity_of, velocity_rhs, compatible_of, kick_bodies, reaction_of}
 use Rattle.step.specs.TurnLaws.{correction}
 use Rattle.step.specs.Step.{velocity_pass}
-use Rattle.step.specs.RunView.{MotionOf, MotionAt, Remembers, Correcting}
-use Rattle.solves.specs.RegionLaws.{vec-at}
+use Rattle.step.specs.RunView.{candidates_of, MotionOf, MotionAt, Remembers, Correcting, Goes}
 use Rattle.step.specs.View.{start_body_at, candidate_at, candidates_at, moved_to}
 use Rattle.step.specs.ViewLaws.{kept-candidate, kept-candidates}
-use Rattle.step.specs.declared.velocity.Motion.{Motion}
+use Rattle.arith.specs.ChainLaws.{every-ext}
 use Rattle.step.proofs.FrameLaws.{candidate-in}
 use Rattle.step.proofs.EachLaws.{so-none, so-more, so-put, so-stop, so-end}
 use Rattle.step.proofs.MotionLaws.{kick-moved}
-use Rattle.step.proofs.PassLaws.{pass-fails, pass-met, pass-corrects}
+use Rattle.step.proofs.PassLaws.{fails, goes-then, goes-is, leaves, goes-on}
 
 -- velocity: the rate of a row from the motions of its bodies
 module _ (row : EqualityRow) (x y : MomentumBody) {a b : Motion} (ma : MotionOf x a) (mb : MotionOf y b) where
@@ -87,84 +80,82 @@ motion-made {s} {k} e l w =
     }
 
 -- motion_again
-pub motion-known : {s : List Float} {k : ℕ} {m : Motion} → Remembers s m → m.body ≡ k → k < 16 → MotionAt s k m
-motion-known {s} {k} {m} known e h =
-    record { body_is = e; moves = subst (λ (j : ℕ). MotionOf (candidate_at s j) m) e (known.moves (let l : m.body < 16 = omega arith in l)) }
-
-pub no-body-remembered : {s : List Float} {m : Motion} → m.body ≡ 16 → Remembers s m
-no-body-remembered {s} {m} e = record { moves = λ h. absurd (let no : ⊥ = omega arith in no) }
+pub motion-known : {s : List Float} {k : ℕ} {last : Option Motion} {m : Motion} → Remembers s last → last ≡ Some m → m.body ≡ k → MotionAt s k m
+motion-known {s} {k} {last} {m} known there e =
+    record { body_is = e; moves = subst (λ (j : ℕ). MotionOf (candidate_at s j) m) e (subst (Remembers s) there known).1 }
 
 -- it stays so when a rate is put into its place
-pub motion-remembered : {s : List Float} {j : ℕ} {m : Motion} (k : ℕ) (v : Float) → k < 96 → MotionAt s j m → Remembers (set s (RHS + k) v) m
-motion-remembered {s} {j} {m} k v l known = record { moves = λ h. subst (λ (body : MomentumBody). MotionOf body m) (sym (same h ∙ here)) known.moves }
+pub motion-remembered : {s : List Float} {j : ℕ} {m : Motion} (k : ℕ) (v : Float) → k < 96 → j < 16 → MotionAt s j m
+    → Remembers (set s (RHS + k) v) (Some m)
+motion-remembered {s} {j} {m} k v l h known =
+    (here, subst (λ (body : MomentumBody). MotionOf body m) (sym (same ∙ ap (candidate_at s) known.body_is)) known.moves)
   where
-    here : candidate_at s m.body ≡ candidate_at s j
-    here = ap (candidate_at s) known.body_is
+    here : m.body < 16
+    here = omega (arith, known.body_is)
 
-    same : m.body < 16 → candidate_at (set s (RHS + k) v) m.body ≡ candidate_at s m.body
-    same h = kept-candidate (kept_set s (RHS + k) v) m.body (λ i p q. omega arith) (λ i p q. omega arith)
+    same : candidate_at (set s (RHS + k) v) m.body ≡ candidate_at s m.body
+    same = kept-candidate (kept_set s (RHS + k) v) m.body (λ i p q. omega arith) (λ i p q. omega arith)
 
 -- velocity_rhs
-module _ (ia ib : List ℕ) (place n body-count : ℕ) (s₀ : List Float) where
+module _ (rows : Rows) (s₀ : List Float) where
+  abbrev R : List EqualityRow
+  R = (system_at s₀ rows).rows
+
+  abbrev C : List MomentumBody
+  C = candidates_of rows s₀
+
   abbrev oppose : ℕ → Result Float
-  oppose k =
-      velocity_of (row_in (rows_on ia ib s₀ place n) k) (body_in (candidates_at s₀ body-count) (row_in (rows_on ia ib s₀ place n) k).a)
-      (body_in (candidates_at s₀ body-count) (row_in (rows_on ia ib s₀ place n) k).b) >>= λ (value : Float). go (Ieee.neg value)
+  oppose k = velocity_of (row_in R k) (body_in C (row_in R k).a) (body_in C (row_in R k).b) >>= λ (value : Float). go (Ieee.neg value)
 
   abbrev pub Opposed : ℕ → List Float → Type 0
   Opposed k s = Does (Beside RHS) s₀ s (go (vec_at s RHS k)) (each k oppose)
 
-module _ {s₀ : List Float} {ia ib : List ℕ} {place n body-count : ℕ} (pre : Rows s₀ ia ib place n body-count) where
-  abbrev R : List EqualityRow
-  R = rows_on ia ib s₀ place n
-
-  abbrev C : List MomentumBody
-  C = candidates_at s₀ body-count
-
-  pub rhs-none : Opposed ia ib place n body-count s₀ 0 s₀
-  rhs-none = so-none (λ s k. at s (RHS + k)) (oppose ia ib place n body-count s₀) s₀
+  pub rhs-none : Opposed 0 s₀
+  rhs-none = so-none (λ s k. at s (RHS + k)) oppose s₀
 
   -- a loaded row is on bodies of the list
-  module _ {k : ℕ} (h : k < n) (s : List Float) {row : EqualityRow} (er : row ≡ row_on ia ib s place k) where
-    pub row-a : row.a < body-count
-    row-a = subst (λ (q : EqualityRow). q.a < body-count) (sym er) (pre.a-there k h)
+  module _ {k : ℕ} (h : k < count_of rows) (s : List Float) {row : EqualityRow} (er : row ≡ row_on rows.a.now rows.b.now s rows.place k) where
+    pub row-a : row.a < rows.bodies
+    row-a = subst (λ (q : EqualityRow). q.a < rows.bodies) (sym er) (rows.a_there k h)
 
-    pub row-b : row.b < body-count
-    row-b = subst (λ (q : EqualityRow). q.b < body-count) (sym er) (pre.b_there k h)
+    pub row-b : row.b < rows.bodies
+    row-b = subst (λ (q : EqualityRow). q.b < rows.bodies) (sym er) (rows.b_there k h)
 
-  module _ {k : ℕ} {s : List Float} {row : EqualityRow} (so : Opposed ia ib place n body-count s₀ k s) (h : k < n) (er : row ≡ row_on ia ib s place k) where
+  module _ {k : ℕ} {s : List Float} {row : EqualityRow} (so : Opposed k s) (h : k < count_of rows)
+      (er : row ≡ row_on rows.a.now rows.b.now s rows.place k) where
     rhs-turn : velocity_of row (candidate_at s row.a) (candidate_at s row.b) ≡ velocity_of (row_in R k) (body_in C (row_in R k).a) (body_in C (row_in R k).b)
     rhs-turn =
-        let x : row ≡ row_in R k = row-in so.kept ia ib place n k (λ i p q. omega (arith, pre.most, pre.table)) h er in
-        let la : row.a < body-count = row-a h s er in
-        let lb : row.b < body-count = row-b h s er in
-        let most : body-count ≤ 16 = pre.bodies in
-        let y : candidate_at s row.a ≡ body_in C row.a = candidate-in so.kept body-count row.a
+        let x : row ≡ row_in R k =
+        row-in so.kept rows.a.now rows.b.now rows.place (count_of rows) k (λ i p q. omega (arith, rows.few_rows, rows.in_table)) h er in
+        let la : row.a < rows.bodies = row-a h s er in
+        let lb : row.b < rows.bodies = row-b h s er in
+        let most : rows.bodies ≤ 16 = rows.few_bodies in
+        let y : candidate_at s row.a ≡ body_in C row.a = candidate-in so.kept rows.bodies row.a
         (λ i p q. omega arith) (λ i p q. omega arith) la refl in
-        let z : candidate_at s row.b ≡ body_in C row.b = candidate-in so.kept body-count row.b
+        let z : candidate_at s row.b ≡ body_in C row.b = candidate-in so.kept rows.bodies row.b
         (λ i p q. omega arith) (λ i p q. omega arith) lb refl in
         cc
 
-    pub rhs-again : {v : Float} → go v ≡ velocity_of row (candidate_at s row.a) (candidate_at s row.b)
-        → Opposed ia ib place n body-count s₀ (k + 1) (set s (RHS + k) (Ieee.neg v))
-    rhs-again {v} e =
-        so-put RHS (oppose ia ib place n body-count s₀) s₀ k s so (Beside RHS) (λ i x. x) (Ieee.neg v) (λ i x. omega (arith, pre.most))
-        (omega (arith, pre.most, pre.whole, so.kept.size)) (then-go _ (e ∙ rhs-turn))
+    pub rhs-again : RHS + k < length s → {v : Float} → go v ≡ velocity_of row (candidate_at s row.a) (candidate_at s row.b)
+        → Opposed (k + 1) (set s (RHS + k) (Ieee.neg v))
+    rhs-again inside {v} e =
+        so-put RHS oppose s₀ k s so (Beside RHS) (λ i x. x) (Ieee.neg v) (λ i x. omega (arith, rows.few_rows)) inside
+        (then-go _ (e ∙ rhs-turn))
 
     pub rhs-stops : {f : CollisionError} → stop f ≡ velocity_of row (candidate_at s row.a) (candidate_at s row.b)
         → Does (Beside RHS) s₀ s (stop f) (velocity_rhs R C)
     unfolding velocity_rhs
     rhs-stops e =
-        so-stop (λ s k. at s (RHS + k)) (oppose ia ib place n body-count s₀) s₀ k s so (Beside RHS) (λ i x. x) (sym (tab-length n (row_on ia ib s₀ place)))
-        h
+        so-stop (λ s k. at s (RHS + k)) oppose s₀ k s so (Beside RHS) (λ i x. x)
+        (sym (tab-length (count_of rows) (row_on rows.a.now rows.b.now s₀ rows.place))) h
         (kept_refl (Beside RHS) s) (λ i x. x) (then-stop _ (e ∙ rhs-turn))
 
-  pub rhs-ends : {k : ℕ} {s : List Float} → Opposed ia ib place n body-count s₀ k s → k ≤ n → n ≤ k
-      → Does (Beside RHS) s₀ s (go (vec_at s RHS n)) (velocity_rhs R C)
+  pub rhs-ends : {k : ℕ} {s : List Float} → Opposed k s → k ≤ count_of rows → count_of rows ≤ k
+      → Does (Beside RHS) s₀ s (go (rhs_at s rows)) (velocity_rhs R C)
   unfolding velocity_rhs
   rhs-ends {k} {s} so a b =
-      so-end (λ s k. at s (RHS + k)) (oppose ia ib place n body-count s₀) s₀ k s so (Beside RHS) (λ i x. x) n (sym (tab-length n (row_on ia ib s₀ place)))
-      a b
+      so-end (λ s k. at s (RHS + k)) oppose s₀ k s so (Beside RHS) (λ i x. x) (count_of rows)
+      (sym (tab-length (count_of rows) (row_on rows.a.now rows.b.now s₀ rows.place))) a b
 
 -- compatible
 module _ (s : List Float) (n : ℕ) where
@@ -228,73 +219,62 @@ module _ (s₀ : List Float) (body-count : ℕ) where
       so-end candidate_at kick s₀ k s so (Out CANDIDATE STATES) (λ i x. omega arith) body-count (sym (tab-length body-count (candidate_at s₀))) a b
 
 -- apply
-module _ {s : List Float} {ia ib : List ℕ} (table : Table) (pre : Rows s ia ib table.place table.rows table.bodies)
-    {t : List Float} {x : Result (List Generalized)}
-    (d : Does Shares s t x (transpose (rows_on ia ib s table.place table.rows) (vec_at s SOLUTION table.rows) table.bodies)) where
+module _ (rows : Rows) (s t : List Float) where
   abbrev reaction : Result (List MomentumBody)
-  reaction = reaction_of (rows_on ia ib s table.place table.rows) (candidates_at s table.bodies) (vec_at s SOLUTION table.rows)
+  reaction = reaction_of (system_at s rows).rows (candidates_of rows s) (solution_at s rows)
+
+  abbrev Pushes : Result (List Generalized) → Type 0
+  Pushes x = Does Shares s t x (transpose (system_at s rows).rows (solution_at s rows) rows.bodies)
 
   -- `length candidate` is the number of bodies
-  pushed : Does Shares s t x
-      (transpose (rows_on ia ib s table.place table.rows) (vec_at s SOLUTION table.rows) (length (candidates_at s table.bodies)))
-  pushed = record {
-    kept = d.kept;
-    is =
-        d.is ∙ ap (transpose (rows_on ia ib s table.place table.rows) (vec_at s SOLUTION table.rows))
-        (sym (tab-length table.bodies (candidate_at s)));
-  }
+  pushed : {x : Result (List Generalized)} → Pushes x
+      → Does Shares s t x (transpose (system_at s rows).rows (solution_at s rows) (length (candidates_of rows s)))
+  pushed d = does-is d (ap (transpose (system_at s rows).rows (solution_at s rows)) (sym (tab-length rows.bodies (candidate_at s))))
 
-  pub apply-stops : {f : CollisionError} → x ≡ stop f → {z : Result (List MomentumBody)} → z ≡ stop f → Does Correcting s t z reaction
+  pub apply-stops : {f : CollisionError} → Pushes (stop f) → Does Correcting s t (stop f) reaction
   unfolding reaction_of
-  apply-stops q w = does-eq w (does-stop _ (λ i x. omega (arith, x.0)) (does-eq (sym q) pushed))
+  apply-stops d = does-stop _ (λ i x. omega (arith, x.0)) (pushed d)
 
-  pub apply-then : x ≡ go (shares_in t table.bodies) → {u : List Float} {y : Result (List MomentumBody)}
-      → Does (Out CANDIDATE STATES) t u y (kick_bodies (candidates_at t table.bodies) (shares_in t table.bodies)) → Does Correcting s u y
-      reaction
+  pub apply-then : Pushes (go (shares_in t rows.bodies)) → {u : List Float} {y : Result (List MomentumBody)}
+      → Does (Out CANDIDATE STATES) t u y (kick_bodies (candidates_of rows t) (shares_in t rows.bodies)) → Does Correcting s u y reaction
   unfolding reaction_of
-  apply-then q {u} {y} e =
-      does-then _ (λ i x. omega (arith, x.0)) (λ i x. x.1) (does-eq (sym q) pushed)
-      (record {
-        kept = e.kept;
-        is = e.is ∙ ap (λ (l : List MomentumBody). kick_bodies l (shares_in t table.bodies))
-            (kept-candidates d.kept table.bodies (λ i p q. omega (arith, pre.bodies)) (λ i p q. omega (arith, pre.bodies)));
-      })
+  apply-then d {u} {y} e =
+      does-then _ (λ i x. omega (arith, x.0)) (λ i x. x.1) (pushed d)
+      (does-is e (ap (λ (l : List MomentumBody). kick_bodies l (shares_in t rows.bodies))
+      (kept-candidates d.kept rows.bodies (λ i p q. omega (arith, rows.few_bodies)) (λ i p q. omega (arith, rows.few_bodies)))))
 
--- velocity_pass: what the velocity loop reads beside the candidates stays
-module _ {P : ℕ → Type 0} {s t : List Float} (kept : Kept P s t) {ia ib : List ℕ} (table : Table)
-    (pre : Rows s ia ib table.place table.rows table.bodies) where
-  pub same-system : ((i : ℕ) → Correcting i → P i) → system_on ia ib t table ≡ system_on ia ib s table
-  same-system w = system-kept ia ib table (λ i a b. w i (omega arith)) pre.table pre.most pre.bodies kept
+-- ---- a pass
+module _ (job : Job) (rows : Rows) (s t : List Float) (c : Counts) where
+  abbrev Turns : List Float → Counts → Result (Turn (List MomentumBody) (List MomentumBody)) → Type 0
+  Turns u now y = Goes Correcting s u c now y (velocity_pass job (system_at s rows) (candidates_of rows s))
 
-  pub same-candidates : ((i : ℕ) → (Out RHS (IMPULSES - RHS) i) → P i) → candidates_at t table.bodies ≡ candidates_at s table.bodies
-  same-candidates w = kept-candidates kept table.bodies (λ i a b. w i (omega (arith, pre.bodies))) (λ i a b. w i (omega (arith, pre.bodies)))
+  abbrev Rates : Result (List Float) → Type 0
+  Rates x = Does (Beside RHS) s t x (velocity_rhs (system_at s rows).rows (candidates_of rows s))
 
-module _ (job : Job) {s : List Float} {ia ib : List ℕ} (table : Table) (pre : Rows s ia ib table.place table.rows table.bodies)
-    {t : List Float} (r : End) (d : Does (Beside RHS) s t (ran_as r (vec_at t RHS table.rows))
-    (velocity_rhs (rows_on ia ib s table.place table.rows) (candidates_at s table.bodies))) {b : Bool} (eb : b ≡ is_done r) where
-  abbrev turn : Counting (Turn (List MomentumBody) (List MomentumBody))
-  turn = velocity_pass job (system_on ia ib s table) (candidates_at s table.bodies)
+  within : {x : Result (List Float)} → Rates x → Does Correcting s t x (velocity_rhs (system_at s rows).rows (candidates_of rows s))
+  within d = does-more (λ i x. omega (arith, x.0)) d
 
-  within : Does Correcting s t (ran_as r (vec_at t RHS table.rows))
-      (velocity_rhs (rows_on ia ib s table.place table.rows) (candidates_at s table.bodies))
-  within = does-more (λ i x. omega (arith, x.0)) d
-
-  -- the rates fail
-  pub rates-fail : b ≡ false → Does Correcting s t (ran (over (ran_as r (candidates_at t table.bodies))) 0 0) turn
+  pub not-rated : {e : CollisionError} → Rates (stop e) → Turns t c (stop e)
   unfolding velocity_pass
-  rates-fail h = pass-fails compatible_of (λ _. candidates_at s table.bodies) _ _ r within eb _ h
+  not-rated d = fails _ (within d)
 
-  module _ (h : b ≡ true) {c : Bool} (ec : c ≡ compatible_of (vec_at t RHS table.rows)) where
-    pub at_rest : c ≡ true → Does Correcting s t (ran (go (stop (candidates_at t table.bodies))) 0 0) turn
-    unfolding velocity_pass
-    at_rest g = does-eq (ap (λ (l : List MomentumBody). leave l) (same-candidates d.kept table pre (λ i x. omega (arith, x))))
-        (pass-met compatible_of (λ _. candidates_at s table.bodies) _ _ r within eb h ec g)
+  module _ (d : Rates (go (rhs_at t rows))) {b : Bool} (eb : b ≡ compatible_of (rhs_at t rows)) where
+    same-system : system_at t rows ≡ system_at s rows
+    same-system = system-kept rows.a.now rows.b.now (table_of rows) (λ i a b. omega arith) rows.in_table rows.few_rows rows.few_bodies d.kept
 
-    pub kicked-on : c ≡ false → {u : List Float} {y : Counting (Turn (List MomentumBody) (List MomentumBody))}
-        → Does Correcting t u y (correction (linear_solve job.cyclic (system_on ia ib t table) (vec_at t RHS table.rows))
-        (reaction_of (system_on ia ib t table).rows (candidates_at t table.bodies))) → Does Correcting s u y turn
+    same-candidates : candidates_of rows t ≡ candidates_of rows s
+    same-candidates = kept-candidates d.kept rows.bodies (λ i a b. omega (arith, rows.few_bodies)) (λ i a b. omega (arith, rows.few_bodies))
+
+    pub at-rest : b ≡ true → Turns t c (go (stop (candidates_of rows t)))
     unfolding velocity_pass
-    kicked-on g e = pass-corrects compatible_of (λ _. candidates_at s table.bodies) _ _ r within eb h ec g
-        (does-is e (λ j. correction (linear_solve job.cyclic (same-system d.kept table pre (λ i x. omega (arith, x.0)) j) (vec_at t RHS table.rows))
-        (reaction_of (same-system d.kept table pre (λ i x. omega (arith, x.0)) j).rows
-        (same-candidates d.kept table pre (λ i x. omega (arith, x)) j))))
+    at-rest h = goes-then _ (within d) (subst (λ (l : List MomentumBody). Goes Correcting t t c c (go (stop l))
+        (leave_if (compatible_of (rhs_at t rows)) (candidates_of rows s)
+        (linear_solve job.cyclic (system_at s rows) (rhs_at t rows) >>=ʳ λ solution. try (reaction_of (system_at s rows).rows (candidates_of rows s) solution)
+        >>=ʳ again))) (sym same-candidates) (leaves _ _ (sym eb ∙ h) (kept_refl Correcting t)))
+
+    pub kicked-on : b ≡ false → {u : List Float} {now : Counts} {y : Result (Turn (List MomentumBody) (List MomentumBody))}
+        → Goes Correcting t u c now y (correction (linear_solve job.cyclic (system_at t rows) (rhs_at t rows))
+        (reaction_of (system_at t rows).rows (candidates_of rows t))) → Turns u now y
+    unfolding velocity_pass
+    kicked-on h g = goes-then _ (within d) (goes-on _ _ (sym eb ∙ h) (goes-is g (λ j. correction (linear_solve job.cyclic (same-system j) (rhs_at t rows))
+        (reaction_of (same-system j).rows (same-candidates j)))))

@@ -4,14 +4,14 @@ ghost use Rattle.arith.specs.Real.{ratio};
 ghost use Rattle.arith.specs.Flow.{every};
 ghost use Rattle.rows.specs.View.{vec3_at, Out, Kept};
 ghost use Rattle.solves.specs.System.{BODIES_MOST};
-ghost use Rattle.step.specs.Layout.{START, CANDIDATE, USED};
+ghost use Rattle.step.specs.Layout.{START, CANDIDATE};
 ghost use Rattle.step.specs.Records.{RECORD, MOVING, quat_at, mat_at, record_at};
 ghost use Rattle.step.specs.Checks.{within_of};
 ghost use Rattle.step.specs.View.{cols_of, fixed_at, fixed_of, moving_at, moving_of, body_from, start_body_at, candidate_at};
 ghost use Rattle.step.specs.View.{held_of, moved_to, Handed, state_at};
 
 use crate::checks::within;
-use crate::layout::{CANDIDATE, MOVING, RECORD, START};
+use crate::layout::{CANDIDATE, MOVING, RECORD, START, Scratch};
 use rows::body::{BodyState, MomentumBody, RigidBody};
 use rows::geometry::{load3, store3};
 use vectors::matrix::Mat3;
@@ -120,8 +120,8 @@ fn store_fixed(s: &mut [f64], i: usize, body: MomentumBody)
     s[i] = body.mass;
 }
 
-pub(crate) fn store_start(s: &mut [f64], k: usize, body: MomentumBody)
-    requires { (USED ≤ length s.old) × (k < BODIES_MOST) }
+pub(crate) fn store_start(s: &mut Scratch, k: usize, body: MomentumBody)
+    requires { k < BODIES_MOST }
     ensures { (Kept (λ j. Out (START + RECORD * k) RECORD j) s.old s.new) × (start_body_at s.new k ≡ held_of body) }
 {
     let i = START + RECORD * k;
@@ -129,8 +129,8 @@ pub(crate) fn store_start(s: &mut [f64], k: usize, body: MomentumBody)
     store_fixed(s, i + MOVING, body);
 }
 
-pub(crate) fn store_candidate(s: &mut [f64], k: usize, body: MomentumBody)
-    requires { (USED ≤ length s.old) × (k < BODIES_MOST) }
+pub(crate) fn store_candidate(s: &mut Scratch, k: usize, body: MomentumBody)
+    requires { k < BODIES_MOST }
     ensures { (Kept (λ j. Out (CANDIDATE + MOVING * k) MOVING j) s.old s.new)
         × (candidate_at s.new k ≡ moved_to body (start_body_at s.old k)) }
 {
@@ -138,8 +138,8 @@ pub(crate) fn store_candidate(s: &mut [f64], k: usize, body: MomentumBody)
 }
 
 // The body whose moving numbers stand at i; mass and inertia are those of the start.
-fn load_body(s: &[f64], i: usize, k: usize) -> MomentumBody
-    requires { (i + MOVING ≤ length s.now) × (USED ≤ length s.now) × (k < BODIES_MOST) }
+fn load_body(s: &Scratch, i: usize, k: usize) -> MomentumBody
+    requires { (i + MOVING ≤ length s.now) × (k < BODIES_MOST) }
     ensures { result ≡ body_from s.now i (START + RECORD * k) }
 {
     let j = START + RECORD * k;
@@ -154,31 +154,31 @@ fn load_body(s: &[f64], i: usize, k: usize) -> MomentumBody
     }
 }
 
-pub(crate) fn load_start(s: &[f64], k: usize) -> MomentumBody
-    requires { (USED ≤ length s.now) × (k < BODIES_MOST) }
+pub(crate) fn load_start(s: &Scratch, k: usize) -> MomentumBody
+    requires { k < BODIES_MOST }
     ensures { result ≡ start_body_at s.now k }
 {
     load_body(s, START + RECORD * k, k)
 }
 
-pub(crate) fn load_candidate(s: &[f64], k: usize) -> MomentumBody
-    requires { (USED ≤ length s.now) × (k < BODIES_MOST) }
+pub(crate) fn load_candidate(s: &Scratch, k: usize) -> MomentumBody
+    requires { k < BODIES_MOST }
     ensures { result ≡ candidate_at s.now k }
 {
     load_body(s, CANDIDATE + MOVING * k, k)
 }
 
 // Whether every resulting origin is on the plan's ground. The states stand where the candidates were.
-pub(crate) fn in_ground(s: &[f64], body_count: usize) -> bool
-    requires { (USED ≤ length s.now) × (body_count ≤ BODIES_MOST) }
+pub(crate) fn in_ground(s: &Scratch, body_count: usize) -> bool
+    requires { body_count ≤ BODIES_MOST }
     ensures { result ≡ every body_count (λ k. within_of (vec3_at s.now (CANDIDATE + MOVING * k)) (ratio 8192 1)) }
 {
     (0..body_count).all(|k| within(load3(s, CANDIDATE + MOVING * k), 8192.0))
 }
 
 // Hands the states back: the first 13 numbers of each record.
-pub(crate) fn write_states(bodies: &mut [f64], s: &[f64], body_count: usize)
-    requires { (RECORD * body_count ≤ length bodies.old) × (USED ≤ length s.now) × (body_count ≤ BODIES_MOST) }
+pub(crate) fn write_states(bodies: &mut [f64], s: &Scratch, body_count: usize)
+    requires { (RECORD * body_count ≤ length bodies.old) × (body_count ≤ BODIES_MOST) }
     ensures { Handed body_count s.now bodies.old bodies.new }
 {
     for k in 0..body_count {

@@ -1,40 +1,40 @@
-// The nonlinear passes of `solve` in solver.rs, and the run as a whole.
-ghost use Rattle.std.specs.Prelude.{◌≡◌, ℕ, ◌+◌, ◌*◌, ◌≤◌, ◌<◌, length, cond, List};
-ghost use Rattle.arith.specs.Flow.{tab};
+// The nonlinear loop of `solve` in solver.rs, and the run as a whole.
+ghost use Rattle.std.specs.Prelude.{◌≡◌, ℕ, ◌+◌, ◌*◌, ◌≤◌, ◌<◌, length, take, cond, leb, Bool, List, Float};
+ghost use Rattle.arith.specs.Flow.{tab, leaving};
+ghost use Rattle.rows.specs.declared.geometry.Joint.{Joint};
 ghost use Rattle.rows.specs.View.{Out};
 ghost use Rattle.solves.specs.Region.{vec_at, Does};
 ghost use Rattle.solves.specs.View.{ROWS, MASSES, RHS, SOLUTION, GENERALIZED, rows_on, mass_at, masses_at, Beside, shares_in};
 ghost use Rattle.solves.specs.Layout.{ROWS_MOST, BODIES_MOST, MASS_TABLE};
-ghost use Rattle.step.specs.declared.passes.Stage.TheVariants.{Nonlinear};
 ghost use Rattle.step.specs.Layout.{RECORD, IMPULSES, START, CANDIDATE, USED, BODIES, STATES};
 ghost use Rattle.step.specs.Records.{count_of_bodies, record_at, records_of};
 ghost use Rattle.step.specs.Bodies.{start_bodies, mass_response, prepare_masses, kick_and_drift, move_bodies, rows_met, rhs_of};
-ghost use Rattle.step.specs.Bodies.{add_impulses, candidate_of, states_of};
-ghost use Rattle.step.specs.Step.{finish_of, run_for};
+ghost use Rattle.step.specs.Bodies.{start_of, add_impulses, candidate_of, states_of};
+ghost use Rattle.step.specs.Step.{finish_of, run_of, run_for};
 ghost use Rattle.step.specs.View.{start_body_at, candidate_at, start_bodies_at, candidates_at, states_at};
-ghost use Rattle.step.specs.RunView.{bodies_at, impulses_at, candidate_table, job_for, rows_before, Sides, Ours};
-ghost use Rattle.step.specs.RunView.{Joins, left_as};
-ghost use Rattle.step.specs.Says.{Leaves, WritesRows, Finds, Passes, Finishes, Starts};
+ghost use Rattle.step.specs.RunView.{Nonlinear, bodies_at, impulses_at, started_at, job_for, rows_before, Sides, Joins, Goes, LIMIT};
+ghost use Rattle.step.specs.Says.{Leaves, WritesRows, Finds, Finishes};
 ghost use Rattle.step.specs.Joined.{Joined, RowBodies, Spread};
 
 use crate::bodies::{
     load_candidate, load_record, load_start, load_state, store_candidate, store_start, store_state,
 };
-use crate::layout::{CANDIDATE, IMPULSES, MOVING, RECORD};
-use crate::passes::{Passed, Ran, Stage, Task, correct, pass_ended, run_ended, stage_loop};
+use crate::layout::{CANDIDATE, IMPULSES, MOVING, RECORD, Scratch};
+use crate::passes::{Apply, Counts, Stage, correct, stage_loop};
+use crate::velocity::VelocityStage;
 use arith::fault::CollisionError;
 use arith::number::{abs, is_finite};
 use rows::body::MomentumBody;
 use rows::geometry::{Joint, ROW, TOLERANCE, VALUE, clear, row_count, write_equality_rows};
-use solves::layout::{GENERALIZED, MASSES, RHS, ROWS, SOLUTION, START_ROWS};
-use solves::operator::transpose;
+use solves::joined::Rows;
+use solves::layout::{GENERALIZED, MASSES, RHS, ROWS, ROWS_MOST, SOLUTION, START_ROWS};
 use solves::places::{MassResponse, load_generalized, store_mass};
-use solves::{End, Ended, Pass, PerRow, Table, done, end_of};
+use std::ops::ControlFlow;
 use vectors::matrix::{Mat3, inverse_spd};
 use vectors::vector::Vec3;
 
-fn start_bodies(s: &mut [f64], bodies: &[f64], body_count: usize) -> Result<(), CollisionError>
-    requires { (USED ≤ length s.old) × (RECORD * body_count ≤ length bodies.now) × (body_count ≤ BODIES_MOST) }
+fn start_bodies(s: &mut Scratch, bodies: &[f64], body_count: usize) -> Result<(), CollisionError>
+    requires { (RECORD * body_count ≤ length bodies.now) × (body_count ≤ BODIES_MOST) }
     ensures { Leaves (Out START BODIES) s.old s.new result (λ u. start_bodies_at u body_count) (start_bodies (tab body_count (record_at bodies.now))) }
 {
     for k in 0..body_count {
@@ -56,7 +56,7 @@ fn fill(index: &mut [usize], from: usize, n: usize, body: usize)
 // The bodies of every row, and how many rows there are.
 fn row_bodies(ia: &mut [usize], ib: &mut [usize], joints: &[Joint]) -> usize
     requires { (length joints.now ≤ 16) × (length ia.old ≡ ROWS_MOST) × (length ib.old ≡ ROWS_MOST) }
-    ensures { (RowBodies joints.now (length joints.now) result ia.new ib.new) × (Sides joints.now (length joints.now) ia.new ib.new)
+    ensures { (RowBodies joints.now (length joints.now) result ia.new ib.new) × (Sides joints.now (length joints.now) (take result ia.new) (take result ib.new))
         × (result ≡ rows_before joints.now (length joints.now)) }
 {
     let mut n = 0;
@@ -69,8 +69,8 @@ fn row_bodies(ia: &mut [usize], ib: &mut [usize], joints: &[Joint]) -> usize
     n
 }
 
-fn load_moved(s: &[f64], k: usize, moved: bool) -> MomentumBody
-    requires { (USED ≤ length s.now) × (k < BODIES_MOST) }
+fn load_moved(s: &Scratch, k: usize, moved: bool) -> MomentumBody
+    requires { k < BODIES_MOST }
     ensures { result ≡ cond moved (candidate_at s.now k) (start_body_at s.now k) }
 {
     if moved {
@@ -81,12 +81,12 @@ fn load_moved(s: &[f64], k: usize, moved: bool) -> MomentumBody
 
 // The rows of all joints, of the bodies at the start or of the candidates.
 fn write_rows(
-    s: &mut [f64],
+    s: &mut Scratch,
     joints: &[Joint],
     place: usize,
     moved: bool,
 ) -> Result<(), CollisionError>
-    requires { (USED ≤ length s.old) × (place ≤ ROWS) × (Joined joints.now (length joints.now) BODIES_MOST) }
+    requires { (place ≤ ROWS) × (Joined joints.now (length joints.now) BODIES_MOST) }
     ensures { WritesRows s.old s.new joints.now (length joints.now) place moved result }
 {
     let mut n = 0;
@@ -117,8 +117,8 @@ fn mass_response(body: MomentumBody) -> Result<MassResponse, CollisionError>
     Ok(MassResponse { linear, angular })
 }
 
-fn prepare_mass(s: &mut [f64], k: usize, body: MomentumBody) -> Result<(), CollisionError>
-    requires { (USED ≤ length s.old) × (k < BODIES_MOST) }
+fn prepare_mass(s: &mut Scratch, k: usize, body: MomentumBody) -> Result<(), CollisionError>
+    requires { k < BODIES_MOST }
     ensures { Leaves (Out (MASSES + 10 * k) 10) s.old s.new result (λ u. mass_at u MASSES k) (mass_response body) }
 {
     let mass = mass_response(body)?;
@@ -130,8 +130,8 @@ fn prepare_mass(s: &mut [f64], k: usize, body: MomentumBody) -> Result<(), Colli
     Ok(())
 }
 
-fn prepare_masses(s: &mut [f64], body_count: usize, moved: bool) -> Result<(), CollisionError>
-    requires { (USED ≤ length s.old) × (body_count ≤ BODIES_MOST) }
+fn prepare_masses(s: &mut Scratch, body_count: usize, moved: bool) -> Result<(), CollisionError>
+    requires { body_count ≤ BODIES_MOST }
     ensures { Leaves (Out MASSES MASS_TABLE) s.old s.new result (λ u. masses_at u MASSES body_count) (prepare_masses (bodies_at moved s.old body_count)) }
 {
     for k in 0..body_count {
@@ -142,7 +142,6 @@ fn prepare_masses(s: &mut [f64], body_count: usize, moved: bool) -> Result<(), C
 }
 
 // A body kicked by its share, and drifted.
-#[tactic(auto, unfolding(arith::specs::Flow::and_then))]
 fn kick_and_drift(
     body: MomentumBody,
     linear: Vec3,
@@ -156,8 +155,8 @@ fn kick_and_drift(
 }
 
 // The candidates: each pass restarts from the starting bodies with the summed impulses.
-fn move_bodies(s: &mut [f64], body_count: usize, dt: f64) -> Result<(), CollisionError>
-    requires { (USED ≤ length s.old) × (body_count ≤ BODIES_MOST) }
+fn move_bodies(s: &mut Scratch, body_count: usize, dt: f64) -> Result<(), CollisionError>
+    requires { body_count ≤ BODIES_MOST }
     ensures { Leaves (Out CANDIDATE STATES) s.old s.new result (λ u. candidates_at u body_count)
         (move_bodies dt (start_bodies_at s.old body_count) (shares_in s.old body_count)) }
 {
@@ -169,15 +168,15 @@ fn move_bodies(s: &mut [f64], body_count: usize, dt: f64) -> Result<(), Collisio
     Ok(())
 }
 
-fn rows_met(s: &[f64], n: usize) -> bool
-    requires { (USED ≤ length s.now) × (n ≤ ROWS_MOST) }
+fn rows_met(s: &Scratch, n: usize) -> bool
+    requires { n ≤ ROWS_MOST }
     ensures { (ia ib : List ℕ) → result ≡ rows_met (rows_on ia ib s.now ROWS n) }
 {
     (0..n).all(|k| abs(s[ROWS + ROW * k + VALUE]) <= s[ROWS + ROW * k + TOLERANCE])
 }
 
-fn fill_rhs(s: &mut [f64], dt: f64, n: usize)
-    requires { (USED ≤ length s.old) × (n ≤ ROWS_MOST) }
+fn fill_rhs(s: &mut Scratch, dt: f64, n: usize)
+    requires { n ≤ ROWS_MOST }
     ensures { (ia ib : List ℕ) → Does (Beside RHS) s.old s.new (vec_at s.new RHS n) (rhs_of dt (rows_on ia ib s.old ROWS n)) }
 {
     for k in 0..n {
@@ -185,8 +184,8 @@ fn fill_rhs(s: &mut [f64], dt: f64, n: usize)
     }
 }
 
-pub(crate) fn add_impulses(s: &mut [f64], n: usize) -> Result<(), CollisionError>
-    requires { (USED ≤ length s.old) × (n ≤ ROWS_MOST) }
+fn add_impulses(s: &mut Scratch, n: usize) -> Result<(), CollisionError>
+    requires { n ≤ ROWS_MOST }
     ensures { Leaves (Beside IMPULSES) s.old s.new result (λ u. vec_at u IMPULSES n) (add_impulses (vec_at s.old IMPULSES n) (vec_at s.old SOLUTION n)) }
 {
     for k in 0..n {
@@ -199,49 +198,63 @@ pub(crate) fn add_impulses(s: &mut [f64], n: usize) -> Result<(), CollisionError
     Ok(())
 }
 
-// The first half: the candidates and their rows.
-fn candidate(
-    s: &mut [f64],
-    ia: &PerRow,
-    ib: &PerRow,
-    t: Table,
-    joints: &[Joint],
-    task: Task,
-) -> Result<(), CollisionError>
-    requires { (Ours s.old ia.now ib.now t) × (Joins joints.now (length joints.now) ia.now ib.now t) }
-    ensures { Finds s.old s.new ia.now ib.now t result (candidate_of (job_for joints.now task)) × (impulses_at s.new t ≡ impulses_at s.old t) }
-{
-    transpose(s, ia, ib, t, IMPULSES)?;
-    move_bodies(s, t.bodies, task.dt)?;
-    write_rows(s, joints, ROWS, true)
+// The nonlinear loop: from the summed impulses to candidates whose rows are met.
+#[derive(Clone, Copy)]
+pub(crate) struct NonlinearStage<'a> {
+    pub joints: &'a [Joint],
+    pub dt: f64,
+    pub cyclic: bool,
 }
 
-// The candidates, and where their rows are not met the impulses for the next pass.
-pub(crate) fn nonlinear_pass(
-    s: &mut [f64],
-    ia: &PerRow,
-    ib: &PerRow,
-    t: Table,
-    joints: &[Joint],
-    task: Task,
-) -> Passed
-    requires { (Ours s.old ia.now ib.now t) × (Joins joints.now (length joints.now) ia.now ib.now t) }
-    ensures { Passes Nonlinear ia.now ib.now t s.old s.new (job_for joints.now task) result }
-{
-    let found = end_of(candidate(s, ia, ib, t, joints, task));
-    if !done(found) {
-        return pass_ended(Pass::Over(found), 0);
+impl NonlinearStage<'_> {
+    // The first half of a pass: the candidates and their rows.
+    fn candidate(&self, s: &mut Scratch, rows: &Rows) -> Result<(), CollisionError>
+        requires { Joins self.now.joints.now rows.now }
+        ensures { Finds s.old s.new rows.now result (candidate_of (job_for self.now.joints.now self.now.dt self.now.cyclic))
+            × (impulses_at s.new rows.now ≡ impulses_at s.old rows.now) }
+    {
+        rows.transpose(s, IMPULSES)?;
+        move_bodies(s, rows.bodies, self.dt)?;
+        write_rows(s, self.joints, ROWS, true)
     }
-    if rows_met(s, t.rows) {
-        return pass_ended(Pass::Over(End::Done), 0);
+}
+
+impl Apply for NonlinearStage<'_> {
+    ghost which = { Nonlinear };
+
+    fn apply(&self, s: &mut Scratch, rows: &Rows) -> Result<(), CollisionError> {
+        add_impulses(s, rows.count())
     }
-    fill_rhs(s, task.dt, t.rows);
-    correct(s, ia, ib, t, task.cyclic, Stage::Nonlinear)
+}
+
+impl Stage for NonlinearStage<'_> {
+    ghost job = { λ it. job_for it.joints.now it.dt it.cyclic };
+
+    ghost needs = { λ it rows. Joins it.joints.now rows };
+
+    // The candidates, and where their rows are not met the impulses for the next pass.
+    fn pass(
+        &self,
+        s: &mut Scratch,
+        rows: &Rows,
+        counts: &mut Counts,
+    ) -> Result<ControlFlow<()>, CollisionError> {
+        counts.nonlinear += 1;
+        self.candidate(s, rows)?;
+        let n = rows.count();
+        if rows_met(s, n) {
+            return Ok(ControlFlow::Break(()));
+        }
+        fill_rhs(s, self.dt, n);
+        correct(self, s, rows, self.cyclic, counts)
+    }
+
+    ghost apart = { λ it rows needs. needs.apart };
 }
 
 // The states of the candidates, in their places.
-fn make_states(s: &mut [f64], bodies: &[f64], body_count: usize) -> Result<(), CollisionError>
-    requires { (USED ≤ length s.old) × (body_count ≤ count_of_bodies bodies.now) × (body_count ≤ BODIES_MOST) }
+fn make_states(s: &mut Scratch, bodies: &[f64], body_count: usize) -> Result<(), CollisionError>
+    requires { (body_count ≤ count_of_bodies bodies.now) × (body_count ≤ BODIES_MOST) }
     ensures { Leaves (Out CANDIDATE STATES) s.old s.new result (λ u. states_at u body_count)
         (states_of (records_of bodies.now) (candidates_at s.old body_count)) }
 {
@@ -255,78 +268,88 @@ fn make_states(s: &mut [f64], bodies: &[f64], body_count: usize) -> Result<(), C
 
 // The velocity loop over the candidates' rows and the states, after the nonlinear loop met its rows.
 fn finish_run(
-    s: &mut [f64],
-    ia: &PerRow,
-    ib: &PerRow,
-    t: Table,
+    s: &mut Scratch,
+    rows: &Rows,
     bodies: &[f64],
-    joints: &[Joint],
-    task: Task,
-) -> Ended
-    requires { (Ours s.old ia.now ib.now (candidate_table t)) × (t.bodies ≤ count_of_bodies bodies.now) }
-    ensures { Finishes s.old s.new ia.now ib.now t result (finish_of (job_for joints.now task) (records_of bodies.now)) }
+    cyclic: bool,
+    counts: &mut Counts,
+) -> Result<(), CollisionError>
+    requires { (rows.now.bodies ≤ count_of_bodies bodies.now) × (counts.old.nonlinear ≤ 32) × (counts.old.linear ≤ 32 * LIMIT) }
+    ensures { (joints : List Joint) (dt : Float) → Finishes s.old s.new rows.now counts.old counts.new result
+        (finish_of (job_for joints dt cyclic) (records_of bodies.now)) }
 {
-    let weighed = end_of(prepare_masses(s, t.bodies, true));
-    if !done(weighed) {
-        return Ended::new(weighed, 0);
-    }
-    let candidate_table = Table {
+    prepare_masses(s, rows.bodies, true)?;
+    let candidate_rows = Rows {
         place: ROWS,
-        rows: t.rows,
-        bodies: t.bodies,
+        bodies: rows.bodies,
+        a: rows.a,
+        b: rows.b,
     };
     // tested before each of at most 3 corrections; a third one is never accepted
-    let corrected = stage_loop(s, ia, ib, candidate_table, joints, task, Stage::Velocity, 3);
-    let end = corrected.end;
-    if !done(end) {
-        return Ended::new(end, corrected.linear);
-    }
-    let made = end_of(make_states(s, bodies, t.bodies));
-    Ended::new(made, corrected.linear)
+    stage_loop(&VelocityStage { cyclic }, s, &candidate_rows, 3, counts)?;
+    make_states(s, bodies, rows.bodies)
 }
 
 // What stands before the first pass: starting bodies, rows and masses.
-fn start(s: &mut [f64], bodies: &[f64], joints: &[Joint]) -> Result<(), CollisionError>
-    requires { (USED ≤ length s.old) × (Joined joints.now (length joints.now) (count_of_bodies bodies.now)) }
-    ensures { Starts s.old s.new bodies.now joints.now result }
+fn start(
+    s: &mut Scratch,
+    bodies: &[f64],
+    joints: &[Joint],
+    rows: &Rows,
+) -> Result<(), CollisionError>
+    requires { (rows.now.bodies ≡ count_of_bodies bodies.now) × (Joins joints.now rows.now) }
+    ensures { (dt : Float) (cyclic : Bool) → Does (Out 0 USED) s.old s.new (leaving result (started_at s.new rows.now))
+        (start_of (job_for joints.now dt cyclic) (records_of bodies.now)) }
 {
-    let body_count = bodies.len() / RECORD;
-    start_bodies(s, bodies, body_count)?;
-    write_rows(s, joints, START_ROWS, false)?;
-    prepare_masses(s, body_count, false)
+    start_bodies(s, bodies, rows.bodies)?;
+    write_rows(s, joints, rows.place, false)?;
+    prepare_masses(s, rows.bodies, false)
 }
 
-// From the starting bodies to the states.
-pub(crate) fn run(bodies: &[f64], joints: &[Joint], dt: f64, s: &mut [f64]) -> Ran
-    requires { (USED ≤ length s.old) × (Joined joints.now (length joints.now) (count_of_bodies bodies.now)) }
-    ensures { Does (Out 0 USED) s.old s.new (left_as result (states_at s.new (count_of_bodies bodies.now)))
+// Both loops over the rows of the joints: from the starting bodies to the states.
+fn run_loops(
+    s: &mut Scratch,
+    rows: &Rows,
+    bodies: &[f64],
+    joints: &[Joint],
+    dt: f64,
+    counts: &mut Counts,
+) -> Result<(), CollisionError>
+    requires { (rows.now.bodies ≡ count_of_bodies bodies.now) × (Joins joints.now rows.now)
+        × (counts.old.nonlinear ≡ 0) × (counts.old.linear ≡ 0) }
+    ensures { Goes (Out 0 USED) s.old s.new counts.old counts.new (leaving result (states_at s.new rows.now.bodies))
+        (run_of (job_for joints.now dt (leb rows.now.bodies (length joints.now))) (records_of bodies.now)) }
+{
+    let cyclic = rows.bodies <= joints.len();
+    start(s, bodies, joints, rows)?;
+    // from no impulse, at most 32 passes
+    clear(s, IMPULSES, rows.count());
+    let nonlinear = NonlinearStage { joints, dt, cyclic };
+    stage_loop(&nonlinear, s, rows, 32, counts)?;
+    finish_run(s, rows, bodies, cyclic, counts)
+}
+
+// The run of a plan: the bodies of its rows are listed once.
+pub(crate) fn run(
+    s: &mut Scratch,
+    bodies: &[f64],
+    joints: &[Joint],
+    dt: f64,
+    counts: &mut Counts,
+) -> Result<(), CollisionError>
+    requires { (Joined joints.now (length joints.now) (count_of_bodies bodies.now))
+        × (counts.old.nonlinear ≡ 0) × (counts.old.linear ≡ 0) }
+    ensures { Goes (Out 0 USED) s.old s.new counts.old counts.new (leaving result (states_at s.new (count_of_bodies bodies.now)))
         (run_for bodies.now joints.now (length joints.now) dt) }
 {
-    let body_count = bodies.len() / RECORD;
-    let task = Task {
-        dt,
-        cyclic: body_count <= joints.len(),
-    };
-    let mut ia = [0usize; 96];
-    let mut ib = [0usize; 96];
+    let mut ia = [0usize; ROWS_MOST];
+    let mut ib = [0usize; ROWS_MOST];
     let n = row_bodies(&mut ia, &mut ib, joints);
-    let started = end_of(start(s, bodies, joints));
-    if !done(started) {
-        return run_ended(started, 0, 0);
-    }
-    let t = Table {
+    let rows = Rows {
         place: START_ROWS,
-        rows: n,
-        bodies: body_count,
+        bodies: bodies.len() / RECORD,
+        a: &ia[..n],
+        b: &ib[..n],
     };
-    // from no impulse, at most 32 passes
-    clear(s, IMPULSES, n);
-    let met = stage_loop(s, &ia, &ib, t, joints, task, Stage::Nonlinear, 32);
-    let end = met.end;
-    if !done(end) {
-        return run_ended(end, met.passes, met.linear);
-    }
-    let last = finish_run(s, &ia, &ib, t, bodies, joints, task);
-    let end = last.end;
-    run_ended(end, met.passes, met.linear + last.linear)
+    run_loops(s, &rows, bodies, joints, dt, counts)
 }

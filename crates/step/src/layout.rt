@@ -3,6 +3,8 @@ use solves::layout::{BODIES_MOST, END, ROWS_MOST};
 
 // The doubles of scratch that a step asks for.
 pub const SCRATCH: usize = 6144;
+// The scratch itself: all regions lie in it.
+pub(crate) type Scratch = [f64; SCRATCH];
 // The doubles of a body's record.
 pub const RECORD: usize = 26;
 // What moves of a body in a step: centre, rotation, momentum and spin.

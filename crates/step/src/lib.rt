@@ -11,9 +11,8 @@ mod velocity;
 ghost use Rattle.std.specs.Prelude.{◌≡◌, ◌%◌, ◌≤◌, length, replicate, Err};
 ghost use Rattle.arith.specs.Real.{ratio};
 ghost use Rattle.arith.specs.Flow.{leaving};
-ghost use Rattle.solves.specs.Answer.{ran_as};
 ghost use Rattle.solves.specs.Layout.{BODIES_MOST};
-ghost use Rattle.step.specs.Layout.{RECORD, SCRATCH, USED};
+ghost use Rattle.step.specs.Layout.{RECORD, SCRATCH};
 ghost use Rattle.step.specs.Records.{count_of_bodies};
 ghost use Rattle.step.specs.Checks.{number_of};
 ghost use Rattle.step.specs.Joined.{Joined};
@@ -25,10 +24,10 @@ ghost use Rattle.step.specs.Answered.{Answered};
 use crate::bodies::{in_ground, write_states};
 use crate::checks::refusal;
 use crate::integrator::run;
-use crate::layout::{RECORD, SCRATCH};
+use crate::layout::{RECORD, SCRATCH, Scratch};
+use crate::passes::Counts;
 use arith::fault::CollisionError;
 use rows::geometry::{Joint, clear};
-use solves::End;
 
 // The refusals of SPECIFICATION §7, in its order.
 #[derive(Clone, Copy, Debug, PartialEq, Eq)]
@@ -104,11 +103,11 @@ impl Report {
 // What the run's end is to the caller: its states are written where all stand on the plan's ground.
 fn conclude(
     bodies: &mut [f64],
-    work: &[f64],
+    work: &Scratch,
     body_count: usize,
     ran: Result<(), CollisionError>,
 ) -> Result<(), Refusal>
-    requires { (length bodies.old % RECORD ≡ 0) × (body_count ≡ count_of_bodies bodies.old) × (USED ≤ length work.now) × (body_count ≤ BODIES_MOST) }
+    requires { (length bodies.old % RECORD ≡ 0) × (body_count ≡ count_of_bodies bodies.old) × (body_count ≤ BODIES_MOST) }
     ensures { Concludes bodies.old bodies.new result (leaving ran (states_at work.now body_count)) }
 {
     ran?;
@@ -119,32 +118,25 @@ fn conclude(
     Err(Refusal::Ground)
 }
 
-// How the run ended, as a result.
-fn answer_of(end: End) -> Result<(), CollisionError>
-    ensures { result ≡ ran_as end tt }
-{
-    match end {
-        End::Done => Ok(()),
-        End::NonConvergent => Err(CollisionError::NonConvergent),
-        End::ArithmeticOverflow => Err(CollisionError::ArithmeticOverflow),
-    }
-}
-
 // The run on the doubles of scratch that a step asks for, which are zero afterwards.
-fn solve_in(bodies: &mut [f64], joints: &[Joint], dt: f64, work: &mut [f64]) -> Report
-    requires { (length work.old ≡ SCRATCH) × (length bodies.old % RECORD ≡ 0)
+fn solve_in(bodies: &mut [f64], joints: &[Joint], dt: f64, work: &mut Scratch) -> Report
+    requires { (length bodies.old % RECORD ≡ 0)
         × (Joined joints.now (length joints.now) (count_of_bodies bodies.old)) }
     ensures { Reports bodies.new work.new result
         (concluded bodies.old (replicate SCRATCH (ratio 0 1)) (run_for bodies.old joints.now (length joints.now) dt)) }
 {
     let body_count = bodies.len() / RECORD;
-    let ran = run(bodies, joints, dt, work);
-    let outcome = conclude(bodies, work, body_count, answer_of(ran.end));
+    let mut counts = Counts {
+        nonlinear: 0,
+        linear: 0,
+    };
+    let ran = run(work, bodies, joints, dt, &mut counts);
+    let outcome = conclude(bodies, work, body_count, ran);
     clear(work, 0, SCRATCH);
     Report {
         outcome,
-        nonlinear: ran.nonlinear,
-        linear: ran.linear,
+        nonlinear: counts.nonlinear,
+        linear: counts.linear,
     }
 }
 
@@ -159,5 +151,5 @@ pub fn solve(bodies: &mut [f64], joints: &[Joint], dt: f64, scratch: &mut [f64])
             linear: 0,
         };
     }
-    solve_in(bodies, joints, dt, &mut scratch[..SCRATCH])
+    solve_in(bodies, joints, dt, scratch.first_chunk_mut().unwrap())
 }

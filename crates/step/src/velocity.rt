@@ -1,31 +1,28 @@
 // The velocity passes of `solve` in solver.rs, each tested before it is corrected.
-ghost use Rattle.std.specs.Prelude.{◌≡◌, List, ◌≤◌, ◌<◌, length};
+ghost use Rattle.std.specs.Prelude.{◌≡◌, [], ◌≤◌, ◌<◌};
+ghost use Rattle.arith.specs.Words.{nan};
 ghost use Rattle.rows.specs.View.{Out};
 ghost use Rattle.solves.specs.Region.{vec_at};
-ghost use Rattle.solves.specs.View.{RHS, GENERALIZED, Beside, system_in, solution_on, shares_in};
+ghost use Rattle.solves.specs.View.{RHS, GENERALIZED, Beside, system_at, rhs_at, shares_in};
 ghost use Rattle.solves.specs.Layout.{ROWS_MOST, BODIES_MOST};
-ghost use Rattle.rows.specs.declared.geometry.Joint.{Joint};
-ghost use Rattle.step.specs.declared.passes.Stage.TheVariants.{Velocity};
-ghost use Rattle.step.specs.Layout.{CANDIDATE, USED, STATES};
-ghost use Rattle.step.specs.Bodies.{velocity_of, velocity_rhs, compatible_of, kick_bodies, reaction_of};
+ghost use Rattle.step.specs.Layout.{CANDIDATE, STATES};
+ghost use Rattle.step.specs.Bodies.{velocity_of, velocity_rhs, compatible_of, kick_bodies};
 ghost use Rattle.step.specs.View.{candidates_at};
-ghost use Rattle.step.specs.RunView.{job_for, candidates_of, MotionOf, MotionAt, Remembers, Ours, Correcting};
-ghost use Rattle.step.specs.Says.{Leaves, Passes};
+ghost use Rattle.step.specs.RunView.{Velocity, job_for, candidates_of, MotionOf, MotionAt, Remembers};
+ghost use Rattle.step.specs.Says.{Leaves};
 
 use crate::bodies::{load_candidate, store_candidate};
-use crate::passes::{Passed, Stage, Task, correct, pass_ended};
+use crate::layout::Scratch;
+use crate::passes::{Apply, Counts, Stage, correct};
 use arith::fault::CollisionError;
 use arith::number::{abs, is_finite};
 use rows::body::MomentumBody;
 use rows::geometry::EqualityRow;
+use solves::joined::Rows;
 use solves::layout::{GENERALIZED, RHS, SOLUTION};
-use solves::operator::transpose;
-use solves::places::{load_generalized, load_row};
-use solves::{End, Pass, PerRow, Table, done, end_of};
+use solves::places::load_generalized;
+use std::ops::ControlFlow;
 use vectors::vector::Vec3;
-
-// The number of no body: there are at most 16.
-const NO_BODY: usize = 16;
 
 // What a body adds to the rates of its rows: its velocity, and its angular velocity where that is finite.
 #[derive(Clone, Copy)]
@@ -35,18 +32,8 @@ pub(crate) struct Motion {
     pub angular: Result<Vec3, CollisionError>,
 }
 
-fn no_motion() -> Motion
-    ensures { result.body ≡ BODIES_MOST }
-{
-    Motion {
-        body: NO_BODY,
-        linear: Vec3::ZERO,
-        angular: Err(CollisionError::ArithmeticOverflow),
-    }
-}
-
-fn motion_of(s: &[f64], k: usize) -> Motion
-    requires { (USED ≤ length s.now) × (k < BODIES_MOST) }
+fn motion_of(s: &Scratch, k: usize) -> Motion
+    requires { k < BODIES_MOST }
     ensures { MotionAt s.now k result }
 {
     let body = load_candidate(s, k);
@@ -58,14 +45,14 @@ fn motion_of(s: &[f64], k: usize) -> Motion
 }
 
 // The motion of candidate k: the one kept from the row before, where that row has the same body.
-fn motion_again(s: &[f64], k: usize, last: Motion) -> Motion
-    requires { (USED ≤ length s.now) × (k < BODIES_MOST) × Remembers s.now last }
+fn motion_again(s: &Scratch, k: usize, last: Option<Motion>) -> Motion
+    requires { (k < BODIES_MOST) × Remembers s.now last }
     ensures { MotionAt s.now k result }
 {
-    if last.body == k {
-        return last;
+    match last {
+        Some(motion) if motion.body == k => motion,
+        _ => motion_of(s, k),
     }
-    motion_of(s, k)
 }
 
 // The rate of a row, from the motions of its bodies.
@@ -84,31 +71,31 @@ fn velocity(row: EqualityRow, a: Motion, b: Motion) -> Result<f64, CollisionErro
     Ok(value)
 }
 
-fn velocity_rhs(s: &mut [f64], ia: &PerRow, ib: &PerRow, t: Table) -> Result<(), CollisionError>
-    requires { Ours s.old ia.now ib.now t }
-    ensures { Leaves (Beside RHS) s.old s.new result (λ u. vec_at u RHS t.rows) (velocity_rhs (system_in s.old ia.now ib.now t).rows (candidates_of t s.old)) }
+fn velocity_rhs(s: &mut Scratch, rows: &Rows) -> Result<(), CollisionError>
+    ensures { Leaves (Beside RHS) s.old s.new result (λ u. rhs_at u rows.now) (velocity_rhs (system_at s.old rows.now).rows (candidates_of rows.now s.old)) }
 {
-    let n = t.rows;
-    let mut a = no_motion();
-    let mut b = no_motion();
-    for k in 0..n {
-        let row = load_row(s, ia, ib, t.place, k);
-        a = motion_again(s, row.a, a);
-        b = motion_again(s, row.b, b);
+    let mut last_a = None;
+    let mut last_b = None;
+    for k in 0..rows.count() {
+        let row = rows.load(s, k);
+        let a = motion_again(s, row.a, last_a);
+        let b = motion_again(s, row.b, last_b);
         s[RHS + k] = -velocity(row, a, b)?;
+        last_a = Some(a);
+        last_b = Some(b);
     }
     Ok(())
 }
 
-fn compatible(s: &[f64], n: usize) -> bool
-    requires { (USED ≤ length s.now) × (n ≤ ROWS_MOST) }
+fn compatible(s: &Scratch, n: usize) -> bool
+    requires { n ≤ ROWS_MOST }
     ensures { result ≡ compatible_of (vec_at s.now RHS n) }
 {
     (0..n).all(|k| abs(s[RHS + k]) <= 1.0e-12)
 }
 
-fn kick_candidates(s: &mut [f64], body_count: usize) -> Result<(), CollisionError>
-    requires { (USED ≤ length s.old) × (body_count ≤ BODIES_MOST) }
+fn kick_candidates(s: &mut Scratch, body_count: usize) -> Result<(), CollisionError>
+    requires { body_count ≤ BODIES_MOST }
     ensures { Leaves (Out CANDIDATE STATES) s.old s.new result (λ u. candidates_at u body_count)
         (kick_bodies (candidates_at s.old body_count) (shares_in s.old body_count)) }
 {
@@ -120,27 +107,40 @@ fn kick_candidates(s: &mut [f64], body_count: usize) -> Result<(), CollisionErro
     Ok(())
 }
 
-// A solve's reaction on the candidates.
-pub(crate) fn apply(s: &mut [f64], ia: &PerRow, ib: &PerRow, t: Table) -> Result<(), CollisionError>
-    requires { Ours s.old ia.now ib.now t }
-    ensures { Leaves Correcting s.old s.new result (candidates_of t)
-        (reaction_of (system_in s.old ia.now ib.now t).rows (candidates_of t s.old) (solution_on s.old t)) }
-{
-    transpose(s, ia, ib, t, SOLUTION)?;
-    kick_candidates(s, t.bodies)
+// The velocity loop over the candidates: their rates are tested before they are corrected.
+#[derive(Clone, Copy)]
+pub(crate) struct VelocityStage {
+    pub cyclic: bool,
 }
 
-// The rates of the rows, and where they are not near 0 a correction of the candidates' velocities.
-pub(crate) fn velocity_pass(s: &mut [f64], ia: &PerRow, ib: &PerRow, t: Table, task: Task) -> Passed
-    requires { Ours s.old ia.now ib.now t }
-    ensures { (joints : List Joint) → Passes Velocity ia.now ib.now t s.old s.new (job_for joints task) result }
-{
-    let rated = end_of(velocity_rhs(s, ia, ib, t));
-    if !done(rated) {
-        return pass_ended(Pass::Over(rated), 0);
+impl Apply for VelocityStage {
+    ghost which = { Velocity };
+
+    // A solve's reaction on the candidates.
+    fn apply(&self, s: &mut Scratch, rows: &Rows) -> Result<(), CollisionError> {
+        rows.transpose(s, SOLUTION)?;
+        kick_candidates(s, rows.bodies)
     }
-    if compatible(s, t.rows) {
-        return pass_ended(Pass::Over(End::Done), 0);
+}
+
+impl Stage for VelocityStage {
+    ghost job = { λ it. job_for [] nan it.cyclic };
+
+    ghost needs = { λ it rows. Unit {0} };
+
+    // The rates of the rows, and where they are not near 0 a correction of the candidates' velocities.
+    fn pass(
+        &self,
+        s: &mut Scratch,
+        rows: &Rows,
+        counts: &mut Counts,
+    ) -> Result<ControlFlow<()>, CollisionError> {
+        velocity_rhs(s, rows)?;
+        if compatible(s, rows.count()) {
+            return Ok(ControlFlow::Break(()));
+        }
+        correct(self, s, rows, self.cyclic, counts)
     }
-    correct(s, ia, ib, t, task.cyclic, Stage::Velocity)
+
+    ghost apart = { λ it rows needs. tt };
 }

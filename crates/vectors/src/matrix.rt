@@ -245,11 +245,7 @@ fn correction(lower: &[[f64; 3]; 3], row: usize, column: usize) -> f64
     requires { (row < 3) × (column < 3) }
     ensures { result ≡ correction_of lower.now row column }
 {
-    let mut total = 0.0;
-    for k in 0..column {
-        total = total + lower[row][k] * lower[column][k];
-    }
-    total
+    (0..column).fold(0.0, |total, k| total + lower[row][k] * lower[column][k])
 }
 
 #[tactic(auto, using(arith::specs::Literals::literals))]

@@ -104,7 +104,6 @@ impl Quat {
     }
 
     // v + (u × v) (2 w) + (u × (u × v)) 2, for a quaternion already normalized.
-    #[tactic(auto, using(arith::specs::Literals::literals))]
     fn turned(self, vector: Vec3) -> Vec3
         ensures { result ≡ turned_of self vector }
     {

@@ -1,7 +1,7 @@
 -- Anchors: where a body hands back its record with an origin of at most 8,192, the doubles of its anchor are within 2 ^ -36 of the exact anchor of that
 -- record.
 -- origin = centre - turned local centre, anchor = centre + turned (local anchor - local centre), each rounded; the exact turn is linear.
-use Rattle.std.specs.Prelude.{Option, Some, None}
+use Rattle.std.specs.Prelude.{Some}
 use Rattle.std.specs.Prelude.{◌≡◌, refl, List, [], ◌∷◌, Bool, ◌&&◌, ℕ, ◌+◌, ◌*◌, ◌^◌, T, Float}
 use Rattle.std.proofs.Common.{sym, subst, leb→le}
 use mathlib.Core.Quot

@@ -1,5 +1,5 @@
 -- Rows along an axis of frame a: where such a row's value is at most its tolerance, the exact part of d along the exact axis is at most 2 ^ -28 + 2 ^ -32.
-use Rattle.std.specs.Prelude.{Option, Some, None}
+use Rattle.std.specs.Prelude.{Some}
 use Rattle.std.specs.Prelude.{◌≡◌, refl, Bool, ◌&&◌, ℕ, ◌+◌, ◌*◌, ◌^◌, T, leb, Float}
 use Rattle.std.proofs.Common.{sym, ◌∙◌, subst, leb→le, lit<}
 use mathlib.Core.List.{List, [], ◌∷◌}

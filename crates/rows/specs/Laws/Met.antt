@@ -1,7 +1,7 @@
 -- Demand 3 for one joint. `met`: where a joint's rows were written from bodies a and b and every value is within its tolerance, and
 -- bodies at the same places hand back records on the ground, the joint is met by these records. `stands`: a record that is handed back
 -- holds finite numbers, and its N is above 0. Bodies that were kicked since are at the same place.
-use Rattle.std.specs.Prelude.{Option, Some, None}
+use Rattle.std.specs.Prelude.{Some}
 use Rattle.std.specs.Prelude.{◌≡◌, List, [], ◌∷◌, Bool, ◌&&◌, ◌^◌, T, Float}
 use Rattle.std.proofs.Common.{sym, ap, ◌∙◌, subst, subst₂}
 use Rattle.std.specs.Float.{binary64}

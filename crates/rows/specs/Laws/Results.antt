@@ -15,7 +15,7 @@ use Rattle.rows.specs.declared.body.MomentumBody.{MomentumBody}
 use Rattle.rows.specs.declared.geometry.Joint.{Joint}
 use Rattle.rows.specs.declared.geometry.EqualityRow.{EqualityRow}
 use Rattle.rows.specs.declared.geometry.Ends.{Ends}
-use Rattle.rows.specs.Fault.{CollisionError, ArithmeticOverflow, NonConvergent, try_finite, try_length, try_rotate}
+use Rattle.rows.specs.Fault.{ArithmeticOverflow, NonConvergent, try_finite, try_length, try_rotate}
 use Rattle.rows.specs.Body.{anchor_of, same_vec3, same_quat, state_with, origin_of, state_of}
 use Rattle.rows.specs.Geometry.{epsilon, ends_of, tolerance_of, distance_row, linear_row, aligned_of, align_row}
 

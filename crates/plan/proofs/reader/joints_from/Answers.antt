@@ -7,4 +7,4 @@ pub loop-k-init : goal.loop-k-init
 loop-k-init c = turns-none _ _
 
 pub loop-k-preserved : goal.loop-k-preserved
-loop-k-preserved c = joints-more c.args.file.now c.args.places.bytes _ _ c.loop-k.invariant c.joint_at.ensures
+loop-k-preserved c = joints-more c.args.file.now c.args.places.bytes _ _ c.loop-k-test.true _ c.loop-k.invariant c.joint_at.ensures

@@ -1,16 +1,11 @@
--- A value more, the first that is not finite, and the last.
-use Rattle.std.proofs.Common.{arith}
-use Rattle.rows.proofs.FiniteLaws.{finite-all, finite-more, finite-none, finite-stop}
+use Rattle.std.proofs.Common.{rules, arith, refl, ◌∙◌}
+use Rattle.std.proofs.lemmas.Iterator.{YieldsList-from_range}
+use Rattle.std.proofs.lemmas.Iterator.Search.{all_from_yields_List}
+use Rattle.rows.proofs.FiniteLaws.{finite_at, finite-is}
 use Rattle.rows.proofs.geometry.values_finite.Goals as goal
 
-pub loop-k-init : goal.loop-k-init
-loop-k-init c = finite-none _ _
-
-pub loop-k-preserved : goal.loop-k-preserved
-loop-k-preserved c = search (finite-more, arith)
-
-pub returns-then-not-is_finite : goal.returns-then-not-is_finite
-returns-then-not-is_finite c = search finite-stop
-
 pub returns : goal.returns
-returns c = search finite-all
+returns c = λ a b.
+    let counts = YieldsList-from_range 0 c.args.count c.args.count refl (omega arith) in
+    all_from_yields_List (finite_at c.args.s.now c.args.at) _ _ _ c.all.ensures.ran counts (λ k d q h. search rules)
+    ∙ finite-is c.args.s.now c.args.at c.args.count a b

@@ -1,21 +1,12 @@
--- A share more, the first that is not finite, and the last.
-use Rattle.std.proofs.Common.{sym, ◌∙◌}
-use Rattle.arith.specs.FlowLaws.{every-none, every_more, every-fail, every-end}
-use Rattle.solves.proofs.OperatorLaws.{share-tested, all_of}
+-- Each share where it stands, by ChainLaws.
+use Rattle.std.proofs.Common.{rules, arith, refl, ◌∙◌, ℕ, Bool}
+use Rattle.std.proofs.lemmas.Iterator.{YieldsList-from_range}
+use Rattle.arith.specs.ChainLaws.{every-counted}
+use Rattle.solves.proofs.OperatorLaws.{share_test, shares-are}
 use Rattle.solves.proofs.operator.shares_finite.Goals as goal
 
-pub loop-k-init : goal.loop-k-init
-loop-k-init c = every-none _
-
-pub loop-k-preserved : goal.loop-k-preserved
-loop-k-preserved c =
-    every_more _ c.loop-k.invariant
-    (share-tested _ _ c.loop-k-test.true c.load_generalized.ensures (sym c.if-not-is_finite.false ∙ c.is_finite.ensures))
-
-pub returns-then-not-is_finite : goal.returns-then-not-is_finite
-returns-then-not-is_finite c =
-    all_of _ _ (every-fail _ _ c.loop-k-test.true
-    (share-tested _ _ c.loop-k-test.true c.load_generalized.ensures (sym c.if-not-is_finite.true ∙ c.is_finite.ensures)))
-
 pub returns : goal.returns
-returns c = search (all_of, every-end)
+returns c =
+    let test : ℕ → Bool = share_test c.args.s.now in
+    let n : ℕ = c.args.body_count in
+    every-counted _ test n c.all.ensures.ran (YieldsList-from_range 0 n n refl (omega arith)) (λ k b q h. search rules) ∙ shares-are c.args.s.now n

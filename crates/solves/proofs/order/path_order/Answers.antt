@@ -15,10 +15,10 @@ returns-in_err-walks c =
     ordered-as (sym failed) (order-lost _ _ _ c.path_blocks-number.ensures.0.is _ (sym c.in_ok-edges.was ∙ c.path_edges.ensures.0) c.in_err-walks.field-0.0
     (walked-as c.in_err-walks.was c.walks.ensures))
 
-pub returns-then-seen-n : goal.returns-then-seen-n
-returns-then-seen-n c = order-short _ _ _ c.path_blocks-number.ensures.0.is _ (sym c.in_ok-edges.was ∙ c.path_edges.ensures.0)
-    (walked-as c.in_ok-walks.was c.walks.ensures) c.if-seen-n.true
+pub returns-then-seen-count : goal.returns-then-seen-count
+returns-then-seen-count c = order-short _ _ _ c.path_blocks-number.ensures.0.is _ (sym c.in_ok-edges.was ∙ c.path_edges.ensures.0)
+    (walked-as c.in_ok-walks.was c.walks.ensures) (rw c.count.ensures at c.if-seen-count.true)
 
 pub returns : goal.returns
 returns c = order-found _ _ _ c.path_blocks-number.ensures.0.is _ (sym c.in_ok-edges.was ∙ c.path_edges.ensures.0)
-    (walked-as c.in_ok-walks.was c.walks.ensures) c.path_blocks-number.ensures.2 c.if-seen-n.false
+    (walked-as c.in_ok-walks.was c.walks.ensures) c.path_blocks-number.ensures.2 (rw c.count.ensures at c.if-seen-count.false)

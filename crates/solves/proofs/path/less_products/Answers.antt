@@ -1,13 +1,12 @@
--- A turn more, and the last.
-use Rattle.arith.specs.FlowLaws.{turns-none, turns-end}
-use Rattle.solves.proofs.SweepLaws.{products-more}
+-- Along the two lines, by ChainLaws.
+use Rattle.std.proofs.Common.{rules, arith, refl}
+use Rattle.std.proofs.lemmas.Iterator.{YieldsList-from_range}
+use Rattle.arith.specs.Real.{◌⊖◌, ◌⊗◌}
+use Rattle.solves.specs.PathView.{line_at}
+use Rattle.arith.specs.ChainLaws.{fold-counted}
 use Rattle.solves.proofs.path.less_products.Goals as goal
 
-pub loop-k-init : goal.loop-k-init
-loop-k-init c = turns-none _ _
-
-pub loop-k-preserved : goal.loop-k-preserved
-loop-k-preserved c = search products-more
-
 pub returns : goal.returns
-returns c = search turns-end
+returns c =
+    fold-counted (λ k value. value ⊖ line_at c.args.s.now c.args.a k ⊗ line_at c.args.s.now c.args.b k) c.args.terms c.fold.ensures.ran
+    (YieldsList-from_range 0 c.args.terms c.args.terms refl (omega arith)) (λ value k x q h. search rules)

@@ -6,7 +6,7 @@ use Rattle.arith.specs.Literals.{literals}
 use Rattle.rows.specs.View.{vec3_at}
 use Rattle.step.specs.Layout.{CANDIDATE, MOVING}
 use Rattle.step.specs.Checks.{within_of}
-use Rattle.step.proofs.EveryLaws.{every-counted}
+use Rattle.arith.specs.ChainLaws.{every-counted}
 use Rattle.step.proofs.bodies.in_ground.Goals as goal
 
 pub returns : goal.returns

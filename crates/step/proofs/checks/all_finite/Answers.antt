@@ -1,7 +1,7 @@
 use Rattle.std.proofs.Common.{rules}
 use Rattle.std.proofs.lemmas.Iterator.{YieldsList-from_slice}
 use Rattle.arith.specs.Real.{is_finite}
-use Rattle.step.proofs.EveryLaws.{every-listed}
+use Rattle.arith.specs.ChainLaws.{every-listed}
 use Rattle.step.proofs.checks.all_finite.Goals as goal
 
 pub returns : goal.returns

@@ -2,7 +2,7 @@ use Rattle.std.proofs.Common.{rules, arith, refl, ℕ, Bool}
 use Rattle.std.proofs.lemmas.Iterator.{YieldsList-from_range}
 use Rattle.step.specs.Records.{record_at}
 use Rattle.step.specs.Checks.{body_in_range}
-use Rattle.step.proofs.EveryLaws.{every-counted}
+use Rattle.arith.specs.ChainLaws.{every-counted}
 use Rattle.step.proofs.checks.bodies_in_range.Goals as goal
 
 pub returns : goal.returns

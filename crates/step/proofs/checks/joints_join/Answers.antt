@@ -1,7 +1,7 @@
 use Rattle.std.proofs.Common.{rules}
 use Rattle.std.proofs.lemmas.Iterator.{YieldsList-from_slice}
 use Rattle.step.specs.Checks.{joins_two}
-use Rattle.step.proofs.EveryLaws.{every-listed}
+use Rattle.arith.specs.ChainLaws.{every-listed}
 use Rattle.step.proofs.checks.joints_join.Goals as goal
 
 pub returns : goal.returns

@@ -1,7 +1,7 @@
 use Rattle.std.proofs.Common.{rules}
 use Rattle.std.proofs.lemmas.Iterator.{YieldsList-from_slice}
 use Rattle.step.specs.Checks.{joint_ok}
-use Rattle.step.proofs.EveryLaws.{every-listed}
+use Rattle.arith.specs.ChainLaws.{every-listed}
 use Rattle.step.proofs.checks.joints_ok.Goals as goal
 
 pub returns : goal.returns

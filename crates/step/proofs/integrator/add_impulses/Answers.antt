@@ -8,13 +8,13 @@ loop-k-init c = sum-none _ _
 
 pub returns-then-not-is_finite : goal.returns-then-not-is_finite
 returns-then-not-is_finite c =
-    sum-stops _ _ _ _ c.loop-k.invariant c.loop-k-test.true c.requires.1 (omega (arith, c.loop-k.invariant.kept.size))
+    sum-stops _ _ _ _ c.loop-k.invariant c.loop-k-test.true c.requires (omega arith)
     c.is_finite.ensures c.if-not-is_finite.true
 
 pub loop-k-preserved : goal.loop-k-preserved
 loop-k-preserved c =
-    sum-again _ _ _ _ c.loop-k.invariant c.loop-k-test.true c.requires.1 (omega (arith, c.loop-k.invariant.kept.size))
+    sum-again _ _ _ _ c.loop-k.invariant c.loop-k-test.true c.requires (omega arith)
     c.is_finite.ensures c.if-not-is_finite.false
 
 pub returns : goal.returns
-returns c = sum-ends _ _ c.loop-k.invariant (omega arith) c.loop-k-test.false c.requires.1
+returns c = sum-ends _ _ c.loop-k.invariant (omega arith) c.loop-k-test.false c.requires

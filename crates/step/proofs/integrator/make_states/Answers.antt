@@ -12,13 +12,13 @@ pub returns-in_err-state : goal.returns-in_err-state
 returns-in_err-state c =
     let error = err_from_is_err_and c.from_residual.result c.from_residual.ensures.1 in
     rw (error.1, error.2)
-    (state-stops _ _ _ c.loop-k.invariant c.loop-k-test.true c.requires.2 c.requires.1
+    (state-stops _ _ _ c.loop-k.invariant c.loop-k-test.true c.requires.1 c.requires.0
     c.load_candidate-body.ensures refl (c.in_err-state.ensures ∙ ap (state_of _) c.load_state.ensures))
 
 pub loop-k-preserved : goal.loop-k-preserved
 loop-k-preserved c =
-    state-again _ _ _ c.loop-k.invariant c.loop-k-test.true c.requires.2 c.requires.1
+    state-again _ _ _ c.loop-k.invariant c.loop-k-test.true c.requires.1 c.requires.0
     c.load_candidate-body.ensures refl (c.in_ok-state.ensures ∙ ap (state_of _) c.load_state.ensures) c.store_state.ensures
 
 pub returns : goal.returns
-returns c = state-ends _ _ _ _ _ c.loop-k.invariant (omega arith) c.loop-k-test.false c.requires.2
+returns c = state-ends _ _ _ _ _ c.loop-k.invariant (omega arith) c.loop-k-test.false c.requires.1

@@ -1,6 +1,6 @@
 use Rattle.std.proofs.Common.{◌≤◌, arith}
 use Rattle.arith.specs.FlowLaws.{turns-end}
-use Rattle.step.proofs.RowLaws.{before-none, before_more, sides-none, sides-more, sides-end}
+use Rattle.step.proofs.RowLaws.{before-none, before_more, sides-none, sides-more, sides-end, sides-taken}
 use Rattle.step.proofs.StepLaws.{spread-less, kind-most}
 use Rattle.step.proofs.integrator.row_bodies.Goals as goal
 
@@ -43,6 +43,7 @@ loop-joint-preserved c =
 pub returns : goal.returns
 returns c = (
   record { most = omega (arith, c.loop-joint.invariant.few); a-there = c.loop-joint.invariant.a-there; b_there = c.loop-joint.invariant.b_there },
-  sides-end _ (omega arith) c.loop-joint-test.false c.loop-joint.invariant.sides,
+  sides-taken c.args.joints.now _ _ (sides-end _ (omega arith) c.loop-joint-test.false c.loop-joint.invariant.sides)
+      (turns-end _ 0 (omega arith) c.loop-joint-test.false c.loop-joint.invariant.counted),
   turns-end _ 0 (omega arith) c.loop-joint-test.false c.loop-joint.invariant.counted,
 )

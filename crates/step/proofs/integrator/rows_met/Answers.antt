@@ -1,7 +1,7 @@
 use Rattle.std.proofs.Common.{rules, arith, refl, ◌∙◌, ℕ, Bool}
 use Rattle.std.proofs.lemmas.Iterator.{YieldsList-from_range}
 use Rattle.step.proofs.TableLaws.{met_at, met-is}
-use Rattle.step.proofs.EveryLaws.{every-counted}
+use Rattle.arith.specs.ChainLaws.{every-counted}
 use Rattle.step.proofs.integrator.rows_met.Goals as goal
 
 pub returns : goal.returns

@@ -19,15 +19,15 @@ returns-in_err-body c =
     let inverse = c.unwrap_or-inverse.ensures ∙ ap (λ (r : Result Mat3 CholeskyError). result_unwrap_or r zero_mat) c.inverse_spd.ensures in
     let error = err_from_is_err_and c.from_residual.result c.from_residual.ensures.1 in
     rw (error.1, error.2)
-    (begin-stops _ _ _ c.loop-k.invariant c.loop-k-test.true c.requires.2
+    (begin-stops _ _ _ c.loop-k.invariant c.loop-k-test.true c.requires.1
     c.load_record-record.ensures inverse refl c.in_err-body.ensures)
 
 pub loop-k-preserved : goal.loop-k-preserved
 unfolding of_bits round
 loop-k-preserved c =
     let inverse = c.unwrap_or-inverse.ensures ∙ ap (λ (r : Result Mat3 CholeskyError). result_unwrap_or r zero_mat) c.inverse_spd.ensures in
-    begin-again _ _ _ c.loop-k.invariant c.loop-k-test.true c.requires.2
+    begin-again _ _ _ c.loop-k.invariant c.loop-k-test.true c.requires.1
     c.load_record-record.ensures inverse refl c.in_ok-body.ensures c.store_start.ensures
 
 pub returns : goal.returns
-returns c = begin-ends _ _ _ _ _ c.loop-k.invariant (omega arith) c.loop-k-test.false c.requires.2
+returns c = begin-ends _ _ _ _ _ c.loop-k.invariant (omega arith) c.loop-k-test.false c.requires.1

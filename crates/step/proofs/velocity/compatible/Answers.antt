@@ -2,7 +2,7 @@ use Rattle.std.proofs.Common.{rules, arith, refl, ◌∙◌, ℕ, Bool}
 use Rattle.std.proofs.lemmas.Iterator.{YieldsList-from_range}
 use Rattle.arith.specs.Literals.{literals}
 use Rattle.step.proofs.VelocityLaws.{small_at, compatible-is}
-use Rattle.step.proofs.EveryLaws.{every-counted}
+use Rattle.arith.specs.ChainLaws.{every-counted}
 use Rattle.step.proofs.velocity.compatible.Goals as goal
 
 pub returns : goal.returns

@@ -5,7 +5,7 @@ use Rattle.step.proofs.velocity.velocity_rhs.Given as goal
 
 abbrev pub invariant-loop-k : goal.invariant-loop-k
 invariant-loop-k l = record {
-  made : Opposed l.ia l.ib l.t.place l.t.rows l.t.bodies l.fn.s l.k l.s;
-  a : Remembers l.s l.a;
-  b : Remembers l.s l.b;
+  made : Opposed l.rows l.fn.s l.k l.s;
+  a : Remembers l.s l.last_a;
+  b : Remembers l.s l.last_b;
 }

@@ -10,19 +10,19 @@ pub returns-in_err-transpose : goal.returns-in_err-transpose
 returns-in_err-transpose c =
     let error = err_from_is_err_and c.from_residual.result c.from_residual.ensures.1 in
     rw (error.1, error.2)
-    (operator-pushes-failed (table_of c.args.self.now) (ready c.args.self.now c.requires.0) _ _ c.in_err-transpose.ensures)
+    (operator-pushes-failed (table_of c.args.self.now) (ready c.args.self.now c.requires.0) _ _ c.in_err-transpose.ensures.0)
 
 pub returns-in_err-scale_all : goal.returns-in_err-scale_all
 returns-in_err-scale_all c =
     let error = err_from_is_err_and c.from_residual-in_err-scale_all.result c.from_residual-in_err-scale_all.ensures.1 in
     rw (error.1, error.2)
-    (operator-scales-failed (table_of c.args.self.now) (ready c.args.self.now c.requires.0) _ _ c.in_ok-transpose.ensures c.in_err-scale_all.ensures)
+    (operator-scales-failed (table_of c.args.self.now) (ready c.args.self.now c.requires.0) _ _ c.in_ok-transpose.ensures.0 c.in_err-scale_all.ensures)
 
 pub rates-requires : goal.rates-requires
 rates-requires c =
-    let size = c.in_ok-scale_all.ensures.kept.size ∙ c.in_ok-transpose.ensures.kept.size in
+    let size = c.in_ok-scale_all.ensures.kept.size ∙ c.in_ok-transpose.ensures.0.kept.size in
     (omega arith, record { low = c.requires.2.low; apart = c.requires.2.apart; there = omega (arith, size, c.requires.2.there) })
 
 pub returns : goal.returns
-returns c = operator-rates (table_of c.args.self.now) (ready c.args.self.now c.requires.0) _ _ c.in_ok-transpose.ensures c.in_ok-scale_all.ensures
+returns c = operator-rates (table_of c.args.self.now) (ready c.args.self.now c.requires.0) _ _ c.in_ok-transpose.ensures.0 c.in_ok-scale_all.ensures
     c.rates.ensures

@@ -1,6 +1,7 @@
 -- A row more, and one test of all shares.
 use Rattle.std.proofs.Common.{refl, sym, ◌∙◌, arith}
 use Rattle.arith.specs.FlowLaws.{cond_yes, cond_no}
+use Rattle.solves.specs.DoesLaws.{does-go, does-fail}
 use Rattle.solves.proofs.OperatorLaws.{on-a, on-b, transpose_none, transpose-again, transpose-ends, transpose-from}
 use Rattle.solves.proofs.SearchLaws.{ready}
 use Rattle.solves.proofs.joined.Rows.transpose.Goals as goal
@@ -22,12 +23,12 @@ loop-k-preserved c =
 
 pub returns-then-not-shares_finite : goal.returns-then-not-shares_finite
 returns-then-not-shares_finite c =
-    transpose-from (ready c.args.self.now c.requires.0) c.requires.1 _ c.clear.ensures
+    does-fail (transpose-from (ready c.args.self.now c.requires.0) c.requires.1 _ c.clear.ensures
     (transpose-ends (ready c.args.self.now c.requires.0) c.requires.1 _ (cond_no _ _ (sym c.shares_finite.ensures ∙ c.if-not-shares_finite.true))
-    c.loop-k.invariant (omega arith) (omega arith))
+    c.loop-k.invariant (omega arith) (omega arith)))
 
 pub returns : goal.returns
 returns c =
-    transpose-from (ready c.args.self.now c.requires.0) c.requires.1 _ c.clear.ensures
+    does-go (transpose-from (ready c.args.self.now c.requires.0) c.requires.1 _ c.clear.ensures
     (transpose-ends (ready c.args.self.now c.requires.0) c.requires.1 _ (cond_yes _ _ (sym c.shares_finite.ensures ∙ c.if-not-shares_finite.false))
-    c.loop-k.invariant (omega arith) (omega arith))
+    c.loop-k.invariant (omega arith) (omega arith)))
