@@ -2,10 +2,8 @@
 use Prim.Native.Nat.{ℕ, ◌+◌, ◌*◌, ◌≤◌, ◌<◌}
 use mathlib.Core.Path.{◌≡◌, sym, ◌∙◌, ap, subst}
 use mathlib.Core.List.{List}
-use lib.ListN.{length, set}
-use lib.Seq.{paste, paste-suc}
+use lib.ListN.{length}
 use lib.Ieee.{Float, nan}
-use native.Mathlib.Numerals.{add-one}
 use native.Mathlib.Omega.{arith}
 use native.Mathlib.Decide.{dec_lt}
 use mathlib.Core.Bool.{Bool, cond}
@@ -15,7 +13,8 @@ use Rattle.plan.specs.declared.kind.JointKind.{JointKind}
 use Rattle.plan.specs.declared.reader.ReadError.{ReadError}
 use Rattle.plan.specs.declared.reader.ReadError.TheVariants.{KindByte, Truncated}
 use Rattle.plan.specs.declared.reader.Record.TheVariants as found
-use Rattle.rows.specs.Region.{tab-length, tab-at}
+use Rattle.rows.specs.View.{at}
+use Rattle.rows.specs.Region.{tab-length, is-tab}
 use Rattle.plan.specs.File.{NUMBERS, KIND, FRAME_A, byte, double, body_of, joint_length, kind_named, kind_byte, joint_size, JointThere, there_is, joint_head}
 use Rattle.plan.specs.FileLaws.{length_named}
 
@@ -60,13 +59,11 @@ module _ (s : List ℕ) {r : Result JointKind ReadError} (e : r ≡ kind_byte (b
         rw (long ∙ size) (simp (lt-leb _ _ room, le-ltb _ _ bytes, le-ltb _ _ six, le-ltb _ _ h))
 
 -- ---- the loop that stores a body's doubles
-module _ (d : List Float) (at : ℕ) (s : List ℕ) where
-  pub put-more : {i : ℕ} {b : List Float} {x : Float} → at + i < length d → i < 26 → b ≡ paste d at (body_of s) i → x ≡ double s (NUMBERS + 8 * i)
-      → set b (at + i) x ≡ paste d at (body_of s) (i + 1)
+module _ (s : List ℕ) where
+  pub body-length : 26 ≡ length (body_of s)
   unfolding body_of
-  put-more {i} {b} {x} h g eb ex =
-      let z : Float = nan in
-      ap (λ (l : List Float). set l (at + i) x) eb
-      ∙ ap (set (paste d at (body_of s) i) (at + i)) (ex ∙ sym (tab-at 26 (λ k. double s (NUMBERS + 8 * k)) z i g))
-      ∙ paste-suc d at (body_of s) i z h (rw (tab-length 26 (λ k. double s (NUMBERS + 8 * k))) g)
-      ∙ ap (paste d at (body_of s)) (sym (add-one i))
+  body-length = sym (tab-length 26 (λ k. double s (NUMBERS + 8 * k)))
+
+  pub body-is : {items : List Float} → length items ≡ 26 → ((k : ℕ) → k < 26 → at items k ≡ double s (NUMBERS + 8 * k)) → items ≡ body_of s
+  unfolding body_of
+  body-is {items} size each = is-tab 26 (λ k. double s (NUMBERS + 8 * k)) nan items size each

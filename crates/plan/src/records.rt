@@ -15,8 +15,8 @@ pub(crate) fn put_body(bodies: &mut [f64], at: usize, file: &[u8])
     requires { (File.BODY ≤ length file.now) × (at + File.DOUBLES ≤ length bodies.old) }
     ensures { bodies.new ≡ paste bodies.old at (File.body_of file.now) File.DOUBLES }
 {
-    for i in 0..layout::DOUBLES {
-        bodies[at + i] = double_at(file, layout::NUMBERS + 8 * i);
+    for (i, x) in bodies[at..at + layout::DOUBLES].iter_mut().enumerate() {
+        *x = double_at(file, layout::NUMBERS + 8 * i);
     }
 }
 

@@ -20,6 +20,7 @@ use Rattle.plan.specs.declared.reader.Plan.{Plan}
 use Rattle.plan.specs.declared.reader.Tables.{Tables}
 use Rattle.plan.specs.declared.reader.Refused.{Refused}
 use Rattle.plan.specs.File.{read_number, Reading, empty_of, read_of, TABLE}
+use Rattle.report.specs.declared.text.Counts.{Counts}
 use Rattle.report.specs.Text.{Answer, Puts, report_of, room_of, report_length, report_out}
 use Rattle.report.specs.Pose.{Posed, step_of, shown_of, posed_after, posed_by, pose_of, ROOM, pose_length, pose_out, pose_scratch}
 use Rattle.report.proofs.Parts.{back, back-part}
@@ -45,29 +46,32 @@ module _ (plan : Plan) (scratch : List Float) (few : plan.tables.body_count ≤ 
     abbrev shown : List Float
     shown = take used (part ++ drop used plan.tables.bodies)
 
-    step-text : {answer : Answer} → answer ≡ shown_of s.outcome part
-        → report_of answer s.nonlinear s.linear ≡ (posed_after (step_of plan scratch)).text
-    step-text i = ap (λ (x : Answer). report_of x s.nonlinear s.linear) i ∙ ap (λ (t : Stepped). (posed_after t).text) stepped
+    module _ {counts : Counts} (counted : counts ≡ record { nonlinear = s.nonlinear; linear = s.linear }) where
+      step-text : {answer : Answer} → answer ≡ shown_of s.outcome part
+          → report_of answer counts.nonlinear counts.linear ≡ (posed_after (step_of plan scratch)).text
+      step-text {answer} i =
+          ap (λ (c : Counts). report_of answer c.nonlinear c.linear) counted ∙ ap (λ (x : Answer). report_of x s.nonlinear s.linear) i
+          ∙ ap (λ (t : Stepped). (posed_after t).text) stepped
 
-    module _ {out after : List ℕ} {r : ℕ} (room : ROOM ≤ length out) where
-      -- the report is of the bodies that the step left
-      pub accepted-step : {u : Unit {0}} → s.outcome ≡ Ok u → r ≡ report_length (Ok shown) s.nonlinear s.linear out
-          → after ≡ report_out (Ok shown) s.nonlinear s.linear out → Puts out 0 (posed_after (step_of plan scratch)).text after r
-      accepted-step e i h =
-          let b : shown ≡ part = back-part plan.tables.bodies plan.tables.body_count long few part kept in
-          let size : length shown ≡ used = ap length b ∙ back plan.tables.bodies plan.tables.body_count long few part kept in
-          let fit : room_of (Ok shown) ≤ length out = omega arith in
-          let way : Ok part ≡ shown_of s.outcome part = ap (λ (x : Result (Unit {0}) Refusal). shown_of x part) (sym e) in
-          puts-as (step-text (ap Ok b ∙ way)) (report-puts (Ok shown) s.nonlinear s.linear out fit i h)
+      module _ {out after : List ℕ} {r : ℕ} (room : ROOM ≤ length out) where
+        -- the report is of the bodies that the step left
+        pub accepted-step : {u : Unit {0}} → s.outcome ≡ Ok u → r ≡ report_length (Ok shown) counts.nonlinear counts.linear out
+            → after ≡ report_out (Ok shown) counts.nonlinear counts.linear out → Puts out 0 (posed_after (step_of plan scratch)).text after r
+        accepted-step e i h =
+            let b : shown ≡ part = back-part plan.tables.bodies plan.tables.body_count long few part kept in
+            let size : length shown ≡ used = ap length b ∙ back plan.tables.bodies plan.tables.body_count long few part kept in
+            let fit : room_of (Ok shown) ≤ length out = omega arith in
+            let way : Ok part ≡ shown_of s.outcome part = ap (λ (x : Result (Unit {0}) Refusal). shown_of x part) (sym e) in
+            puts-as (step-text (ap Ok b ∙ way)) (report-puts (Ok shown) counts.nonlinear counts.linear out fit i h)
 
-      -- or of its refusal
-      pub refused-step : {refusal : Refusal} → s.outcome ≡ Err refusal → {n : ℕ} → n ≡ number_of (Err refusal)
-          → r ≡ report_length (Err n) s.nonlinear s.linear out → after ≡ report_out (Err n) s.nonlinear s.linear out
-          → Puts out 0 (posed_after (step_of plan scratch)).text after r
-      refused-step {refusal} e {n} k i h =
-          let fit : room_of (Err n) ≤ length out = omega arith in
-          let way : Err (number_of (Err refusal)) ≡ shown_of s.outcome part = ap (λ (x : Result (Unit {0}) Refusal). shown_of x part) (sym e) in
-          puts-as (step-text (ap Err k ∙ way)) (report-puts (Err n) s.nonlinear s.linear out fit i h)
+        -- or of its refusal
+        pub refused-step : {refusal : Refusal} → s.outcome ≡ Err refusal → {n : ℕ} → n ≡ number_of (Err refusal)
+            → r ≡ report_length (Err n) counts.nonlinear counts.linear out → after ≡ report_out (Err n) counts.nonlinear counts.linear out
+            → Puts out 0 (posed_after (step_of plan scratch)).text after r
+        refused-step {refusal} e {n} k i h =
+            let fit : room_of (Err n) ≤ length out = omega arith in
+            let way : Err (number_of (Err refusal)) ≡ shown_of s.outcome part = ap (λ (x : Result (Unit {0}) Refusal). shown_of x part) (sym e) in
+            puts-as (step-text (ap Err k ∙ way)) (report-puts (Err n) counts.nonlinear counts.linear out fit i h)
 
 -- ---- a file
 posed-by : (file : List ℕ) (scratch : List Float) {reading : Reading} {empty : Tables} → reading ≡ read_of file empty → empty ≡ empty_of

@@ -51,10 +51,7 @@ fn step_and_report(plan: Plan, scratch: &mut [f64], out: &mut [u8]) -> usize
         plan.dt,
         scratch,
     );
-    let counts = Counts {
-        nonlinear: answer.nonlinear,
-        linear: answer.linear,
-    };
+    let counts = Counts::from(answer);
     match answer.outcome {
         Ok(()) => text::report(Ok(&bodies[..used]), counts, out),
         Err(refusal) => text::report(Err(refusal.number()), counts, out),

@@ -19,6 +19,17 @@ pub struct Counts {
     pub linear: usize,
 }
 
+impl From<step::Report> for Counts {
+    ghost from_gives = { λ answer counts. counts ≡ record { nonlinear = answer.nonlinear; linear = answer.linear } };
+
+    fn from(answer: step::Report) -> Counts {
+        Counts {
+            nonlinear: answer.nonlinear,
+            linear: answer.linear,
+        }
+    }
+}
+
 // Puts the report at the head of `out`, and answers its length. An accepted step has bodies, as many as there are records of
 // 26 doubles; a refusal has its number. Where `out` may be too short nothing is written, and the answer is 0.
 pub fn report(answer: Result<&[f64], usize>, counts: Counts, out: &mut [u8]) -> usize

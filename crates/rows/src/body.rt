@@ -57,7 +57,7 @@ struct Oriented {
 
 // The vector, if it is finite.
 #[tactic(auto, unfolding(crate::specs::Fault::try_finite))]
-pub(crate) fn finite(value: Vec3) -> Result<Vec3, CollisionError>
+pub fn finite(value: Vec3) -> Result<Vec3, CollisionError>
     ensures { result ≡ try_finite value }
 {
     if value.is_finite() {

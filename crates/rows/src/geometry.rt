@@ -436,11 +436,7 @@ impl Basis {
     ) -> Result<Option<EqualityRow>, CollisionError>
         ensures { listed result ≡ row_if locked (linear_row self.joint self.ends local_axis) }
     {
-        if !locked {
-            return Ok(None);
-        }
-        let row = self.linear_row(local_axis)?;
-        Ok(Some(row))
+        locked.then(|| self.linear_row(local_axis)).transpose()
     }
 
     // The Z axis of frame b. The aligning kinds refuse where the Z axes lead apart.
@@ -505,11 +501,7 @@ impl Basis {
     ) -> Result<Option<EqualityRow>, CollisionError>
         ensures { listed result ≡ row_if (swing_locked limit) (swing_row self.joint self.ends.frame_a r swing) }
     {
-        if limit == 0.0 {
-            let row = self.swing_row(r, swing)?;
-            return Ok(Some(row));
-        }
-        Ok(None)
+        (limit == 0.0).then(|| self.swing_row(r, swing)).transpose()
     }
 
     #[tactic(auto, using(arith::specs::Literals::literals), unfolding(crate::specs::Geometry::twist_row, arith::specs::Flow::and_then))]
@@ -531,11 +523,9 @@ impl Basis {
     fn twist_row_if(self, r: Relative, cone: Cone) -> Result<Option<EqualityRow>, CollisionError>
         ensures { listed result ≡ row_if (twist_locked cone) (twist_row self.joint self.ends.frame_a r cone.twist_lower) }
     {
-        if cone.twist_lower == cone.twist_upper {
-            let row = self.twist_row(r, cone.twist_lower)?;
-            return Ok(Some(row));
-        }
-        Ok(None)
+        (cone.twist_lower == cone.twist_upper)
+            .then(|| self.twist_row(r, cone.twist_lower))
+            .transpose()
     }
 
     fn write_linear(self, s: &mut [f64], at: usize, linear: Linear) -> Result<usize, CollisionError>

@@ -15,7 +15,7 @@ use Rattle.std.specs.Prelude.{Option, Some, None}
 use Rattle.std.proofs.lemmas.Option.{same_Some}
 use Rattle.arith.specs.Flow.{Turn, go, stop, turns, loop}
 use Rattle.arith.specs.FlowLaws.{turns_more, then-go, then-stop, loop-none, loop-more, loop-stop, loop-end, cond_yes}
-use Rattle.rows.specs.Region.{tab-at, tab-more}
+use Rattle.rows.specs.Region.{tab-at}
 use Rattle.solves.specs.declared.order.Ends.{Ends}
 use Rattle.solves.specs.declared.order.NoPath.{NoPath}
 use Rattle.solves.specs.declared.order.RowBlock.{RowBlock}
@@ -29,10 +29,6 @@ use Rattle.solves.specs.PathView.{Bodies, size_of, rows_of, BlockIn, Blocked, No
 -- an element of the first n
 pub list_at : (l : List ℕ) (n k : ℕ) → k < n → get_or l k 0 ≡ index (list_of_first l n) k
 list_at l n k h = sym (tab-at n (λ j. get_or l j 0) 0 k h)
-
--- one more
-pub list-more : (l : List ℕ) (k v : ℕ) → k < length l → list_of_first (set l k v) (k + 1) ≡ list_of_first l k ++ (v ∷ [])
-list-more l k v h = tab-more k (λ i q. get_or-set_other l k i v 0 (λ e. omega arith)) (get_or-set_same l k v 0 h)
 
 -- ---- path_blocks
 -- a write among the first n

@@ -25,6 +25,7 @@ use Rattle.solves.specs.View.{row_on, rows_on, masses_at, list_of_first, band_at
 use Rattle.solves.specs.DoesLaws.{goes_on, returns-if}
 use Rattle.solves.specs.ViewLaws.{kept-rows, kept-masses, row-in}
 use Rattle.solves.proofs.BlockLaws.{list_at}
+use Rattle.solves.proofs.OperatorLaws.{on-a, on-b}
 
 -- a place of the band, read
 pub cell_at : (s : List Float) (n i d : ℕ) → i < n → d < 12 → at s (PATH_BAND + 12 * i + d) ≡ band_cell (band_at s n) i d
@@ -41,11 +42,12 @@ cell-first s n i h =
 pub cross_at : {s : List Float} {ia ib order : List ℕ} {place n body-count : ℕ} → RowsAlong s ia ib order place n body-count
     → (i j : ℕ) → i < n → j < n
     → {a b : EqualityRow} {d : Result Float} → a ≡ row_on ia ib s place (get_or order i 0) → b ≡ row_on ia ib s place (get_or order j 0)
-    → d ≡ cross_mass a b (masses_at s MASSES body-count)
+    → ((m : ℕ) → a.a < m → a.b < m → d ≡ cross_mass a b (masses_at s MASSES m))
     → d ≡ cross_mass (row_in (rows_on ia ib s place n) (index (list_of_first order n) i)) (row_in (rows_on ia ib s place n) (index (list_of_first order n) j))
     (masses_at s MASSES body-count)
 cross_at {s} {ia} {ib} {order} {place} {n} {body-count} pre i j hi hj ea eb e =
-    e ∙ λ x. cross_mass (row-of i hi ea x) (row-of j hj eb x) (masses_at s MASSES body-count)
+    e body-count (on-a pre.rows (pre.along i hi) s ea) (on-b pre.rows (pre.along i hi) s ea)
+    ∙ λ x. cross_mass (row-of i hi ea x) (row-of j hj eb x) (masses_at s MASSES body-count)
   where
     row-of : (k : ℕ) → k < n → {row : EqualityRow} → row ≡ row_on ia ib s place (get_or order k 0)
         → row ≡ row_in (rows_on ia ib s place n) (index (list_of_first order n) k)

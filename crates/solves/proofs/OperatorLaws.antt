@@ -39,7 +39,7 @@ unfolding dot
 dot-is s a b n e h = h ∙ ap try_number (e ∙ ap (sum_products (vec_at s a n) (vec_at s b n)) (sym (tab-length n (λ k. at s (a + k)))))
 
 -- push_into
-module _ (s : List Float) (index : ℕ) (linear angular : Vec3) (value : Float) (body-count : ℕ) (h : index < body-count) (most : body-count ≤ BODIES_MOST)
+module _ (s : List Float) (index : ℕ) (linear angular : Vec3) (value : Float) (body-count : ℕ) (h : index < body-count) (most : index < BODIES_MOST)
     {body : Generalized} (eb : body ≡ generalized_at s GENERALIZED index) where
   in_list : body ≡ generalized_in (shares_in s body-count) index
   in_list = eb ∙ sym (tab-at body-count (generalized_at s GENERALIZED) no_generalized index h)
@@ -81,6 +81,15 @@ module _ (s : List Float) where
       (λ k h. ap finite_share (sym (tab-at n (generalized_at s GENERALIZED) no_generalized k h)))
       ∙ ap (λ (m : ℕ). every m (λ k. finite_share (generalized_in (shares_in s n) k))) (sym (tab-length n (generalized_at s GENERALIZED)))
 
+-- a row that was loaded is on bodies below body-count
+module _ {s : List Float} {ia ib : List ℕ} {place n body-count : ℕ} (pre : Rows s ia ib place n body-count) {k : ℕ} (h : k < n) (t : List Float)
+    {row : EqualityRow} (e : row ≡ row_on ia ib t place k) where
+  pub on-a : row.a < body-count
+  on-a = subst (λ (q : EqualityRow). q.a < body-count) (sym e) (pre.a-there k h)
+
+  pub on-b : row.b < body-count
+  on-b = subst (λ (q : EqualityRow). q.b < body-count) (sym e) (pre.b_there k h)
+
 -- transpose
 abbrev pub row_turn : List EqualityRow → List Float → ℕ → List Generalized → Result (List Generalized)
 row_turn rows values k out = push_row (row_in rows k) (at values k) out
@@ -105,8 +114,10 @@ module _ {z : List Float} {ia ib : List ℕ} {place n body-count : ℕ} (pre : R
       }
 
   pub transpose-again : {k : ℕ} {s t : List Float} {row : EqualityRow} {v : Float} → TransposeSo k s → k < n → row ≡ row_on ia ib s place k
-      → v ≡ at s (values + k) → Does Shares s t (checked (shares_in t body-count)) (checked (shares_in s body-count) >>= push_row row v) → TransposeSo (k + 1) t
-  transpose-again {k} {s} {t} {row} {v} inv h er ev d =
+      → v ≡ at s (values + k)
+      → ((m : ℕ) → row.a < m → row.b < m → Does Shares s t (checked (shares_in t m)) (checked (shares_in s m) >>= push_row row v)) → TransposeSo (k + 1) t
+  transpose-again {k} {s} {t} {row} {v} inv h er ev pushes =
+      let d = pushes body-count (on-a pre h s er) (on-b pre h s er) in
       let a : row ≡ row_in R k = row-in inv.kept ia ib place n k (λ i x y. omega arith) h er in
       let b : v ≡ at Vs k = vec_in inv.kept values n k (λ i x y. omega arith) h ev in
       record {
@@ -223,15 +234,6 @@ module _ {z : List Float} {ia ib : List ℕ} {place n body-count : ℕ} (pre : R
 -- a vector before the shares is a place for the operator
 pub place_of : {s : List Float} (place : ℕ) → RHS ≤ place → place + VECTOR ≤ GENERALIZED → END ≤ length s → VectorPlace s place
 place_of place h l w = record { low = h; apart = omega arith; there = omega arith }
-
--- a row that was loaded is on bodies below body-count
-module _ {s : List Float} {ia ib : List ℕ} {place n body-count : ℕ} (pre : Rows s ia ib place n body-count) {k : ℕ} (h : k < n) (t : List Float)
-    {row : EqualityRow} (e : row ≡ row_on ia ib t place k) where
-  pub on-a : row.a < body-count
-  on-a = subst (λ (q : EqualityRow). q.a < body-count) (sym e) (pre.a-there k h)
-
-  pub on-b : row.b < body-count
-  on-b = subst (λ (q : EqualityRow). q.b < body-count) (sym e) (pre.b_there k h)
 
 module _ {s : List Float} {ia ib : List ℕ} (table : Table) (pre : Rows s ia ib table.place table.rows table.bodies) (input out : ℕ) where
   abbrev body-count : ℕ

@@ -62,7 +62,7 @@ module _ {line : Line} (t : ℕ) where
   side-lies : (from : ℕ) → line ≡ side_line from → from + t < 96 → InLine line t
   side-lies from e l = subst (λ (x : Line). InLine x t) (sym e) (omega arith, omega arith)
 
-module _ {s : List Float} (n i : ℕ) {a b : Line} (whole : END ≤ length s) (most : n ≤ 96) (hi : i < n) where
+module _ {s : List Float} (i : ℕ) {a b : Line} (whole : END ≤ length s) (few : i < 96) where
   pub reduced-lie : (j from : ℕ) → j ≤ i → from ≡ i - 11 → a ≡ row_line i from → b ≡ row_line j from → LinesIn s a b (j - from)
   reduced-lie j from h ef ea eb = record {
     whole = whole;
@@ -77,6 +77,7 @@ module _ {s : List Float} (n i : ℕ) {a b : Line} (whole : END ≤ length s) (m
     second = λ t l. side-lies t from eb (omega arith);
   }
 
+module _ {s : List Float} (n i : ℕ) {a b : Line} (whole : END ≤ length s) (most : n ≤ 96) (hi : i < n) where
   pub backward-lie : (end : ℕ) → end ≡ min n (i + 12) → a ≡ column_line i (i + 1) → b ≡ side_line (i + 1) → LinesIn s a b (end - (i + 1))
   backward-lie end ee ea eb = record {
     whole = whole;
@@ -112,9 +113,9 @@ pub record Swept {A : Type 0} (P : ℕ → Type 0) (n : ℕ) (order : List ℕ) 
   pub turned : k ≤ n
   pub does : Does P s₀ s x defined
 
-swept-more : {A : Type 0} {P : ℕ → Type 0} {n k : ℕ} {order : List ℕ} {s₀ s t : List Float} {x y d e : A} → Swept P n order s₀ k s x d → k < n
-    → Does P s₀ t y e → Swept P n order s₀ (k + 1) t y e
-swept-more w h z = record { most = w.most; along = w.along; whole = omega arith; turned = omega arith; does = z }
+swept-more : {A : Type 0} {P : ℕ → Type 0} {n k k' : ℕ} {order : List ℕ} {s₀ s t : List Float} {x y d e : A} → Swept P n order s₀ k s x d → k' ≤ n
+    → Does P s₀ t y e → Swept P n order s₀ k' t y e
+swept-more w h z = record { most = w.most; along = w.along; whole = omega arith; turned = h; does = z }
 
 -- ---- forward
 module _ (n : ℕ) (order : List ℕ) (s₀ : List Float) where
@@ -162,7 +163,7 @@ module _ (n : ℕ) (order : List ℕ) (s₀ : List Float) where
         ⊘ (cell-first s n i h ∙ λ k. band_cell (band-is k) i 0) j)
 
     pub forwards-more : ForwardSo (i + 1) (set s (PATH_RHS + i) new)
-    forwards-more = swept-more inv h record {
+    forwards-more = swept-more inv (omega arith) record {
       kept = kept_then inv.does.kept (kept_set s (PATH_RHS + i) new) (λ j x. omega arith);
       is = vec-more s PATH_RHS i new (omega arith) ∙ ap (λ (x : Float). vec_at s PATH_RHS i ++ (x ∷ [])) new_is
           ∙ turns_more (forward_turn n O Sc Bd Re) i [] inv.does.is;
@@ -201,22 +202,25 @@ module _ (n : ℕ) (order : List ℕ) (s₀ : List Float) where
   Turned = backward_turn n O₁ Sc₁ Bd₁
 
   abbrev pub BackwardSo : ℕ → List Float → Type 0
-  BackwardSo k s = Swept Backs n order s₀ k s (back_at s n) (turns (backward_turn n (list_of_first order n) (vec_at s₀ PATH_SCALE n) (band_at s₀ n)) k
-      (back_at s₀ n))
+  BackwardSo left s = Swept Backs n order s₀ (n - left) s (back_at s n)
+      (turns (backward_turn n (list_of_first order n) (vec_at s₀ PATH_SCALE n) (band_at s₀ n)) (n - left) (back_at s₀ n))
 
-  pub backwards-none : END ≤ length s₀ → n ≤ 96 → Along order n → BackwardSo 0 s₀
+  pub backwards-none : END ≤ length s₀ → n ≤ 96 → Along order n → BackwardSo n s₀
   backwards-none w m a = record {
     most = m;
     along = a;
     whole = w;
     turned = omega arith;
-    does = record { kept = kept_refl _ s₀; is = turns-none Turned (back_at s₀ n) };
+    does = record {
+      kept = kept_refl _ s₀;
+      is = turns-none Turned (back_at s₀ n) ∙ ap (λ (k : ℕ). turns Turned k (back_at s₀ n)) (omega arith);
+    };
   }
 
-  module _ {k : ℕ} {s : List Float} (inv : BackwardSo k s) (h : k < n) {sum : Float}
-      (es : sum ≡ backward_sum n (band_at s n) (vec_at s PATH_RHS n) (n - 1 - k) (at s (PATH_RHS + (n - 1 - k)))) where
+  module _ {left : ℕ} {s : List Float} (inv : BackwardSo left s) (h : 0 < left) (few : left ≤ n) {sum : Float}
+      (es : sum ≡ backward_sum n (band_at s n) (vec_at s PATH_RHS n) (left - 1) (at s (PATH_RHS + (left - 1)))) where
     abbrev i : ℕ
-    i = n - 1 - k
+    i = left - 1
 
     i-there : i < n
     i-there = omega arith
@@ -269,15 +273,31 @@ module _ (n : ℕ) (order : List ℕ) (s₀ : List Float) where
     solution₂ = vec-set s₁ SOLUTION n m moved m-there (omega (arith, k₁.size))
         ∙ λ j. set (sol₁ j) (list_at order n i i-there j) (old-is j ⊕ value-is j ⊘ scale₁ j)
 
-    pub backwards-more : BackwardSo (k + 1) s₂
+    -- the turn at row i
+    abbrev turn : ℕ → Back
+    turn i =
+        let value : Float = backward_sum n Bd₁ (vec_at s PATH_RHS n) i (at (vec_at s PATH_RHS n) i) ⊘ band_cell Bd₁ i 0 in
+        record {
+          y = set (vec_at s PATH_RHS n) i value;
+          solution = set (vec_at s SOLUTION n) (index O₁ i) (at (vec_at s SOLUTION n) (index O₁ i) ⊕ value ⊘ at Sc₁ i);
+        }
+
+    turn-is : turn i ≡ Turned (n - left) (back_at s n)
     unfolding backward_turn
-    backwards-more = swept-more inv h record {
+    turn-is = ap turn (omega arith)
+
+    pub backwards-more : BackwardSo (left - 1) s₂
+    backwards-more = swept-more inv (omega arith) record {
       kept = kept_then (kept_then inv.does.kept k₁ (λ j x. backs-rhs j i (omega arith) x.0)) (kept_set s₁ (SOLUTION + m) moved)
           (λ j x. backs-solution j m (omega (arith, m-there)) x.1);
-      is = (λ j. record { y = y₂ j; solution = solution₂ j }) ∙ turns_more Turned k (back_at s₀ n) inv.does.is;
+      is = (λ j. record { y = y₂ j; solution = solution₂ j }) ∙ turn-is ∙ turns_more Turned (n - left) (back_at s₀ n) inv.does.is
+          ∙ ap (λ (k : ℕ). turns Turned k (back_at s₀ n)) (omega arith);
     }
 
-  pub backwards-end : {k : ℕ} {s : List Float} → BackwardSo k s → n ≤ k
+  pub backwards-end : {left : ℕ} {s : List Float} → BackwardSo left s → left ≤ 0
       → Does Backs s₀ s (vec_at s SOLUTION n) (backward n O₁ Sc₁ Bd₁ (vec_at s₀ PATH_RHS n) (vec_at s₀ SOLUTION n))
   unfolding backward
-  backwards-end inv b = record { kept = inv.does.kept; is = ap (λ (x : Back). x.solution) (turns-end Turned (back_at s₀ n) inv.turned b inv.does.is) }
+  backwards-end inv b = record {
+    kept = inv.does.kept;
+    is = ap (λ (x : Back). x.solution) (turns-end Turned (back_at s₀ n) inv.turned (omega arith) inv.does.is);
+  }

@@ -1,19 +1,20 @@
--- The path's walks: what `visit`, `walk`, `walks` and `path_order` leave is what Path defines over lists. By BlockLaws and the laws of loops.
+-- The path's walks: what `visit`, `walk`, `walks` and `path_order` leave is what Path defines over lists. By the laws of loops.
 use Prim.Native.Nat.{ℕ, zero, suc, ◌+◌, ◌-◌, ◌≤◌, ◌<◌}
 use mathlib.Core.Path.{◌≡◌, refl, sym, ◌∙◌, ap, subst}
 use mathlib.Core.Bool.{Bool, true, false, cond, not}
-use mathlib.Core.List.{List, [], ◌∷◌, ◌++◌, append_assoc, append-nil}
+use mathlib.Core.List.{List, [], ◌∷◌, ◌++◌}
 use native.Mathlib.Omega.{arith}
 use native.Mathlib.Decide.{dec_lt}
 use borrow.Author.Tests.{eq-eqb, ne_eqb}
+use borrow.Rule.Slice.PartMut.{put_mid, same_len_mid}
 use lib.Dec.{eqb}
 use lib.ListN.{length, get_or, set, replicate}
 use Rattle.std.specs.Prelude.{Option, Some, None}
 use Rattle.std.proofs.lemmas.List.Sums.{sum_by-cons}
-use Rattle.std.proofs.lemmas.List.{length-set, get_or-set_other, length-append, get_or_append_left, get_or-append_right}
-use Rattle.arith.specs.Flow.{Turn, go, stop, and_then, ◌>>=◌, tab, loop, return_if}
+use Rattle.std.proofs.lemmas.List.{places, length-append, get_or_append_left, get_or-append_right}
+use Rattle.arith.specs.Flow.{Turn, go, stop, and_then, ◌>>=◌, loop, return_if}
 use Rattle.arith.specs.FlowLaws.{then-go, then-stop, loop-none, loop-more, loop-stop, loop-end, cond_yes, cond_no}
-use Rattle.rows.specs.Region.{tab-length, tab-at, tab-more}
+use Rattle.rows.specs.Region.{tab-length, tab-at, tab-append, tab-ext}
 use Rattle.solves.specs.declared.order.Ends.{Ends}
 use Rattle.solves.specs.declared.order.NoPath.{NoPath}
 use Rattle.solves.specs.declared.order.RowBlock.{RowBlock}
@@ -24,44 +25,31 @@ use Rattle.solves.specs.View.{list_of_first}
 use Rattle.solves.specs.PathView.{size_of, rows_of, BlockIn, Blocked, Linked, EndsIn, Sound, Appended, Ordered}
 use Rattle.solves.specs.OrderView.{seen_of, room, Within, Free, Walked}
 use Rattle.solves.specs.DoesLaws.{goes_on, returns-if}
-use Rattle.solves.proofs.BlockLaws.{list-more}
 
 -- ---- visit
-run_none : (from : ℕ) → run from from ≡ []
-unfolding tab
-run_none from =
-    let e : from - from ≡ 0 = omega arith in
-    ap (λ (m : ℕ). tab m (λ k. from + k)) e
+-- `append`: the items, which are from..to, in the place of what stood from listed on
+module _ (before items : List ℕ) (listed from to : ℕ) {k : ℕ} (ek : k ≡ to - from) (room-there : listed + (to - from) ≤ length before)
+    (size : length items ≡ to - from) where
+  abbrev after : List ℕ
+  after = put_mid listed k before items
 
-run_more : (from i : ℕ) → from ≤ i → run from (i + 1) ≡ run from i ++ (i ∷ [])
-run_more from i h =
-    let e : i + 1 - from ≡ i - from + 1 = omega arith in
-    ap (λ (m : ℕ). tab m (λ k. from + k)) e ∙ tab-more (i - from) (λ k q. refl) (omega arith)
+  before-them : (j : ℕ) → j < listed → get_or after j 0 ≡ get_or before j 0
+  before-them j h = grind (arith, places)
 
-pub append-none : (rows : List ℕ) (listed from : ℕ) → Appended rows listed from from rows listed
-append-none rows listed from = record {
-  size = refl;
-  longer = omega arith;
-  is = sym (append-nil _) ∙ ap (λ (l : List ℕ). list_of_first rows listed ++ l) (sym (run_none from));
-  rest = λ j q. refl;
-}
+  among_them : (j : ℕ) → j < to - from → get_or after (listed + j) 0 ≡ get_or items j 0
+  among_them j h = grind (arith, places)
 
-pub append-more : {before rows : List ℕ} {listed from row r : ℕ} → Appended before listed from row rows r → from ≤ row → r < length rows
-    → Appended before listed from (row + 1) (set rows r row) (r + 1)
-append-more {before} {rows} {listed} {from} {row} {r} inv h l = record {
-  size = length-set rows r row ∙ inv.size;
-  longer = omega (arith, inv.longer);
-  is = list-more rows r row l ∙ ap (λ (x : List ℕ). x ++ (row ∷ [])) inv.is
-      ∙ append_assoc (list_of_first before listed) (run from row) (row ∷ [])
-      ∙ ap (λ (x : List ℕ). list_of_first before listed ++ x) (sym (run_more from row h));
-  rest = λ j q. get_or-set_other rows r j row 0 (λ e. omega arith) ∙ inv.rest j (omega arith);
-}
+  behind-them : (j : ℕ) → listed + (to - from) ≤ j → get_or after j 0 ≡ get_or before j 0
+  behind-them j h = grind (arith, places)
 
-pub append-ends : {before rows : List ℕ} {listed from row r : ℕ} (to : ℕ) → Appended before listed from row rows r → row ≤ to → to ≤ row
-    → Appended before listed from to rows r
-append-ends {before} {rows} {listed} {from} {row} {r} to inv a b =
-    let same : row ≡ to = omega arith in
-    subst (λ (m : ℕ). Appended before listed from m rows r) same inv
+  pub append-is : ((j : ℕ) → j < to - from → get_or items j 0 ≡ from + j) → Appended before listed from to after (listed + (to - from))
+  append-is each = record {
+    size = same_len_mid listed k before items (grind (arith, places));
+    longer = refl;
+    is = tab-append listed (to - from) (λ j. get_or after j 0)
+        ∙ λ i. tab-ext listed before-them i ++ tab-ext (to - from) (λ j h. among_them j h ∙ each j h) i;
+    rest = behind-them;
+  }
 
 pub visit-is : (before : Searched) {rows : List ℕ} {r : ℕ} (k : ℕ) (block : RowBlock) → Appended before.rows before.listed block.start block.end rows r
     → ◌≡◌ {A = Seen} (record { order = list_of_first rows r; visited = set before.visited k true }) (visit k block (seen_of before))

@@ -61,11 +61,11 @@ pub record Noted (table : List RowBlock) (number : ℕ) (defined : List RowBlock
   pub number_is : number ≡ length defined
   pub is : take number table ≡ defined
 
--- `append`, when it is at `row`: the rows from..row stand behind those listed before, and behind them the table is as it was
-pub record Appended (before : List ℕ) (listed from row : ℕ) (after : List ℕ) (r : ℕ) : Type 0 where
+-- `append`: the rows from..to stand behind those listed before, and behind them the table is as it was
+pub record Appended (before : List ℕ) (listed from to : ℕ) (after : List ℕ) (r : ℕ) : Type 0 where
   pub size : length after ≡ length before
-  pub longer : r ≡ listed + (row - from)
-  pub is : list_of_first after r ≡ list_of_first before listed ++ run from row
+  pub longer : r ≡ listed + (to - from)
+  pub is : list_of_first after r ≡ list_of_first before listed ++ run from to
   pub rest : (j : ℕ) → r ≤ j → get_or after j 0 ≡ get_or before j 0
 
 -- `path_order` of n rows: a path's order lists n rows below n, and behind them its table is 0

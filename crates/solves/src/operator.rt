@@ -1,7 +1,6 @@
 // `dot`, `transpose`, `operator` and `cross_mass` of solver.rs.
-ghost use Rattle.std.specs.Prelude.{◌≡◌, ◌+◌, ◌≤◌, ◌<◌, length};
+ghost use Rattle.std.specs.Prelude.{◌≡◌, ◌+◌, ◌≤◌, ◌<◌, length, ℕ};
 ghost use Rattle.arith.specs.Flow.{leaving};
-ghost use Rattle.rows.specs.Fault.{try_finite};
 ghost use Rattle.solves.specs.Answer.{Pushes};
 ghost use Rattle.solves.specs.Region.{vec_at, Does};
 ghost use Rattle.solves.specs.Solver.{try_number, sum_products, dot as dot_of, tolerance_for, push_into, push_row, transpose as transpose_of};
@@ -17,22 +16,12 @@ use crate::places::{Generalized, MassResponse, load_generalized, load_mass, stor
 use arith::fault::CollisionError;
 use arith::number;
 use arith::root::sqrt;
+use rows::body::finite;
 use rows::geometry::{EqualityRow, clear};
 use vectors::vector::Vec3;
 
-// A vector, if it is finite.
-#[tactic(auto, unfolding(rows::specs::Fault::try_finite))]
-fn finite(value: Vec3) -> Result<Vec3, CollisionError>
-    ensures { result ≡ try_finite value }
-{
-    if !value.is_finite() {
-        return Err(CollisionError::ArithmeticOverflow);
-    }
-    Ok(value)
-}
-
-// And a number.
-fn finite_number(value: f64) -> Result<f64, CollisionError>
+// A number, if it is finite.
+pub fn finite_number(value: f64) -> Result<f64, CollisionError>
     ensures { result ≡ try_number value }
 {
     if !number::is_finite(value) {
@@ -77,30 +66,23 @@ fn pushed(body: Generalized, linear: Vec3, angular: Vec3, value: f64) -> General
     }
 }
 
-fn push_into(
-    s: &mut [f64],
-    index: usize,
-    linear: Vec3,
-    angular: Vec3,
-    value: f64,
-    body_count: usize,
-)
-    requires { (END ≤ length s.old) × (index < body_count) × (body_count ≤ BODIES_MOST) }
-    ensures { Does Shares s.old s.new (checked (shares_in s.new body_count))
-        (checked_then (push_into index linear angular value) (shares_in s.old body_count)) }
+fn push_into(s: &mut [f64], index: usize, linear: Vec3, angular: Vec3, value: f64)
+    requires { (END ≤ length s.old) × (index < BODIES_MOST) }
+    ensures { (n : ℕ) → index < n → Does Shares s.old s.new (checked (shares_in s.new n))
+        (checked_then (push_into index linear angular value) (shares_in s.old n)) }
 {
     let body = load_generalized(s, GENERALIZED, index);
     let share = pushed(body, linear, angular, value);
     store_generalized(s, GENERALIZED, index, share);
 }
 
-fn push_row(s: &mut [f64], row: EqualityRow, value: f64, body_count: usize)
-    requires { (END ≤ length s.old) × (row.a < body_count) × (row.b < body_count) × (body_count ≤ BODIES_MOST) }
-    ensures { Does Shares s.old s.new (checked (shares_in s.new body_count))
-        (checked_then (push_row row value) (shares_in s.old body_count)) }
+fn push_row(s: &mut [f64], row: EqualityRow, value: f64)
+    requires { (END ≤ length s.old) × (row.a < BODIES_MOST) × (row.b < BODIES_MOST) }
+    ensures { (n : ℕ) → row.a < n → row.b < n → Does Shares s.old s.new (checked (shares_in s.new n))
+        (checked_then (push_row row value) (shares_in s.old n)) }
 {
-    push_into(s, row.a, row.linear_a, row.angular_a, value, body_count);
-    push_into(s, row.b, row.linear_b, row.angular_b, value, body_count);
+    push_into(s, row.a, row.linear_a, row.angular_a, value);
+    push_into(s, row.b, row.linear_b, row.angular_b, value);
 }
 
 // Whether every body's share is finite.
@@ -157,7 +139,7 @@ impl Rows<'_> {
         for k in 0..self.count() {
             let row = self.load(s, k);
             let value = s[values + k];
-            push_row(s, row, value, self.bodies);
+            push_row(s, row, value);
         }
         if !shares_finite(s, self.bodies) {
             return Err(CollisionError::ArithmeticOverflow);
@@ -207,7 +189,6 @@ fn through(mass: MassResponse, al: Vec3, aa: Vec3, bl: Vec3, ba: Vec3) -> f64
 // One end of row a, on body `ai`, against one end of row b: nothing where that is on another body.
 fn add_through(
     s: &[f64],
-    body_count: usize,
     value: f64,
     ai: usize,
     al: Vec3,
@@ -216,8 +197,8 @@ fn add_through(
     bl: Vec3,
     ba: Vec3,
 ) -> f64
-    requires { (END ≤ length s.now) × (ai < body_count) × (body_count ≤ BODIES_MOST) }
-    ensures { result ≡ add_through (masses_at s.now MASSES body_count) ai al aa bi bl ba value }
+    requires { (END ≤ length s.now) × (ai < BODIES_MOST) }
+    ensures { (n : ℕ) → ai < n → result ≡ add_through (masses_at s.now MASSES n) ai al aa bi bl ba value }
 {
     if ai == bi {
         let mass = load_mass(s, MASSES, ai);
@@ -228,52 +209,19 @@ fn add_through(
 
 // One end of row a against both ends of row b.
 #[tactic(auto, unfolding(crate::specs::Solver::cross_end))]
-fn cross_end(
-    s: &[f64],
-    body_count: usize,
-    value: f64,
-    ai: usize,
-    al: Vec3,
-    aa: Vec3,
-    b: EqualityRow,
-) -> f64
-    requires { (END ≤ length s.now) × (ai < body_count) × (body_count ≤ BODIES_MOST) }
-    ensures { result ≡ cross_end (masses_at s.now MASSES body_count) ai al aa b value }
+fn cross_end(s: &[f64], value: f64, ai: usize, al: Vec3, aa: Vec3, b: EqualityRow) -> f64
+    requires { (END ≤ length s.now) × (ai < BODIES_MOST) }
+    ensures { (n : ℕ) → ai < n → result ≡ cross_end (masses_at s.now MASSES n) ai al aa b value }
 {
-    let half = add_through(
-        s,
-        body_count,
-        value,
-        ai,
-        al,
-        aa,
-        b.a,
-        b.linear_a,
-        b.angular_a,
-    );
-    add_through(
-        s,
-        body_count,
-        half,
-        ai,
-        al,
-        aa,
-        b.b,
-        b.linear_b,
-        b.angular_b,
-    )
+    let half = add_through(s, value, ai, al, aa, b.a, b.linear_a, b.angular_a);
+    add_through(s, half, ai, al, aa, b.b, b.linear_b, b.angular_b)
 }
 
 // The entry of the rows' Schur matrix.
-pub(crate) fn cross_mass(
-    s: &[f64],
-    a: EqualityRow,
-    b: EqualityRow,
-    body_count: usize,
-) -> Result<f64, CollisionError>
-    requires { (END ≤ length s.now) × (a.a < body_count) × (a.b < body_count) × (body_count ≤ BODIES_MOST) }
-    ensures { result ≡ cross_mass a b (masses_at s.now MASSES body_count) }
+pub(crate) fn cross_mass(s: &[f64], a: EqualityRow, b: EqualityRow) -> Result<f64, CollisionError>
+    requires { (END ≤ length s.now) × (a.a < BODIES_MOST) × (a.b < BODIES_MOST) }
+    ensures { (n : ℕ) → a.a < n → a.b < n → result ≡ cross_mass a b (masses_at s.now MASSES n) }
 {
-    let half = cross_end(s, body_count, 0.0, a.a, a.linear_a, a.angular_a, b);
-    finite_number(cross_end(s, body_count, half, a.b, a.linear_b, a.angular_b, b))
+    let half = cross_end(s, 0.0, a.a, a.linear_a, a.angular_a, b);
+    finite_number(cross_end(s, half, a.b, a.linear_b, a.angular_b, b))
 }

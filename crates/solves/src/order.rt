@@ -106,12 +106,11 @@ fn append(rows: &mut Order, listed: usize, block: RowBlock) -> usize
     requires { (block.start ≤ block.end) × (listed + (block.end - block.start) ≤ 96) }
     ensures { Appended rows.old listed block.start block.end rows.new result }
 {
-    let mut listed = listed;
-    for row in block.start..block.end {
-        rows[listed] = row;
-        listed += 1;
+    let size = block.end - block.start;
+    for (k, row) in rows[listed..listed + size].iter_mut().enumerate() {
+        *row = block.start + k;
     }
-    listed
+    listed + size
 }
 
 impl Seen {

@@ -1,6 +1,6 @@
 // `path_solve` of solver.rs, along an order of the rows (`order`). A path's Schur matrix is block tridiagonal once its rows
 // are ordered along the path, so that a Cholesky factor of band 12 solves it.
-ghost use Rattle.std.specs.Prelude.{◌≡◌, ◌+◌, ◌-◌, ◌≤◌, ◌<◌, min, length};
+ghost use Rattle.std.specs.Prelude.{◌≡◌, ◌+◌, ◌-◌, ◌≤◌, ◌<◌, min, length, ℕ};
 ghost use Rattle.arith.specs.Flow.{leaving};
 ghost use Rattle.arith.specs.Run.{up_to};
 ghost use Rattle.rows.specs.Fault.{NonConvergent};
@@ -107,7 +107,7 @@ fn cross_at(s: &[f64], path: &Path, i: usize, j: usize) -> Result<f64, Collision
 {
     let a = path.rows.load(s, path.order[i]);
     let b = path.rows.load(s, path.order[j]);
-    cross_mass(s, a, b, path.rows.bodies)
+    cross_mass(s, a, b)
 }
 
 fn path_scale(s: &mut [f64], path: &Path) -> Result<(), CollisionError>
@@ -126,9 +126,9 @@ fn path_scale(s: &mut [f64], path: &Path) -> Result<(), CollisionError>
 }
 
 // The entry less the products of the columns before it.
-fn reduced(s: &[f64], entry: f64, i: usize, j: usize, n: usize) -> f64
-    requires { (END ≤ length s.now) × (n ≤ 96) × (i < n) × (j ≤ i) × (i ≤ j + 11) }
-    ensures { result ≡ reduced_of (band_at s.now n) i j entry }
+fn reduced(s: &[f64], entry: f64, i: usize, j: usize) -> f64
+    requires { (END ≤ length s.now) × (i < 96) × (j ≤ i) × (i ≤ j + 11) }
+    ensures { (n : ℕ) → i < n → result ≡ reduced_of (band_at s.now n) i j entry }
 {
     let from = band_start(i);
     less_products(s, entry, Line::row(i, from), Line::row(j, from), j - from)
@@ -139,13 +139,7 @@ fn path_entry(s: &mut [f64], path: &Path, i: usize, j: usize) -> Result<(), Coll
     ensures { Bands s.old s.new path.now result (λ rows masses order scale. path_entry rows masses order scale i j) }
 {
     let entry = cross_at(s, path, i, j)?;
-    let value = reduced(
-        s,
-        entry / (s[PATH_SCALE + i] * s[PATH_SCALE + j]),
-        i,
-        j,
-        path.rows.count(),
-    );
+    let value = reduced(s, entry / (s[PATH_SCALE + i] * s[PATH_SCALE + j]), i, j);
     if j == i {
         if !is_finite(value) || value <= 0.0 {
             return Err(CollisionError::NonConvergent);
@@ -179,9 +173,9 @@ fn path_factor(s: &mut [f64], path: &Path) -> Result<(), CollisionError>
     Ok(())
 }
 
-fn forward_sum(s: &[f64], start: f64, i: usize, n: usize) -> f64
-    requires { (END ≤ length s.now) × (n ≤ 96) × (i < n) }
-    ensures { result ≡ forward_sum (band_at s.now n) (vec_at s.now PATH_RHS i) i start }
+fn forward_sum(s: &[f64], start: f64, i: usize) -> f64
+    requires { (END ≤ length s.now) × (i < 96) }
+    ensures { (n : ℕ) → i < n → result ≡ forward_sum (band_at s.now n) (vec_at s.now PATH_RHS i) i start }
 {
     let from = band_start(i);
     less_products(s, start, Line::row(i, from), Line::side(from), i - from)
@@ -195,7 +189,7 @@ fn forward(s: &mut [f64], path: &Path)
     let n = path.rows.count();
     for i in 0..n {
         let start = s[RESIDUAL + path.order[i]] / s[PATH_SCALE + i];
-        let value = forward_sum(s, start, i, n);
+        let value = forward_sum(s, start, i);
         s[PATH_RHS + i] = value / s[PATH_BAND + BAND_WIDTH * i];
     }
 }
@@ -231,8 +225,7 @@ fn backward(s: &mut [f64], path: &Path)
         (sweep s.old path.now backward_of (vec_at s.old PATH_RHS (count_of path.now.rows)) (solution_at s.old path.now.rows)) }
 {
     let n = path.rows.count();
-    for k in 0..n {
-        let i = n - 1 - k;
+    for i in (0..n).rev() {
         let value = backward_sum(s, s[PATH_RHS + i], i, n) / s[PATH_BAND + BAND_WIDTH * i];
         s[PATH_RHS + i] = value;
         let at = SOLUTION + path.order[i];

@@ -5,11 +5,12 @@ use Rattle.std.proofs.Math.Decide.{ℕ_discrete}
 use Rattle.std.specs.Float.{nan}
 use Rattle.rows.specs.declared.body.BodyState.{BodyState}
 use Rattle.rows.specs.declared.body.MomentumBody.{MomentumBody}
+use Rattle.rows.specs.Body.{state_with}
 use Rattle.rows.specs.View.{vec3_at, Out, Kept}
 use Rattle.rows.specs.Region.{kept_set, kept_refl, kept_then, kept_more, kept-vec3}
 use Rattle.step.specs.Layout.{CANDIDATE}
 use Rattle.step.specs.Records.{mat_at}
-use Rattle.step.specs.View.{cols_of, Moving, Fixed, moving_at, moving_of, fixed_at, fixed_of, body_from, held_of, state_at, Handed}
+use Rattle.step.specs.View.{cols_of, Fixed, fixed_at, fixed_of, body_from, held_of, state_at, Handed}
 use Rattle.step.specs.ViewLaws.{kept-quat, kept-mat, kept-state}
 
 -- store_fixed
@@ -33,16 +34,16 @@ stored-fixed {s} {t} {u} i body h x y = (
 
 -- store_start
 pub stored-start : {s t u : List Float} (i : ℕ) (body : MomentumBody)
-    → (Kept (λ j. Out i 13 j) s t) × (moving_at t i ≡ moving_of body)
+    → (Kept (λ j. Out i 13 j) s t) × (state_at t i ≡ state_with body.center body.rotation body.momentum body.spin)
     → (Kept (λ j. Out (i + 13) 13 j) t u) × (fixed_at u (i + 13) ≡ fixed_of body)
     → (Kept (λ j. Out i 26 j) s u) × (body_from u i i ≡ held_of body)
 stored-start {s} {t} {u} i body x y = (
   kept_then (kept_more x.0 (λ j q. omega arith)) y.0 (λ j q. omega arith),
   λ j. record {
-    center = (kept-vec3 y.0 i (λ k h l. omega arith) ∙ ap (λ (m : Moving). m.center) x.1) j;
-    rotation = (kept-quat y.0 (i + 3) (λ k h l. omega arith) ∙ ap (λ (m : Moving). m.rotation) x.1) j;
-    momentum = (kept-vec3 y.0 (i + 7) (λ k h l. omega arith) ∙ ap (λ (m : Moving). m.momentum) x.1) j;
-    spin = (kept-vec3 y.0 (i + 10) (λ k h l. omega arith) ∙ ap (λ (m : Moving). m.spin) x.1) j;
+    center = (kept-vec3 y.0 i (λ k h l. omega arith) ∙ ap (λ (m : BodyState). m.origin) x.1) j;
+    rotation = (kept-quat y.0 (i + 3) (λ k h l. omega arith) ∙ ap (λ (m : BodyState). m.rotation) x.1) j;
+    momentum = (kept-vec3 y.0 (i + 7) (λ k h l. omega arith) ∙ ap (λ (m : BodyState). m.linear_velocity) x.1) j;
+    spin = (kept-vec3 y.0 (i + 10) (λ k h l. omega arith) ∙ ap (λ (m : BodyState). m.angular_velocity) x.1) j;
     mass = ap (λ (m : Fixed). m.mass) y.1 j;
     center_of_mass = (ap (vec3_at u) shift ∙ ap (λ (m : Fixed). m.center-of-mass) y.1) j;
     inverse_inertia = (ap (mat_at u) shift-mat ∙ ap (λ (m : Fixed). m.inverse-inertia) y.1) j;

@@ -7,7 +7,7 @@ use native.Mathlib.Omega.{arith}
 use lib.ListN.{length, set}
 use lib.Ieee as Ieee
 use lib.Ieee.{Float}
-use Rattle.arith.specs.Real.{◌⊕◌, ◌⊘◌, is_finite, abs_of}
+use Rattle.arith.specs.Real.{◌⊕◌, ◌⊘◌, abs_of}
 use Rattle.arith.specs.Flow.{go, stop, tab, each, every}
 use Rattle.arith.specs.FlowLaws.{each_more}
 use Rattle.vectors.specs.declared.vector.Vec3.{Vec3}
@@ -18,17 +18,16 @@ use Rattle.rows.specs.declared.body.RigidBody.{RigidBody}
 use Rattle.rows.specs.declared.body.BodyState.{BodyState}
 use Rattle.rows.specs.declared.body.MomentumBody.{MomentumBody}
 use Rattle.rows.specs.declared.geometry.EqualityRow.{EqualityRow}
-use Rattle.rows.specs.Fault.{CollisionError, ArithmeticOverflow, Result}
+use Rattle.rows.specs.Fault.{CollisionError, Result}
 use Rattle.rows.specs.Body.{new_of, state_with, state_of}
 use Rattle.rows.specs.View.{at, Out, Kept}
-use Rattle.rows.specs.Region.{tab-length, tab-ext, tab-at, kept_refl, kept_set, kept_then, kept_more}
+use Rattle.rows.specs.Region.{tab-length, tab-ext, tab-at, kept_refl, kept_then, kept_more}
 use Rattle.rows.specs.Laws.Results.{go_same, step}
 use Rattle.solves.specs.declared.places.Generalized.{Generalized}
 use Rattle.solves.specs.declared.places.MassResponse.{MassResponse}
 use Rattle.solves.specs.Region.{vec_at, Filled, Does}
 use Rattle.solves.specs.RegionLaws.{vec-at, filled-vec, filled_more}
 use Rattle.solves.specs.Solver.{row_in, generalized_in, try_number}
-use Rattle.solves.specs.DoesLaws.{number-yes, number-no}
 use Rattle.solves.specs.Layout.{MASS_TABLE}
 use Rattle.solves.specs.View.{ROWS, MASSES, RHS, SOLUTION, GENERALIZED, row_on, rows_on, generalized_at, generalizeds_at, mass_of, mass_at, masses_at, Beside}
 use Rattle.solves.specs.View.{no_row}
@@ -233,25 +232,27 @@ module _ (n : ℕ) (s₀ : List Float) where
   pub sum-none : Summed 0 s₀
   sum-none = so-none (λ s k. at s (IMPULSES + k)) sum s₀
 
-  module _ (k : ℕ) (s : List Float) (so : Summed k s) (h : k < n) (l : n ≤ 96) (g : IMPULSES + k < length s) {b : Bool}
-      (e : b ≡ is_finite (at s (IMPULSES + k) ⊕ at s (SOLUTION + k))) where
+  module _ (k : ℕ) (s : List Float) (so : Summed k s) (h : k < n) (l : n ≤ 96) where
     sum_is : at s (IMPULSES + k) ⊕ at s (SOLUTION + k) ≡ at (vec_at s₀ IMPULSES n) k ⊕ at (vec_at s₀ SOLUTION n) k
     sum_is =
         let x : at s (IMPULSES + k) ≡ at (vec_at s₀ IMPULSES n) k = so.kept.same (IMPULSES + k) (omega arith) ∙ vec-at s₀ IMPULSES n k h in
         let y : at s (SOLUTION + k) ≡ at (vec_at s₀ SOLUTION n) k = so.kept.same (SOLUTION + k) (omega arith) ∙ vec-at s₀ SOLUTION n k h in
         cc
 
-    pub sum-again : b ≡ true → Summed (k + 1) (set s (IMPULSES + k) (at s (IMPULSES + k) ⊕ at s (SOLUTION + k)))
-    sum-again q = so-put IMPULSES sum s₀ k s so (λ i. Out IMPULSES (k + 1) i) (λ i x. omega arith) _ (λ i x. omega arith) g (number-yes sum_is e q)
+    sum-turn : try_number (at s (IMPULSES + k) ⊕ at s (SOLUTION + k)) ≡ sum k
+    sum-turn = ap (λ (v : Float). try_number v) sum_is
 
-    pub sum-stops : b ≡ false
-        → Does (Beside IMPULSES) s₀ (set s (IMPULSES + k) (at s (IMPULSES + k) ⊕ at s (SOLUTION + k))) (stop ArithmeticOverflow)
-        (add_impulses (vec_at s₀ IMPULSES n) (vec_at s₀ SOLUTION n))
+    pub sum-again : {v : Float} → IMPULSES + k < length s → go v ≡ try_number (at s (IMPULSES + k) ⊕ at s (SOLUTION + k))
+        → Summed (k + 1) (set s (IMPULSES + k) v)
+    sum-again {v} g e = so-put IMPULSES sum s₀ k s so (λ i. Out IMPULSES (k + 1) i) (λ i x. omega arith) v (λ i x. omega arith) g (e ∙ sum-turn)
+
+    pub sum-stops : {f : CollisionError} → stop f ≡ try_number (at s (IMPULSES + k) ⊕ at s (SOLUTION + k))
+        → Does (Beside IMPULSES) s₀ s (stop f) (add_impulses (vec_at s₀ IMPULSES n) (vec_at s₀ SOLUTION n))
     unfolding add_impulses
-    sum-stops q =
+    sum-stops e =
         so-stop (λ s k. at s (IMPULSES + k)) sum s₀ k s so (Beside IMPULSES) (λ i x. omega arith)
         (sym (tab-length n (λ j. at s₀ (IMPULSES + j)))) h
-        (kept_set s (IMPULSES + k) _) (λ i x. omega arith) (number-no sum_is e q)
+        (kept_refl (Beside IMPULSES) s) (λ i x. x) (e ∙ sum-turn)
 
   pub sum-ends : {k : ℕ} {s : List Float} → Summed k s → k ≤ n → n ≤ k → n ≤ 96
       → Does (Beside IMPULSES) s₀ s (go (vec_at s IMPULSES n)) (add_impulses (vec_at s₀ IMPULSES n) (vec_at s₀ SOLUTION n))

@@ -2,7 +2,7 @@
 use Rattle.std.specs.Prelude.{ℕ, ◌+◌, ◌*◌, ◌^◌, ◌≤◌, ◌<◌, ◌≡◌, refl, Bool, true, false, Option, Some, List, length, set, Float}
 use Rattle.std.proofs.Common.{sym, ◌∙◌, ap, subst, arith}
 use lib.Ieee as Ieee
-use Rattle.arith.specs.Real.{ratio, is_finite, abs_of, ◌⊕◌}
+use Rattle.arith.specs.Real.{ratio, abs_of, ◌⊕◌}
 use Rattle.arith.specs.Flow.{Turn, go, stop, ◌>>=◌, each, every}
 use Rattle.arith.specs.FlowLaws.{then-go, then-stop}
 use Rattle.arith.specs.Run.{try, again, leave_if, ◌>>=◌ as ◌>>=ʳ◌}
@@ -10,20 +10,20 @@ use Rattle.vectors.specs.declared.vector.Vec3.{Vec3}
 use Rattle.vectors.specs.Vector.{dot_of, div_of}
 use Rattle.rows.specs.declared.body.MomentumBody.{MomentumBody}
 use Rattle.rows.specs.declared.geometry.EqualityRow.{EqualityRow}
-use Rattle.rows.specs.Fault.{CollisionError, ArithmeticOverflow, Result}
+use Rattle.rows.specs.Fault.{CollisionError, Result}
 use Rattle.rows.specs.Body.{omega_of, kick_of}
 use Rattle.rows.specs.View.{at, Out, Kept}
 use Rattle.rows.specs.Region.{tab-length, kept_refl, kept_set}
 use Rattle.solves.specs.declared.joined.Rows.{Rows}
 use Rattle.solves.specs.declared.places.Generalized.{Generalized}
-use Rattle.solves.specs.Solver.{row_in, generalized_in, transpose}
+use Rattle.solves.specs.Solver.{row_in, generalized_in, try_number, transpose}
 use Rattle.solves.specs.Search.{linear_solve}
 use Rattle.solves.specs.Region.{vec_at, Does}
 use Rattle.solves.specs.RegionLaws.{vec-at}
 use Rattle.solves.specs.View.{RHS, GENERALIZED, Shares, Beside, row_on, generalized_at, generalizeds_at, shares_in}
 use Rattle.solves.specs.View.{count_of, table_of, system_at, rhs_at, solution_at}
 use Rattle.solves.specs.ViewLaws.{row-in, share_in, system-kept}
-use Rattle.solves.specs.DoesLaws.{number-yes, number-no, does-stop, does-then, does-is, does-more}
+use Rattle.solves.specs.DoesLaws.{does-stop, does-then, does-is, does-more}
 use Rattle.step.specs.declared.passes.Counts.{Counts}
 use Rattle.step.specs.declared.velocity.Motion.{Motion}
 use Rattle.step.specs.Layout.{CANDIDATE, STATES}
@@ -50,23 +50,16 @@ module _ (row : EqualityRow) (x y : MomentumBody) {a b : Motion} (ma : MotionOf 
     unfolding velocity_of
     rate-without-b h = then-stop _ (h ∙ mb.angular-is) ∙ then-go _ (ha ∙ ma.angular-is)
 
-    module _ {wb : Vec3} (hb : go wb ≡ b.angular) {p q r s : Float} {t : Bool}
-        (ep : p ≡ dot_of row.linear_a a.linear) (eq : q ≡ dot_of row.angular_a wa)
-        (er : r ≡ dot_of row.linear_b b.linear) (es : s ≡ dot_of row.angular_b wb) (et : t ≡ is_finite (p ⊕ q ⊕ r ⊕ s)) where
-      total : p ⊕ q ⊕ r ⊕ s ≡ dot_of row.linear_a (div_of x.momentum x.mass) ⊕ dot_of row.angular_a wa
-          ⊕ dot_of row.linear_b (div_of y.momentum y.mass) ⊕ dot_of row.angular_b wb
-      total =
-          let va = ma.linear-is in
-          let vb = mb.linear-is in
-          cc
-
-      pub rate-finite : t ≡ true → go (p ⊕ q ⊕ r ⊕ s) ≡ velocity_of row x y
-      unfolding velocity_of
-      rate-finite h = number-yes total et h ∙ then-go _ (hb ∙ mb.angular-is) ∙ then-go _ (ha ∙ ma.angular-is)
-
-      pub rate-not-finite : t ≡ false → stop ArithmeticOverflow ≡ velocity_of row x y
-      unfolding velocity_of
-      rate-not-finite h = number-no total et h ∙ then-go _ (hb ∙ mb.angular-is) ∙ then-go _ (ha ∙ ma.angular-is)
+    pub rate-tried : {wb : Vec3} → go wb ≡ b.angular → {p q r s : Float} {rate : Result Float}
+        → p ≡ dot_of row.linear_a a.linear → q ≡ dot_of row.angular_a wa → r ≡ dot_of row.linear_b b.linear → s ≡ dot_of row.angular_b wb
+        → rate ≡ try_number (p ⊕ q ⊕ r ⊕ s) → rate ≡ velocity_of row x y
+    unfolding velocity_of
+    rate-tried {wb} hb {p} {q} {r} {s} ep eq er es e =
+        let va = ma.linear-is in
+        let vb = mb.linear-is in
+        let total : p ⊕ q ⊕ r ⊕ s ≡ dot_of row.linear_a (div_of x.momentum x.mass) ⊕ dot_of row.angular_a wa
+        ⊕ dot_of row.linear_b (div_of y.momentum y.mass) ⊕ dot_of row.angular_b wb = cc in
+        e ∙ ap (λ (v : Float). try_number v) total ∙ then-go _ (hb ∙ mb.angular-is) ∙ then-go _ (ha ∙ ma.angular-is)
 
 -- motion_of
 pub motion-made : {s : List Float} {k : ℕ} {body : MomentumBody} {linear : Vec3} {angular : Result Vec3} → body ≡ candidate_at s k

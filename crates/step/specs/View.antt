@@ -3,7 +3,6 @@
 use Rattle.std.specs.Prelude.{ℕ, ◌+◌, ◌*◌, ◌<◌, ◌≡◌, List, [], Float}
 use Rattle.arith.specs.Flow.{tab}
 use Rattle.vectors.specs.declared.vector.Vec3.{Vec3}
-use Rattle.vectors.specs.declared.quaternion.Quat.{Quat}
 use Rattle.vectors.specs.declared.matrix.Mat3.{Mat3}
 use Rattle.vectors.specs.Matrix.{from_cols, column_of}
 use Rattle.rows.specs.declared.body.RigidBody.{RigidBody}
@@ -25,13 +24,7 @@ no_record = record_in [] 0
 abbrev pub no_state : BodyState
 no_state = state_in [] 0
 
--- what moves of a body, and what does not
-pub record Moving : Type 0 where
-  pub center : Vec3
-  pub rotation : Quat
-  pub momentum : Vec3
-  pub spin : Vec3
-
+-- what does not move of a body
 pub record Fixed : Type 0 where
   pub mass : Float
   pub center-of-mass : Vec3
@@ -41,14 +34,8 @@ pub record Fixed : Type 0 where
 abbrev pub cols_of : Mat3 → Mat3
 cols_of m = from_cols (column_of m 0) (column_of m 1) (column_of m 2)
 
-abbrev pub moving_of : MomentumBody → Moving
-moving_of b = record { center = b.center; rotation = b.rotation; momentum = b.momentum; spin = b.spin }
-
 abbrev pub fixed_of : MomentumBody → Fixed
 fixed_of b = record { mass = b.mass; center-of-mass = b.center_of_mass; inverse-inertia = cols_of b.inverse_inertia }
-
-abbrev pub moving_at : List Float → ℕ → Moving
-moving_at s i = record { center = vec3_at s i; rotation = quat_at s (i + 3); momentum = vec3_at s (i + 7); spin = vec3_at s (i + 10) }
 
 abbrev pub fixed_at : List Float → ℕ → Fixed
 fixed_at s i = record { mass = at s i; center-of-mass = vec3_at s (i + 1); inverse-inertia = mat_at s (i + 4) }

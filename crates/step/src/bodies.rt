@@ -2,12 +2,13 @@
 ghost use Rattle.std.specs.Prelude.{◌≡◌, ◌+◌, ◌*◌, ◌≤◌, ◌<◌, length};
 ghost use Rattle.arith.specs.Real.{ratio};
 ghost use Rattle.arith.specs.Flow.{every};
+ghost use Rattle.rows.specs.Body.{state_with};
 ghost use Rattle.rows.specs.View.{vec3_at, Out, Kept};
 ghost use Rattle.solves.specs.System.{BODIES_MOST};
 ghost use Rattle.step.specs.Layout.{START, CANDIDATE};
 ghost use Rattle.step.specs.Records.{RECORD, MOVING, quat_at, mat_at, record_at};
 ghost use Rattle.step.specs.Checks.{within_of};
-ghost use Rattle.step.specs.View.{cols_of, fixed_at, fixed_of, moving_at, moving_of, body_from, start_body_at, candidate_at};
+ghost use Rattle.step.specs.View.{cols_of, fixed_at, fixed_of, body_from, start_body_at, candidate_at};
 ghost use Rattle.step.specs.View.{held_of, moved_to, Handed, state_at};
 
 use crate::checks::within;
@@ -90,24 +91,29 @@ pub(crate) fn load_state(s: &[f64], i: usize) -> BodyState
     }
 }
 
+// What moves of a body: its momenta in the scratch, its velocities in a state.
+fn store_moving(s: &mut [f64], i: usize, place: Vec3, rotation: Quat, linear: Vec3, angular: Vec3)
+    requires { i + MOVING ≤ length s.old }
+    ensures { (Kept (λ j. Out i MOVING j) s.old s.new) × (state_at s.new i ≡ state_with place rotation linear angular) }
+{
+    store3(s, i, place);
+    store4(s, i + 3, rotation);
+    store3(s, i + 7, linear);
+    store3(s, i + 10, angular);
+}
+
 pub(crate) fn store_state(s: &mut [f64], i: usize, state: BodyState)
     requires { i + MOVING ≤ length s.old }
     ensures { (Kept (λ j. Out i MOVING j) s.old s.new) × (state_at s.new i ≡ state) }
 {
-    store3(s, i, state.origin);
-    store4(s, i + 3, state.rotation);
-    store3(s, i + 7, state.linear_velocity);
-    store3(s, i + 10, state.angular_velocity);
-}
-
-fn store_moving(s: &mut [f64], i: usize, body: MomentumBody)
-    requires { i + MOVING ≤ length s.old }
-    ensures { (Kept (λ j. Out i MOVING j) s.old s.new) × (moving_at s.new i ≡ moving_of body) }
-{
-    store3(s, i, body.center);
-    store4(s, i + 3, body.rotation);
-    store3(s, i + 7, body.momentum);
-    store3(s, i + 10, body.spin);
+    store_moving(
+        s,
+        i,
+        state.origin,
+        state.rotation,
+        state.linear_velocity,
+        state.angular_velocity,
+    );
 }
 
 // What does not move: mass, local centre and inverse inertia.
@@ -125,7 +131,7 @@ pub(crate) fn store_start(s: &mut Scratch, k: usize, body: MomentumBody)
     ensures { (Kept (λ j. Out (START + RECORD * k) RECORD j) s.old s.new) × (start_body_at s.new k ≡ held_of body) }
 {
     let i = START + RECORD * k;
-    store_moving(s, i, body);
+    store_moving(s, i, body.center, body.rotation, body.momentum, body.spin);
     store_fixed(s, i + MOVING, body);
 }
 
@@ -134,7 +140,8 @@ pub(crate) fn store_candidate(s: &mut Scratch, k: usize, body: MomentumBody)
     ensures { (Kept (λ j. Out (CANDIDATE + MOVING * k) MOVING j) s.old s.new)
         × (candidate_at s.new k ≡ moved_to body (start_body_at s.old k)) }
 {
-    store_moving(s, CANDIDATE + MOVING * k, body);
+    let i = CANDIDATE + MOVING * k;
+    store_moving(s, i, body.center, body.rotation, body.momentum, body.spin);
 }
 
 // The body whose moving numbers stand at i; mass and inertia are those of the start.

@@ -1,11 +1,10 @@
 // Refusals 1 to 9 of SPECIFICATION §7: each number over all bodies or joints before the next.
-ghost use Rattle.std.specs.Prelude.{◌≡◌, ◌*◌, ◌≤◌, length};
+ghost use Rattle.std.specs.Prelude.{◌≡◌, length};
 ghost use Rattle.arith.specs.Real.{is_finite};
 ghost use Rattle.arith.specs.Flow.{every};
 ghost use Rattle.rows.specs.Motions.{motions_of};
 ghost use Rattle.rows.specs.View.{at};
-ghost use Rattle.step.specs.Layout.{RECORD};
-ghost use Rattle.step.specs.Records.{record_at};
+ghost use Rattle.step.specs.Records.{count_of_bodies, record_at};
 ghost use Rattle.step.specs.Checks.{within_of, time_step_ok, bodies_fit, mass_in_range, body_in_range, has_inverse, joins_two, frame_ok};
 ghost use Rattle.step.specs.Checks.{length_ok, swing_ok, twist_ok, cone_ok, turning_ok, motions_ok, joint_ok, joint_in};
 ghost use Rattle.step.specs.Checks.{sizes_or, bodies_or, joints_or, refusal_of};
@@ -51,11 +50,10 @@ fn body_in_range(body: RigidBody) -> bool
         && body.rotation.is_normalized()
 }
 
-fn bodies_in_range(bodies: &[f64], body_count: usize) -> bool
-    requires { RECORD * body_count ≤ length bodies.now }
-    ensures { result ≡ every body_count (λ k. body_in_range (record_at bodies.now k)) }
+fn bodies_in_range(bodies: &[f64]) -> bool
+    ensures { result ≡ every (count_of_bodies bodies.now) (λ k. body_in_range (record_at bodies.now k)) }
 {
-    (0..body_count).all(|k| body_in_range(load_record(bodies, k)))
+    (0..bodies.len() / RECORD).all(|k| body_in_range(load_record(bodies, k)))
 }
 
 fn has_inverse(body: RigidBody) -> bool
@@ -64,11 +62,10 @@ fn has_inverse(body: RigidBody) -> bool
     inverse_spd(body.inertia).is_ok()
 }
 
-fn inertias_invert(bodies: &[f64], body_count: usize) -> bool
-    requires { RECORD * body_count ≤ length bodies.now }
-    ensures { result ≡ every body_count (λ k. has_inverse (record_at bodies.now k)) }
+fn inertias_invert(bodies: &[f64]) -> bool
+    ensures { result ≡ every (count_of_bodies bodies.now) (λ k. has_inverse (record_at bodies.now k)) }
 {
-    (0..body_count).all(|k| has_inverse(load_record(bodies, k)))
+    (0..bodies.len() / RECORD).all(|k| has_inverse(load_record(bodies, k)))
 }
 
 fn joins_two(joint: Joint, body_count: usize) -> bool
@@ -154,17 +151,16 @@ fn joints_ok(joints: &[Joint]) -> bool
 
 // Refusals 5 to 7.
 #[tactic(auto, unfolding(crate::specs::Checks::bodies_or, arith::specs::Flow::and_then))]
-fn body_refusal(bodies: &[f64], body_count: usize) -> Result<(), Refusal>
-    requires { RECORD * body_count ≤ length bodies.now }
-    ensures { result ≡ bodies_or bodies.now body_count }
+fn body_refusal(bodies: &[f64]) -> Result<(), Refusal>
+    ensures { result ≡ bodies_or bodies.now (count_of_bodies bodies.now) }
 {
     if !all_finite(bodies) {
         return Err(Refusal::NotFinite);
     }
-    if !bodies_in_range(bodies, body_count) {
+    if !bodies_in_range(bodies) {
         return Err(Refusal::OutOfRange);
     }
-    if !inertias_invert(bodies, body_count) {
+    if !inertias_invert(bodies) {
         return Err(Refusal::Inertia);
     }
     Ok(())
@@ -226,7 +222,6 @@ pub(crate) fn refusal(
     ensures { result ≡ refusal_of bodies.now joints.now (length joints.now) dt scratch }
 {
     size_refusal(bodies.len(), joints.len(), dt, scratch)?;
-    let body_count = bodies.len() / RECORD;
-    body_refusal(bodies, body_count)?;
-    joint_refusal(joints, body_count)
+    body_refusal(bodies)?;
+    joint_refusal(joints, bodies.len() / RECORD)
 }

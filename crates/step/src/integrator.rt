@@ -28,10 +28,10 @@ use rows::body::MomentumBody;
 use rows::geometry::{Joint, ROW, TOLERANCE, VALUE, clear, row_count, write_equality_rows};
 use solves::joined::Rows;
 use solves::layout::{GENERALIZED, MASSES, RHS, ROWS, ROWS_MOST, SOLUTION, START_ROWS};
-use solves::places::{MassResponse, load_generalized, store_mass};
+use solves::operator::finite_number;
+use solves::places::{Generalized, MassResponse, load_generalized, store_mass};
 use std::ops::ControlFlow;
 use vectors::matrix::{Mat3, inverse_spd};
-use vectors::vector::Vec3;
 
 fn start_bodies(s: &mut Scratch, bodies: &[f64], body_count: usize) -> Result<(), CollisionError>
     requires { (RECORD * body_count ≤ length bodies.now) × (body_count ≤ BODIES_MOST) }
@@ -144,13 +144,12 @@ fn prepare_masses(s: &mut Scratch, body_count: usize, moved: bool) -> Result<(),
 // A body kicked by its share, and drifted.
 fn kick_and_drift(
     body: MomentumBody,
-    linear: Vec3,
-    angular: Vec3,
+    kick: Generalized,
     dt: f64,
 ) -> Result<MomentumBody, CollisionError>
-    ensures { result ≡ kick_and_drift dt body (record { linear = linear; angular = angular }) }
+    ensures { result ≡ kick_and_drift dt body kick }
 {
-    let kicked = body.kick(linear, angular)?;
+    let kicked = body.kick(kick.linear, kick.angular)?;
     kicked.drift(dt)
 }
 
@@ -162,7 +161,7 @@ fn move_bodies(s: &mut Scratch, body_count: usize, dt: f64) -> Result<(), Collis
 {
     for k in 0..body_count {
         let share = load_generalized(s, GENERALIZED, k);
-        let body = kick_and_drift(load_start(s, k), share.linear, share.angular, dt)?;
+        let body = kick_and_drift(load_start(s, k), share, dt)?;
         store_candidate(s, k, body);
     }
     Ok(())
@@ -189,11 +188,7 @@ fn add_impulses(s: &mut Scratch, n: usize) -> Result<(), CollisionError>
     ensures { Leaves (Beside IMPULSES) s.old s.new result (λ u. vec_at u IMPULSES n) (add_impulses (vec_at s.old IMPULSES n) (vec_at s.old SOLUTION n)) }
 {
     for k in 0..n {
-        let sum = s[IMPULSES + k] + s[SOLUTION + k];
-        s[IMPULSES + k] = sum;
-        if !is_finite(sum) {
-            return Err(CollisionError::ArithmeticOverflow);
-        }
+        s[IMPULSES + k] = finite_number(s[IMPULSES + k] + s[SOLUTION + k])?;
     }
     Ok(())
 }

@@ -15,11 +15,12 @@ use crate::bodies::{load_candidate, store_candidate};
 use crate::layout::Scratch;
 use crate::passes::{Apply, Counts, Stage, correct};
 use arith::fault::CollisionError;
-use arith::number::{abs, is_finite};
+use arith::number::abs;
 use rows::body::MomentumBody;
 use rows::geometry::EqualityRow;
 use solves::joined::Rows;
 use solves::layout::{GENERALIZED, RHS, SOLUTION};
+use solves::operator::finite_number;
 use solves::places::load_generalized;
 use std::ops::ControlFlow;
 use vectors::vector::Vec3;
@@ -61,14 +62,12 @@ fn velocity(row: EqualityRow, a: Motion, b: Motion) -> Result<f64, CollisionErro
 {
     let wa = a.angular?;
     let wb = b.angular?;
-    let value = row.linear_a.dot(a.linear)
-        + row.angular_a.dot(wa)
-        + row.linear_b.dot(b.linear)
-        + row.angular_b.dot(wb);
-    if !is_finite(value) {
-        return Err(CollisionError::ArithmeticOverflow);
-    }
-    Ok(value)
+    finite_number(
+        row.linear_a.dot(a.linear)
+            + row.angular_a.dot(wa)
+            + row.linear_b.dot(b.linear)
+            + row.angular_b.dot(wb),
+    )
 }
 
 fn velocity_rhs(s: &mut Scratch, rows: &Rows) -> Result<(), CollisionError>

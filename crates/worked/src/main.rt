@@ -52,10 +52,7 @@ fn show<W: Write>(to: &mut W, bodies: &mut [f64], joints: &[Joint], dt: f64) -> 
     let mut scratch = [0.0; SCRATCH];
     let mut out = [0u8; 4096];
     let answer = step::solve(bodies, joints, dt, &mut scratch);
-    let counts = Counts {
-        nonlinear: answer.nonlinear,
-        linear: answer.linear,
-    };
+    let counts = Counts::from(answer);
     let n = match answer.outcome {
         Ok(()) => report(Ok(&bodies[..]), counts, &mut out),
         Err(refusal) => report(Err(refusal.number()), counts, &mut out),

@@ -7,7 +7,7 @@ use Rattle.report.proofs.step_and_report.Goals as goal
 pub returns-in-Ok-clause-puts : goal.returns-in-Ok-clause-puts
 returns-in-Ok-clause-puts c =
     let long : length c.args.plan.tables.bodies ≡ TABLE = search rules in
-    accepted-step c.args.plan _ c.requires.0 long c.solve-answer.auto.bodies c.solve-answer.ensures c.requires.2
+    accepted-step c.args.plan _ c.requires.0 long c.solve-answer.auto.bodies c.solve-answer.ensures c.from-counts.ensures c.requires.2
     c.in-Ok.is c.report.ensures.value c.report.ensures.out_after
 
 pub returns-in-Ok-clause-scratch_after : goal.returns-in-Ok-clause-scratch_after
@@ -18,7 +18,7 @@ returns-in-Ok-clause-scratch_after c =
 pub returns-in-Err-clause-puts : goal.returns-in-Err-clause-puts
 returns-in-Err-clause-puts c =
     let long : length c.args.plan.tables.bodies ≡ TABLE = search rules in
-    refused-step c.args.plan _ c.requires.0 long c.solve-answer.auto.bodies c.solve-answer.ensures c.requires.2
+    refused-step c.args.plan _ c.requires.0 long c.solve-answer.auto.bodies c.solve-answer.ensures c.from-counts.ensures c.requires.2
     c.in-Err.is c.number.ensures c.report-in-Err.ensures.value c.report-in-Err.ensures.out_after
 
 pub returns-in-Err-clause-scratch_after : goal.returns-in-Err-clause-scratch_after

@@ -3,4 +3,4 @@ use Rattle.solves.proofs.OperatorLaws.{same_body}
 use Rattle.solves.proofs.operator.add_through.Goals as goal
 
 pub returns-then-ai-bi : goal.returns-then-ai-bi
-returns-then-ai-bi c = search same_body
+returns-then-ai-bi c n there = search same_body

@@ -3,4 +3,4 @@ use Rattle.solves.proofs.OperatorLaws.{into-done}
 use Rattle.solves.proofs.operator.push_into.Goals as goal
 
 pub returns : goal.returns
-returns c = search into-done
+returns c n there = search into-done

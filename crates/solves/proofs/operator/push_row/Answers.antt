@@ -3,4 +3,4 @@ use Rattle.solves.proofs.OperatorLaws.{row-then}
 use Rattle.solves.proofs.operator.push_row.Goals as goal
 
 pub returns : goal.returns
-returns c = search row-then
+returns c n a b = row-then n c.args.row c.args.value c.args.s.now (c.push_into.ensures n a) (c.push_into-2.ensures n b)

@@ -1,15 +1,10 @@
--- `append` meets its contract: row by row by WalkLaws `append-more`.
+-- The rows that the loop wrote, and those before and behind them.
 use Rattle.std.proofs.Common.{arith}
-use Rattle.solves.proofs.WalkLaws.{append-none, append-more, append-ends}
+use Rattle.solves.proofs.WalkLaws.{append-is}
 use Rattle.solves.proofs.order.append.Goals as goal
 
-pub loop-row-init : goal.loop-row-init
-loop-row-init c = append-none _ _ _
-
-pub loop-row-preserved : goal.loop-row-preserved
-loop-row-preserved c =
-    let appended = c.loop-row.invariant in
-    append-more appended c.loop-row.auto.row (omega arith)
-
 pub returns : goal.returns
-returns c = append-ends _ c.loop-row.invariant (c.loop-row.auto.row-end c.requires.0) c.loop-row-test.false
+returns c =
+    append-is c.args.rows.now c.loop-k.row-items c.args.listed c.args.block.start c.args.block.end (omega arith)
+    (omega (arith, c.told-rows, c.requires.1)) (grind (arith))
+    (λ j h. c.loop-k.invariant j (grind (arith)))

@@ -8,7 +8,7 @@ loop-i-init c =
     forwards-none _ _ _ (omega arith) (omega (arith, c.args.path.now.rows.few_rows)) (λ i h. omega (arith, c.args.path.now.along i (omega arith)))
 
 pub loop-i-preserved : goal.loop-i-preserved
-loop-i-preserved c = search forwards-more
+loop-i-preserved c = search (forwards-more, c.forward_sum-value.ensures)
 
 pub returns : goal.returns
 returns c =

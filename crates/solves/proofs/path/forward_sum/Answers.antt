@@ -6,4 +6,4 @@ pub less_products-requires : goal.less_products-requires
 less_products-requires c = search forward-lie
 
 pub returns : goal.returns
-returns c = search forward-is
+returns c n there = search forward-is

@@ -6,4 +6,4 @@ pub less_products-requires : goal.less_products-requires
 less_products-requires c = search reduced-lie
 
 pub returns : goal.returns
-returns c = search reduced-is
+returns c n there = search reduced-is

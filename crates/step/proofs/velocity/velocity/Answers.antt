@@ -1,7 +1,7 @@
 -- One law for each way out.
 use Rattle.std.proofs.Common.{sym}
 use Rattle.std.proofs.lemmas.Result.{err_from_is_err_and}
-use Rattle.step.proofs.VelocityLaws.{rate-without-a, rate-without-b, rate-finite, rate-not-finite}
+use Rattle.step.proofs.VelocityLaws.{rate-without-a, rate-without-b, rate-tried}
 use Rattle.step.proofs.velocity.velocity.Goals as goal
 
 pub returns-in_err-wa : goal.returns-in_err-wa
@@ -14,12 +14,7 @@ returns-in_err-wb c = λ x y a b.
     let error = err_from_is_err_and c.from_residual-in_err-wb.result c.from_residual-in_err-wb.ensures.1 in
     rw (error.1, error.2) (rate-without-b _ x y a b (sym c.in_ok-wa.was) (sym c.in_err-wb.was))
 
-pub returns-then-not-is_finite : goal.returns-then-not-is_finite
-returns-then-not-is_finite c = λ x y a b.
-    rate-not-finite _ x y a b (sym c.in_ok-wa.was) (sym c.in_ok-wb.was) c.dot.ensures c.dot-2.ensures c.dot-3.ensures c.dot-4.ensures
-    c.is_finite.ensures c.if-not-is_finite.true
-
 pub returns : goal.returns
 returns c = λ x y a b.
-    rate-finite _ x y a b (sym c.in_ok-wa.was) (sym c.in_ok-wb.was) c.dot.ensures c.dot-2.ensures c.dot-3.ensures c.dot-4.ensures
-    c.is_finite.ensures c.if-not-is_finite.false
+    rate-tried _ x y a b (sym c.in_ok-wa.was) (sym c.in_ok-wb.was) c.dot.ensures c.dot-2.ensures c.dot-3.ensures c.dot-4.ensures
+    c.finite_number.ensures

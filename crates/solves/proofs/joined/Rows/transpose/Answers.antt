@@ -10,12 +10,9 @@ pub loop-k-init : goal.loop-k-init
 loop-k-init c = transpose_none (ready c.args.self.now c.requires.0) c.requires.1 _ c.clear.ensures
 
 pub push_row-requires : goal.push_row-requires
-push_row-requires c = (
-  omega arith,
-  on-a (ready c.args.self.now c.requires.0) (omega arith) c.loop-k.s c.load-row.ensures,
-  on-b (ready c.args.self.now c.requires.0) (omega arith) c.loop-k.s c.load-row.ensures,
-  omega arith,
-)
+push_row-requires c =
+    let here = ready c.args.self.now c.requires.0 in
+    (omega arith, omega (arith, on-a here (omega arith) _ c.load-row.ensures), omega (arith, on-b here (omega arith) _ c.load-row.ensures))
 
 pub loop-k-preserved : goal.loop-k-preserved
 loop-k-preserved c =
