@@ -14,7 +14,7 @@ use Rattle.rows.specs.declared.geometry.Joint.{Joint}
 use Rattle.step.specs.declared.Report.{Report}
 use Rattle.step.specs.declared.Refusal.{Refusal}
 use Rattle.step.specs.Checks.{number_of}
-use Rattle.step.specs.Step.{Stepped}
+use Rattle.step.specs.Step.{Stepped, solve_of}
 use Rattle.step.specs.Answered.{Answered}
 use Rattle.plan.specs.declared.reader.Plan.{Plan}
 use Rattle.plan.specs.declared.reader.Tables.{Tables}
@@ -27,7 +27,8 @@ use Rattle.report.proofs.Parts.{back, back-part}
 use Rattle.report.proofs.Texts.{report-puts, same_length, puts-as}
 
 -- ---- a plan that was read
-module _ (plan : Plan) (scratch : List Float) (few : plan.tables.body_count ≤ 16) (long : length plan.tables.bodies ≡ TABLE) where
+module _ (plan : Plan) (scratch : List Float) (few : plan.tables.body_count ≤ 16) (long : length plan.tables.bodies ≡ TABLE)
+    (few-joints : plan.tables.joint_count ≤ length plan.tables.joints) where
   abbrev used : ℕ
   used = 26 * plan.tables.body_count
 
@@ -38,7 +39,10 @@ module _ (plan : Plan) (scratch : List Float) (few : plan.tables.body_count ≤ 
       (answer : Answered (take used plan.tables.bodies) part joints (length joints) plan.dt scratch left s) where
     stepped : record { outcome = s.outcome; nonlinear = s.nonlinear; linear = s.linear; bodies = part; scratch = left } ≡ step_of plan scratch
     unfolding step_of
-    stepped = answer.is
+    stepped =
+        let counted : length joints ≡ plan.tables.joint_count = length-take-le plan.tables.joint_count plan.tables.joints few-joints in
+        let is = answer.is in
+        cc
 
     pub step-scratch : left ≡ (posed_after (step_of plan scratch)).scratch
     step-scratch = ap (λ (t : Stepped). t.scratch) stepped

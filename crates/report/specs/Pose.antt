@@ -19,8 +19,8 @@ pub record Posed : Type 0 where
 -- a step of the bodies and joints that were read, over the scratch that is lent
 unfoldable pub step_of : Plan → List Float → Stepped
 step_of plan scratch =
-    let joints = take plan.tables.joint_count plan.tables.joints in
-    solve_of (take (RECORD * plan.tables.body_count) plan.tables.bodies) joints (length joints) plan.dt scratch
+    let t = plan.tables in
+    solve_of (take (RECORD * t.body_count) t.bodies) (take t.joint_count t.joints) t.joint_count plan.dt scratch
 
 -- an accepted step shows its bodies, and refusals 1 to 12 their number
 abbrev pub shown_of : Result (Unit {0}) Refusal → List Float → Answer
