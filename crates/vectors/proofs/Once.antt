@@ -1,6 +1,7 @@
 -- The inverse with one factor for all three columns, as the code has it; in the definition, as in the Rust, each column has its own.
 use Rattle.std.proofs.Common.{◌≡◌, refl, ap, ◌∙◌}
 use Rattle.arith.specs.Flow.{Turn, go, stop, and_then, ◌>>=◌}
+use Rattle.vectors.specs.declared.vector.Vec3.{Vec3}
 use Rattle.vectors.specs.declared.matrix.Mat3.{Mat3}
 use Rattle.vectors.specs.declared.matrix.Cholesky3.{Cholesky3}
 use Rattle.vectors.specs.declared.matrix.CholeskyError.{CholeskyError}
@@ -13,6 +14,12 @@ each-column : (factored : Turn Cholesky3 CholeskyError) → inverse_of factored 
 unfolding inverse_by and_then
 each-column (go factor) = refl
 each-column (stop e) = refl
+
+-- a matrix factored once is factored as for each of its solves
+pub by-factor : (m : Mat3) (rhs : Vec3) {factored : Turn Cholesky3 CholeskyError} {x : Turn Vec3 CholeskyError} → factored ≡ factor_spd_of m
+    → x ≡ (factored >>= λ factor. factor_solve_of factor rhs) → x ≡ solve_spd_of m rhs
+unfolding solve_spd_of
+by-factor m rhs e h = h ∙ ap (λ (f : Turn Cholesky3 CholeskyError). f >>= λ factor. factor_solve_of factor rhs) e
 
 module _ (m : Mat3) where
   once : inverse_of (factor_spd_of m) ≡ inverse_spd_of m

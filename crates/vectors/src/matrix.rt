@@ -1,4 +1,4 @@
-// A matrix of three columns of three doubles, an array of arrays in a struct. `new` and `to_columns` alone reach into
+// A matrix of three columns of three doubles, an array of arrays in a struct. `ZERO`, `new` and `to_columns` alone reach into
 // it; every other function is over them.
 ghost use Rattle.std.specs.Prelude.{◌≡◌, not, ◌<◌, min};
 ghost use Rattle.vectors.specs.Matrix as Matrix;
